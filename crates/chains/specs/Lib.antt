@@ -1,0 +1,13 @@
+pub mod Processes
+pub mod Admission
+pub mod Elements
+pub mod Positions
+pub mod Knowledge
+pub mod Certificates
+pub mod CertificateText
+pub mod Turns
+pub mod Answers
+pub mod Failures
+pub mod Codes
+pub mod Keeping
+pub mod Inside

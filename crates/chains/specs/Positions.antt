@@ -1,0 +1,50 @@
+-- Positions of processes, and cuts. Processes go by their numbers, counted from 0 in order of birth.
+use Rattle.std.specs.Prelude.{◌≡◌, ◌⊎◌, ℕ, ◌+◌, ◌≤◌, ◌<◌, Bool, true, false, List, length, Contains, ⊤, if◌then◌else◌, slice_index_or}
+use Rattle.std.specs.List.{list_any}
+use Rattle.report_line.specs.declared.report.Report.{Report}
+use Rattle.report_line.specs.declared.report.Report.TheVariants.{Begin, Check}
+use Rattle.chains.specs.declared.position.Position.{Position}
+use Rattle.chains.specs.declared.position.Position.TheVariants.{At, Retired}
+use Rattle.chains.specs.Processes.{known}
+use Rattle.chains.specs.Elements.{elements}
+
+-- A position is At 0 (unborn), At an element's number, or Retired. A place is a position of a process.
+pub record Place : Type 0 where
+  pub process : ℕ
+  pub position : Position
+
+-- whether the report ends its process; none of those that are taken so far does
+abbrev pub is_retirement : Report → Bool
+is_retirement (Begin p) = false
+is_retirement (Check p n s) = false
+
+abbrev pub is_retired : List Report → ℕ → Bool
+is_retired accepted p = list_any is_retirement accepted
+
+-- Of these failed processes, the position survives: an element of the process, or Retired once it retired. (An element
+-- that is the present state of a failed process would not; no report that is taken so far makes one.)
+abbrev pub IsSurviving : List Report → List ℕ → ℕ → Position → Type 0
+IsSurviving accepted failed p (At k) = (1 ≤ k) × (k ≤ length (elements accepted p))
+IsSurviving accepted failed p Retired = is_retired accepted p ≡ true
+
+-- the place of a position in the order unborn, elements, retired
+abbrev pub rank : List Report → ℕ → Position → ℕ
+rank accepted p (At k) = k
+rank accepted p Retired = length (elements accepted p) + 1
+
+-- the last surviving position
+pub record IsLastSurviving (accepted : List Report) (failed : List ℕ) (p : ℕ) (last : Position) : Type 0 where
+  pub surviving : IsSurviving accepted failed p last
+  pub greatest : (k : Position) → IsSurviving accepted failed p k → rank accepted p k ≤ rank accepted p last
+
+-- the position of a process in a cut, which lists one of each known process in order of birth
+abbrev pub position_in : List Position → ℕ → Position
+position_in cut p = slice_index_or cut p (At 0)
+
+-- unborn, or at a surviving position
+abbrev pub IsChosen : List Report → List ℕ → ℕ → Position → Type 0
+IsChosen accepted failed p k = (k ≡ At 0) ⊎ IsSurviving accepted failed p k
+
+pub record IsCut (accepted : List Report) (failed : List ℕ) (cut : List Position) : Type 0 where
+  pub complete : length cut ≡ length (known accepted)
+  pub chosen : (p : ℕ) → p < length (known accepted) → IsChosen accepted failed p (position_in cut p)

@@ -1,0 +1,57 @@
+-- One turn: the reply to a call over an accepted list, and what is accepted then.
+use Rattle.std.specs.Prelude.{◌≡◌, ◌≢◌, ◌⊎◌, ℕ, List, [], ◌∷◌, ◌++◌, All, Option, Some, None, length}
+use Rattle.report_line.specs.declared.code.Code.TheVariants.{NothingBegun, UnknownProcess, OutOfMemory}
+use Rattle.report_line.specs.declared.report.Report.{Report as AnyReport}
+use Rattle.report_line.specs.declared.call.Call.{Call}
+use Rattle.report_line.specs.declared.call.Call.TheVariants.{Report, Line, Bad, Unread}
+use Rattle.report_line.specs.declared.reply.Reply.{Reply}
+use Rattle.report_line.specs.declared.reply.Reply.TheVariants as replies
+use Rattle.chains.specs.Processes.{Name, IsKnown}
+use Rattle.chains.specs.Admission.{Decides, IsAdmission, accepted_after, TakesMemory}
+use Rattle.chains.specs.Failures.{IsFirstUnknown}
+use Rattle.chains.specs.Certificates.{Certificate, Certifies, IsForNames}
+use Rattle.chains.specs.CertificateText.{certificate_text}
+
+-- What may happen in a turn: nothing amiss, or a growth that is refused.
+pub data Fate : Type 0 where
+  fine : Fate
+  memory : Fate
+
+abbrev pub no_memory : Reply
+no_memory = replies.No OutOfMemory None None
+
+-- the reply to a question for a line: refused, or taken at this front
+abbrev pub IsLineReply : List AnyReport → List Name → Reply → Type 0
+IsLineReply accepted names reply =
+    Decides (accepted ≡ []) (replies.No NothingBegun None None) reply
+    (((name : Name) × IsFirstUnknown accepted names name × (reply ≡ replies.No UnknownProcess (Some name) None))
+    ⊎ (All (IsKnown accepted) names × (reply ≡ replies.Taken (length accepted))))
+
+-- the reply to a report: that of admission, or for want of memory in one that takes memory
+abbrev pub IsReportTurn : Fate → List AnyReport → AnyReport → Reply → List AnyReport → Type 0
+IsReportTurn fine accepted r reply after = IsAdmission accepted r reply × (after ≡ accepted_after accepted r reply)
+IsReportTurn memory accepted r reply after =
+    (answer : Reply) × IsAdmission accepted r answer × TakesMemory answer × (reply ≡ no_memory) × (after ≡ accepted)
+
+-- From this accepted list, with this fate, the call is replied to so, and this is accepted then.
+abbrev pub IsTurnWith : Fate → List AnyReport → Call → Reply → List AnyReport → Type 0
+IsTurnWith fate accepted (Report r) reply after = IsReportTurn fate accepted r reply after
+IsTurnWith fate accepted (Line names) reply after = IsLineReply accepted names reply × (after ≡ accepted)
+IsTurnWith fate accepted (Bad n) reply after = (reply ≡ replies.Bad n) × (after ≡ accepted)
+IsTurnWith fate accepted Unread reply after = (reply ≡ no_memory) × (after ≡ accepted)
+
+abbrev pub IsTurn : List AnyReport → Call → Reply → List AnyReport → Type 0
+IsTurn accepted call reply after = (fate : Fate) × IsTurnWith fate accepted call reply after
+
+-- the text of a certificate for these names, which certifies for the accepted list
+pub record IsLineText (accepted : List AnyReport) (names : List Name) (text : List ℕ) : Type 0 where
+  pub certificate : Certificate
+  pub for_names : IsForNames accepted names certificate
+  pub certifies : Certifies accepted certificate
+  pub text_is : text ≡ certificate_text accepted certificate
+
+-- the reply that is shown for a turn's: a line for one that was taken, or that memory was wanting; else the reply itself
+abbrev pub IsShown : List AnyReport → Call → Reply → Reply → Type 0
+IsShown accepted (Line names) (replies.Taken front) shown =
+    ((text : List ℕ) × (shown ≡ replies.Line text) × IsLineText accepted names text) ⊎ (shown ≡ no_memory)
+IsShown accepted call reply shown = shown ≡ reply

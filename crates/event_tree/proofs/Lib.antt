@@ -1,0 +1,13 @@
+pub mod Trees
+pub mod Orders
+pub mod Numerals
+pub mod Texts
+pub mod Runs
+pub mod Spelled
+pub mod Verdicts
+pub mod Normal
+pub mod Joins
+pub mod Fills
+pub mod Growth
+pub mod Costs
+pub mod Steps

@@ -1,0 +1,15 @@
+pub mod EventTree
+pub mod Values
+pub mod NormalForm
+pub mod Spelling
+pub mod Faults
+pub mod Nodes
+pub mod Halves
+pub mod Tests
+pub mod Reading
+pub mod Join
+pub mod Grown
+pub mod Norm
+pub mod Event
+pub mod Ways
+pub mod Walks

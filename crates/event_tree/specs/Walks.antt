@@ -1,0 +1,41 @@
+-- Working definitions: the walks of the code, by cases in its order.
+use Rattle.std.specs.Prelude.{ℕ, ◌+◌, max, Bool, false, ◌&&◌, ◌==◌, cond}
+use Rattle.id_tree.specs.IdTree.{IdTree, Zero, One, Pair}
+use Rattle.event_tree.specs.EventTree.{EventTree, Leaf, Node}
+use Rattle.event_tree.specs.NormalForm.{least, greatest}
+use Rattle.event_tree.specs.Halves.{root, left, right}
+use Rattle.event_tree.specs.Norm.{normal_node}
+use Rattle.event_tree.specs.Event.{fill, grow}
+
+-- f above the base y, raised to k where it is less
+abbrev pub raised : ℕ → ℕ → EventTree → EventTree
+raised k y (Leaf n) = Leaf (max k (y + n))
+raised k y (Node n c d) = normal_node 0 (raised k (y + n) c) (raised k (y + n) d)
+
+-- the greater of e above the base x and f above the base y
+abbrev pub join_from : ℕ → EventTree → ℕ → EventTree → EventTree
+join_from x (Leaf m) y f = raised (x + m) y f
+join_from x (Node m a b) y f = normal_node 0 (join_from (x + m) a (y + root f) (left f)) (join_from (x + m) b (y + root f) (right f))
+
+-- the node of two halves that are filled
+abbrev pub filled_node : IdTree → IdTree → ℕ → EventTree → EventTree → EventTree
+filled_node One r n a b = normal_node n (Leaf (max (greatest a) (least b))) b
+filled_node l One n a b = normal_node n a (Leaf (max (greatest b) (least a)))
+filled_node l r n a b = normal_node n a b
+
+-- fill, of an id and a tree in normal form
+abbrev pub filled : IdTree → EventTree → EventTree
+filled Zero e = e
+filled One e = Leaf (greatest e)
+filled (Pair l r) (Leaf n) = Leaf n
+filled (Pair l r) (Node n a b) = filled_node l r n (filled l a) (filled r b)
+
+abbrev pub is_same : EventTree → EventTree → Bool
+is_same (Leaf m) (Leaf n) = m == n
+is_same (Leaf m) (Node n c d) = false
+is_same (Node m a b) (Leaf n) = false
+is_same (Node m a b) (Node n c d) = (m == n) && (is_same a c && is_same b d)
+
+-- what an event makes of e
+unfoldable pub event_step : IdTree → EventTree → EventTree
+event_step i e = let f = fill i e in cond (is_same f e) (grow i e) f

@@ -1,0 +1,231 @@
+//! The event trees of interval tree clocks (Almeida, Baquero, Fonte 2008): how many events are known at each point.
+//!
+//! An event tree is seen as a tree, and by it as a function from points to numbers. Each is in normal form, at most 40
+//! deep, with no value above 4,294,967,295, so that equal functions are equal trees with one text.
+#![tactic(auto)]
+
+ghost use Rattle.std.specs.Prelude.{◌≡◌, ◌↔◌, ◌++◌, ◌≤◌, ◌<◌, ◌+◌, ◌≢◌, ℕ, max, List, true, false, IsTrue, IfOk, IfErr, MatchResult, OnOk, OnErr, IsErr};
+ghost use Rattle.std.specs.List.{list_all};
+ghost use Rattle.id_tree.specs.IdTree.{IdTree, Zero};
+ghost use Rattle.id_tree.specs.NormalForm.{depth_limit, depth as id_depth, IsNormal as IsNormalId};
+ghost use Rattle.id_tree.specs.Points.{Point};
+ghost use Rattle.id_tree.specs.Spelling.{is_tree_byte};
+ghost use Rattle.event_tree.specs.EventTree.{EventTree, Leaf};
+ghost use Rattle.event_tree.specs.Values.{value_at, IsAtOrBelow, ExceedsOn};
+ghost use Rattle.event_tree.specs.NormalForm.{IsEvents, IsNormal, depth, greatest, value_limit};
+ghost use Rattle.event_tree.specs.Spelling.{spelling, IsTextOf};
+ghost use Rattle.event_tree.specs.Faults.{IsFaultOf, IsEventFaultOf};
+ghost use Rattle.event_tree.specs.Join.{IsJoin};
+ghost use Rattle.event_tree.specs.Grown.{IsGrown};
+ghost use Rattle.event_tree.specs.Norm.{norm};
+ghost use Rattle.event_tree.specs.Event.{IsEventStep, PassesLimit, fill, cost, grow};
+ghost use Rattle.event_tree.specs.Ways.{CanGrow, CostsNoMore, way, IsAtOrRightOf};
+ghost use Rattle.event_tree.specs.Walks.{filled, event_step};
+ghost use Rattle.event_tree.specs.Tests.{is_at_or_below, exceeds_on};
+
+mod event;
+mod fault;
+mod join;
+mod node;
+mod order;
+mod reader;
+#[cfg(test)]
+mod tests;
+
+pub use fault::{EventFault, EventsFault};
+use id_tree::{Id, IdPart};
+use node::Node;
+use reader::Part;
+use std::alloc::{AllocError, Global};
+use std::marker::Model;
+
+/// How many events are known at each point.
+#[derive(Drop)]
+pub struct Events {
+    node: Node,
+}
+
+impl Model for Events {
+    ghost use Rattle.event_tree.specs.EventTree.{EventTree, event_tree_code};
+    ghost use Rattle.event_tree.specs.NormalForm.{IsEvents};
+    ghost use Rattle.event_tree.specs.Nodes.{tree_of};
+
+    ghost Value = { EventTree };
+
+    ghost coded = { event_tree_code };
+
+    ghost view = { λ a. tree_of a.node };
+
+    ghost invariant = { λ a. IsEvents (tree_of a.node) };
+}
+
+impl Events {
+    /// No events anywhere. It takes no memory.
+    pub fn zero(_alloc: Global) -> Events
+        ensures { result ≡ Leaf 0 }
+    {
+        Events {
+            node: Node::Leaf(0),
+        }
+    }
+
+    /// Tells a proof what holds of each event tree.
+    pub fn known(&self)
+        ensures normal { IsNormal self.now }
+        ensures shallow { depth self.now ≤ depth_limit }
+        ensures small { greatest self.now ≤ value_limit }
+    {
+        let _node = &self.node;
+    }
+
+    /// Whether the two are one event tree.
+    pub fn equal(&self, other: &Events) -> bool
+        ensures { IsTrue result ↔ (self.now ≡ other.now) }
+    {
+        self.node.is_same(&other.node)
+    }
+
+    /// The same event tree once more.
+    pub fn copy(&self, alloc: Global) -> Result<Events, AllocError>
+        ensures { IfOk result (λ e. e ≡ self.now) }
+    {
+        let node = self.node.copy(alloc)?;
+        Ok(Events { node })
+    }
+
+    /// Whether this tree is at or below the other at every point. It takes no memory.
+    pub fn leq(&self, other: &Events) -> bool
+        ensures pointwise { IsTrue result ↔ IsAtOrBelow self.now other.now }
+        ensures exceeding { (result ≡ false) ↔ ((p : Point) × (value_at other.now p < value_at self.now p)) }
+        ensures test { result ≡ is_at_or_below self.now other.now }
+    {
+        order::is_below_from(0, &self.node, 0, &other.node)
+    }
+
+    /// Whether this tree is greater than the other at some point that the id owns. It takes no memory.
+    pub fn exceeds_on(&self, other: &Events, id: &Id) -> bool
+        ensures pointwise { IsTrue result ↔ ExceedsOn id.now self.now other.now }
+        ensures test { result ≡ exceeds_on id.now self.now other.now }
+    {
+        order::exceeds_from(&id.view(), 0, &self.node, 0, &other.node)
+    }
+
+    /// At each point the greater value of the two.
+    pub fn join(&self, alloc: Global, other: &Events) -> Result<Events, AllocError>
+        ensures { IfOk result (λ joined. IsJoin self.now other.now joined) }
+    {
+        let node = join::join_from(alloc, 0, &self.node, 0, &other.node)?;
+        Ok(Events { node })
+    }
+
+    /// What an event of the owner of the id makes of the tree: greater at some points that the id owns, and the same at
+    /// all that it does not own. `NothingOwned` exactly for an id that owns nothing, `ClockFull` exactly where a value
+    /// would be greater than 4,294,967,295.
+    pub fn event(&self, alloc: Global, id: &Id) -> Result<Events, EventFault>
+        ensures step { IfOk result (λ after. IsEventStep id.now self.now after) }
+        ensures grown { IfOk result (λ after. IsGrown id.now self.now after) }
+        ensures no_deeper { IfOk result (λ after. depth after ≤ max (id_depth id.now) (depth self.now)) }
+        ensures err { IfErr result (λ fault. IsEventFaultOf fault id.now self.now) }
+        ensures full { PassesLimit id.now self.now → IsErr result }
+        ensures nothing_owned { id.now ≡ Zero → result ≡ Err EventFault.NothingOwned }
+    {
+        id.known();
+        let view = id.view();
+        match view.part() {
+            IdPart::Nothing => Err(EventFault::NothingOwned),
+            _ => match event::event_step(alloc, &view, &self.node)? {
+                Some(node) => Ok(Events { node }),
+                None => Err(EventFault::ClockFull),
+            },
+        }
+    }
+
+    /// The event tree that the bytes spell, all of the bytes. The memory and the stack that it takes do not grow with how
+    /// deeply brackets are nested beyond the depth limit, but for one small entry for each open bracket.
+    pub fn parse(alloc: Global, bytes: &[u8]) -> Result<Events, EventsFault>
+        ensures ok { IfOk result (λ e. bytes.now ≡ spelling e) }
+        ensures err { IfErr result (λ fault. IsFaultOf fault bytes.now) }
+        ensures only { (t : EventTree) → IsEvents t → bytes.now ≡ spelling t → MatchResult result (λ e. e ≡ t) (λ fault. fault ≡ EventsFault.Memory) }
+    {
+        match reader::read(alloc, bytes)? {
+            Part::Normal(_, _, Some(node)) => Ok(Events { node }),
+            Part::Normal(_, depth, None) => {
+                if depth > 40 {
+                    Err(EventsFault::TooDeep)
+                } else {
+                    Err(EventsFault::TooLarge)
+                }
+            }
+            Part::NotNormal => Err(EventsFault::NotNormal),
+        }
+    }
+
+    /// Appends the one text of the event tree. On a refused growth `out` is as it was.
+    pub fn write_to(&self, out: &mut Vec<u8>) -> Result<(), AllocError>
+        ensures ok { OnOk result (out.new.items ≡ out.old.items ++ spelling self.now) }
+        ensures err { OnErr result (out.new.items ≡ out.old.items) }
+    {
+        let before = out.len();
+        let written = self.node.write(out);
+        if written.is_err() {
+            out.truncate(before);
+        }
+        written
+    }
+}
+
+/// Two event trees in normal form with equal values are equal.
+pub fn event_trees_with_equal_values_are_equal()
+    ensures { (e f : EventTree) → IsNormal e → IsNormal f → ((p : Point) → value_at e p ≡ value_at f p) → e ≡ f }
+{}
+
+/// No text is that of two trees.
+pub fn an_event_tree_has_one_text()
+    ensures spelled { (e f : EventTree) → IsEvents e → IsEvents f → spelling e ≡ spelling f → e ≡ f }
+    ensures read { (t u : EventTree) (bytes : List ℕ) → IsTextOf t bytes → IsTextOf u bytes → t ≡ u }
+{}
+
+/// Each byte of a text is `(`, `)`, `,` or a digit: no space, no semicolon, no line feed.
+pub fn texts_of_event_trees_are_plain()
+    ensures { (e : EventTree) → IsEvents e → IsTrue (list_all is_tree_byte (spelling e)) }
+{}
+
+/// The tests by recursion are those of the values at each point.
+pub fn the_order_test_is_pointwise()
+    ensures below { (e f : EventTree) → (is_at_or_below e f ≡ true) ↔ IsAtOrBelow e f }
+    ensures exceeding { (i : IdTree) (e f : EventTree) → (exceeds_on i e f ≡ true) ↔ ExceedsOn i e f }
+{}
+
+/// The normal form has the same values, is normal, and is the tree itself where that was normal.
+pub fn the_normal_form_has_the_same_values()
+    ensures same_values { (e : EventTree) (p : Point) → value_at (norm e) p ≡ value_at e p }
+    ensures normal { (e : EventTree) → IsNormal (norm e) }
+    ensures unchanged { (e : EventTree) → IsNormal e → norm e ≡ e }
+{}
+
+/// An event of an id has one step of each tree, which `event_step` computes.
+pub fn an_event_has_one_step()
+    ensures computed { (i : IdTree) (e : EventTree) → IsEventStep i e (event_step i e) }
+    ensures only { (i : IdTree) (e f : EventTree) → IsEventStep i e f → f ≡ event_step i e }
+{}
+
+/// The step of an event grows the tree where the id owns, is normal, no deeper than both, and has no value more than one
+/// above the greatest.
+pub fn the_event_step_grows()
+    ensures grown { (i : IdTree) (e f : EventTree) → IsNormalId i → i ≢ Zero → IsNormal e → IsEventStep i e f → IsGrown i e f }
+    ensures normal { (i : IdTree) (e f : EventTree) → IsNormalId i → i ≢ Zero → IsNormal e → IsEventStep i e f → IsNormal f }
+    ensures no_deeper { (i : IdTree) (e f : EventTree) → IsNormalId i → IsNormal e → IsEventStep i e f → depth f ≤ max (id_depth i) (depth e) }
+    ensures by_one { (i : IdTree) (e f : EventTree) → IsNormalId i → IsNormal e → IsEventStep i e f → greatest f ≤ greatest e + 1 }
+{}
+
+/// Growth is a way to grow, no way costs less, and of the ways at this cost it is the rightmost.
+pub fn growth_costs_least()
+    ensures possible { (i : IdTree) (e : EventTree) → IsNormalId i → i ≢ Zero → CanGrow i e (way i e) (cost i e).opened (cost i e).levels (grow i e) }
+    ensures least { (i : IdTree) (e t : EventTree) (p : Point) (o v : ℕ) → CanGrow i e p o v t → CostsNoMore (cost i e).opened (cost i e).levels o v }
+    ensures rightmost { (i : IdTree) (e t : EventTree) (p : Point) → CanGrow i e p (cost i e).opened (cost i e).levels t → IsAtOrRightOf (way i e) p }
+{}
+
+/// Of an id and a tree in normal form, fill is the walk that makes each node normal.
+pub fn fill_makes_each_node_normal()
+    ensures { (i : IdTree) (e : EventTree) → IsNormalId i → IsNormal e → fill i e ≡ filled i e }
+{}

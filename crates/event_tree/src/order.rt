@@ -1,0 +1,57 @@
+//! The order of event trees, by walks of two trees with the bases that the nodes above have summed up.
+
+ghost use Rattle.std.specs.Prelude.{◌≡◌, ◌+◌, ◌<◌, ◌^◌};
+ghost use Rattle.event_tree.specs.NormalForm.{greatest};
+ghost use Rattle.event_tree.specs.Tests as order_tests;
+ghost use Rattle.event_tree.specs.Nodes.{tree_of};
+
+use crate::node::Node;
+use id_tree::{IdPart, IdView};
+
+// Whether `e` above the base `x` is nowhere greater than `f` above the base `y`.
+#[tactic(auto, using(crate::proofs::Trees::least_le_greatest))]
+pub fn is_below_from(x: u32, e: &Node, y: u32, f: &Node) -> bool
+    requires e_fits { x + greatest (tree_of e.now) < 2 ^ 32 }
+    requires f_fits { y + greatest (tree_of f.now) < 2 ^ 32 }
+    ensures { result ≡ order_tests.is_below_from x (tree_of e.now) y (tree_of f.now) }
+{
+    match e {
+        Node::Leaf(m) => x + *m <= y + f.least(),
+        Node::Branch(m, a, b) => {
+            let zero = Node::Leaf(0);
+            match f {
+                Node::Leaf(n) => {
+                    is_below_from(x + *m, a, y + *n, &zero)
+                        && is_below_from(x + *m, b, y + *n, &zero)
+                }
+                Node::Branch(n, c, d) => {
+                    is_below_from(x + *m, a, y + *n, c) && is_below_from(x + *m, b, y + *n, d)
+                }
+            }
+        }
+    }
+}
+
+// Whether `e` above the base `x` is greater than `f` above the base `y` at some point that the id owns.
+pub fn exceeds_from(id: &IdView, x: u32, e: &Node, y: u32, f: &Node) -> bool
+    requires e_fits { x + greatest (tree_of e.now) < 2 ^ 32 }
+    requires f_fits { y + greatest (tree_of f.now) < 2 ^ 32 }
+    ensures { result ≡ order_tests.exceeds_from id.now x (tree_of e.now) y (tree_of f.now) }
+{
+    match id.part() {
+        IdPart::Nothing => false,
+        IdPart::Everything => !is_below_from(x, e, y, f),
+        IdPart::Halves(l, r) => {
+            let zero = Node::Leaf(0);
+            let (m, a, b): (u32, &Node, &Node) = match e {
+                Node::Leaf(m) => (*m, &zero, &zero),
+                Node::Branch(m, a, b) => (*m, a, b),
+            };
+            let (n, c, d): (u32, &Node, &Node) = match f {
+                Node::Leaf(n) => (*n, &zero, &zero),
+                Node::Branch(n, c, d) => (*n, c, d),
+            };
+            exceeds_from(&l, x + m, a, y + n, c) || exceeds_from(&r, x + m, b, y + n, d)
+        }
+    }
+}

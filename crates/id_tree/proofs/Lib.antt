@@ -1,0 +1,5 @@
+pub mod Fronts
+pub mod Points
+pub mod Runs
+pub mod Verdicts
+pub mod Texts

@@ -1,0 +1,27 @@
+-- When each fault of a reading comes.
+use Rattle.std.specs.Prelude.{◌≡◌, ◌≢◌, ℕ, ◌<◌, List, ⊤}
+use Rattle.id_tree.specs.IdTree.{IdTree}
+use Rattle.id_tree.specs.NormalForm.{IsNormal, depth, depth_limit}
+use Rattle.id_tree.specs.Spelling.{spelling}
+use Rattle.id_tree.specs.declared.fault.IdFault.{IdFault}
+use Rattle.id_tree.specs.declared.fault.IdFault.TheVariants.{Syntax, NotNormal, TooDeep, Memory}
+
+-- the bytes spell a tree that is not in normal form
+pub record SpellsUnnormal (bytes : List ℕ) : Type 0 where
+  pub tree : IdTree
+  pub spelled : bytes ≡ spelling tree
+  pub unnormal : ¬ IsNormal tree
+
+-- the bytes spell a tree in normal form that is too deep
+pub record SpellsDeep (bytes : List ℕ) : Type 0 where
+  pub tree : IdTree
+  pub spelled : bytes ≡ spelling tree
+  pub normal : IsNormal tree
+  pub deep : depth_limit < depth tree
+
+-- the fault that bytes have; memory may be wanting for any
+abbrev pub IsFaultOf : IdFault → List ℕ → Type 0
+IsFaultOf Syntax bytes = (t : IdTree) → bytes ≢ spelling t
+IsFaultOf NotNormal bytes = SpellsUnnormal bytes
+IsFaultOf TooDeep bytes = SpellsDeep bytes
+IsFaultOf Memory bytes = ⊤

@@ -1,0 +1,11 @@
+-- What a look at a part of an id shows.
+use Rattle.std.specs.Prelude.{◌≡◌}
+use Rattle.id_tree.specs.IdTree.{IdTree, Zero, One, Pair}
+use Rattle.id_tree.specs.declared.view.IdPart.{IdPart}
+use Rattle.id_tree.specs.declared.view.IdPart.TheVariants.{Nothing, Everything, Halves}
+
+-- the part is nothing, everything, or a pair of these halves
+abbrev pub Shows : IdPart → IdTree → Type 0
+Shows Nothing i = i ≡ Zero
+Shows Everything i = i ≡ One
+Shows (Halves l r) i = i ≡ Pair l r

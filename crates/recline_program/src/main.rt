@@ -1,0 +1,59 @@
+//! The program `recline`, which only calls the library of that name.
+#![tactic(auto)]
+
+use clap::Error;
+use clap::error::ErrorKind;
+use recline::{Command, read_args, run_on};
+use std::env;
+use std::io::BufWriter;
+use std::process::ExitCode;
+
+/// The words of the command line, or nothing where they cannot be read.
+fn words_of(rt: &HostRuntime) -> Option<Vec<String>> {
+    let Ok(args) = env::args(rt) else {
+        return None;
+    };
+    let mut words = Vec::new(rt.alloc());
+    for word in args {
+        if words.push(word).is_err() {
+            return None;
+        }
+    }
+    Some(words)
+}
+
+/// Says on standard error that memory ran out, or that a stream failed, and answers the status for it.
+fn fault(rt: &HostRuntime, cause: &str) -> u8 {
+    let _told = eprintln!(rt; "recline: {cause}");
+    3
+}
+
+/// Shows the text for words that are no command, and answers the status.
+fn show(rt: &HostRuntime, error: &Error) -> u8 {
+    if matches!(error.kind(), ErrorKind::OutOfMemory) {
+        return fault(rt, "memory");
+    }
+    match error.print(rt) {
+        Ok(()) => if error.use_stderr() { 2 } else { 0 },
+        Err(_) => fault(rt, "device"),
+    }
+}
+
+/// Answers the lines of standard input.
+fn run(rt: &HostRuntime) -> u8 {
+    match BufWriter::new(rt.alloc(), rt.stdout()) {
+        Ok(output) => run_on(rt.alloc(), rt.reader(), output, rt.stderr()),
+        Err(_) => fault(rt, "memory"),
+    }
+}
+
+fn main(rt: HostRuntime) -> ExitCode {
+    let Some(words) = words_of(&rt) else {
+        return ExitCode::from(fault(&rt, "memory"));
+    };
+    let status = match read_args(rt.alloc(), &words) {
+        Ok(Command::Run) => run(&rt),
+        Err(error) => show(&rt, &error),
+    };
+    ExitCode::from(status)
+}

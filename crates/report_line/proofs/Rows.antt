@@ -1,0 +1,116 @@
+-- Names in a row, parted by commas.
+use Rattle.std.proofs.Common.{◌≡◌, ◌≢◌, ℕ, true, false, eqb, List, [], ◌∷◌, ◌++◌, length, refl, sym, ap, subst, ◌∙◌, IsTrue}
+use Rattle.std.specs.Prelude.{◌&&◌, nat_le, codes}
+use Rattle.std.specs.List.{list_all, join_with_byte, slice_split}
+use Rattle.std.proofs.lemmas.Bool.{true≢false}
+use Rattle.std.proofs.lemmas.List.Splits.{slice_split_none, slice_split_at}
+use Rattle.std.proofs.lemmas.List.Elements.{All-from_recursion}
+use Rattle.report_line.specs.Names.{is_letter, is_name_byte, is_name}
+use Rattle.report_line.specs.Cuts.{Lacks}
+use Rattle.report_line.specs.Spelling.{AreNames, names_text}
+use Rattle.report_line.proofs.Cutting.{and_both, cut_same, Lacks-uncut}
+use Rattle.report_line.proofs.Calls.{Lacks-name, byte_44, letter_44}
+
+-- the parts between commas
+abbrev pub parts : List ℕ → List (List ℕ)
+parts bytes = slice_split (λ b. eqb b 44) bytes
+
+parts-join : (w : List ℕ) (ws : List (List ℕ)) → AreNames (w ∷ ws) → parts (join_with_byte 44 (w ∷ ws)) ≡ w ∷ ws
+parts-join w [] h = slice_split_none (λ b. eqb b 44) w (All-from_recursion (λ b. eqb b 44 ≡ false) w (Lacks-name 44 w byte_44 letter_44 h.0))
+parts-join w (v ∷ vs) h =
+    slice_split_at (λ b. eqb b 44) w 44 (join_with_byte 44 (v ∷ vs)) (All-from_recursion (λ b. eqb b 44 ≡ false) w (Lacks-name 44 w byte_44 letter_44 h.0)) refl
+    ∙ ap (λ (ps : List (List ℕ)). w ∷ ps) (parts-join v vs h.1)
+
+-- a name does not begin as `-` does
+first_letter : (b : ℕ) (bs rest : List ℕ) → IsTrue (is_name (b ∷ bs)) → (b ∷ rest) ≢ (45 ∷ [])
+unfolding is_name is_letter
+first_letter b bs rest is e =
+    let same : b ≡ 45 = cc in
+    let outer = and_both (is_letter b && nat_le (length bs) 31) (list_all is_name_byte bs) is in
+    let inner = and_both (is_letter b) (nat_le (length bs) 31) outer.0 in
+    let wrong : is_letter 45 ≡ true = subst (λ (x : ℕ). is_letter x ≡ true) same inner.0 in
+    cc
+
+no_name : IsTrue (is_name []) → ⊥
+unfolding is_name
+no_name is = cc
+
+not_dash : (n : List ℕ) (ns : List (List ℕ)) → AreNames (n ∷ ns) → names_text (n ∷ ns) ≢ codes "-"
+not_dash [] ns are e = no_name are.0
+not_dash (b ∷ bs) [] are e = first_letter b bs bs are.0 e
+not_dash (b ∷ bs) (m ∷ ns) are e = first_letter b bs (bs ++ 44 ∷ join_with_byte 44 (m ∷ ns)) are.0 e
+
+-- ---- what is read
+
+-- names, each with a comma behind it, and then the rest
+abbrev pub prefixed : List (List ℕ) → List ℕ → List ℕ
+prefixed [] rest = rest
+prefixed (n ∷ ns) rest = n ++ 44 ∷ prefixed ns rest
+
+prefixed_push : (ns : List (List ℕ)) (n rest : List ℕ) → prefixed (ns ++ n ∷ []) rest ≡ prefixed ns (n ++ 44 ∷ rest)
+prefixed_push [] n rest = refl
+prefixed_push (m ∷ ns) n rest = ap (λ (r : List ℕ). m ++ 44 ∷ r) (prefixed_push ns n rest)
+
+join-prefixed : (ns : List (List ℕ)) (n : List ℕ) → names_text (ns ++ n ∷ []) ≡ prefixed ns n
+join-prefixed [] n = refl
+join-prefixed (m ∷ []) n = refl
+join-prefixed (m ∷ k ∷ ns) n = ap (λ (r : List ℕ). m ++ 44 ∷ r) (join-prefixed (k ∷ ns) n)
+
+names_push : (ns : List (List ℕ)) (n word : List ℕ) → AreNames ns → n ≡ word → IsTrue (is_name word) → AreNames (ns ++ n ∷ [])
+names_push [] n word are same is = (rw same is, tt)
+names_push (m ∷ ns) n word are same is = (are.0, names_push ns n word are.1 same is)
+
+-- what a turn of the loop keeps
+pub row_step : (word rest part behind : List ℕ) (old : List (List ℕ)) (n : List ℕ) (new : List (List ℕ)) → new ≡ old ++ n ∷ [] → word ≡ prefixed old rest → rest ≡ part ++ 44 ∷ behind → n ≡ part → AreNames old → IsTrue (is_name part)
+    → AreNames new × (word ≡ prefixed new behind)
+row_step word rest part behind old n new pushed e cut same are is = (
+  subst AreNames (sym pushed) (names_push old n part are same is),
+  e ∙ ap (prefixed old) (cut ∙ ap (λ (m : List ℕ). m ++ 44 ∷ behind) (sym same)) ∙ sym (prefixed_push old n behind) ∙ ap (λ (ns : List (List ℕ)). prefixed ns behind) (sym pushed),
+)
+
+-- what the last name gives
+pub row_end : (word rest : List ℕ) (old : List (List ℕ)) (n : List ℕ) (new : List (List ℕ)) → new ≡ old ++ n ∷ [] → word ≡ prefixed old rest → n ≡ rest → AreNames old → IsTrue (is_name rest) → AreNames new × (word ≡ names_text new)
+row_end word rest old n new pushed e same are is =
+    (subst AreNames (sym pushed) (names_push old n rest are same is), e ∙ ap (prefixed old) (sym same) ∙ sym (join-prefixed old n) ∙ ap names_text (sym pushed))
+
+-- ---- what is no row of names
+
+-- the bytes are not one name or more, parted by commas
+abbrev pub NoFirst : List ℕ → Type 0
+NoFirst rest = (m : List ℕ) (ms : List (List ℕ)) → AreNames (m ∷ ms) → rest ≢ join_with_byte 44 (m ∷ ms)
+
+Lacks-comma : (n : List ℕ) → IsTrue (is_name n) → Lacks 44 n
+Lacks-comma n is = Lacks-name 44 n byte_44 letter_44 is
+
+pub no_last : (rest : List ℕ) → Lacks 44 rest → is_name rest ≡ false → NoFirst rest
+no_last rest lacks none m [] are e = true≢false (sym are.0 ∙ ap is_name (sym e) ∙ none)
+no_last rest lacks none m (k ∷ ms) are e = Lacks-uncut 44 m (join_with_byte 44 (k ∷ ms)) (subst (Lacks 44) e lacks)
+
+pub no_part : (rest part behind : List ℕ) → Lacks 44 part → rest ≡ part ++ 44 ∷ behind → is_name part ≡ false → NoFirst rest
+no_part rest part behind lacks is none m [] are e = Lacks-uncut 44 part behind (subst (Lacks 44) (sym e ∙ is) (Lacks-comma m are.0))
+no_part rest part behind lacks is none m (k ∷ ms) are e =
+    let both = cut_same 44 part m behind (join_with_byte 44 (k ∷ ms)) lacks (Lacks-comma m are.0) (sym is ∙ e) in
+    true≢false (sym are.0 ∙ ap is_name (sym both.0) ∙ none)
+
+no_first_behind : (ns : List (List ℕ)) (rest : List ℕ) → AreNames ns → NoFirst rest → NoFirst (prefixed ns rest)
+no_first_behind [] rest are none m ms row e = none m ms row e
+no_first_behind (n ∷ ns) rest are none m [] row e = Lacks-uncut 44 n (prefixed ns rest) (subst (Lacks 44) (sym e) (Lacks-comma m row.0))
+no_first_behind (n ∷ ns) rest are none m (k ∷ ms) row e =
+    let both = cut_same 44 n m (prefixed ns rest) (join_with_byte 44 (k ∷ ms)) (Lacks-comma n are.0) (Lacks-comma m row.0) e in
+    no_first_behind ns rest are.1 none k ms row.1 both.1
+
+-- the bytes are no row of names
+abbrev pub NoRow : List ℕ → Type 0
+NoRow word = (ns : List (List ℕ)) → ¬ (AreNames ns × (word ≡ names_text ns))
+
+pub no_row : (word : List ℕ) (ns : List (List ℕ)) (rest : List ℕ) → word ≢ codes "-" → word ≡ prefixed ns rest → AreNames ns → NoFirst rest → NoRow word
+no_row word ns rest other e are none [] row = other row.1
+no_row word ns rest other e are none (m ∷ ms) row = no_first_behind ns rest are none m ms row.0 (sym e ∙ row.1)
+
+-- ---- one text
+
+pub row_again : (ms ns : List (List ℕ)) → AreNames ms → AreNames ns → names_text ms ≡ names_text ns → ms ≡ ns
+row_again [] [] g h e = refl
+row_again [] (n ∷ ns) g h e = absurd (not_dash n ns h (sym e))
+row_again (m ∷ ms) [] g h e = absurd (not_dash m ms g e)
+row_again (m ∷ ms) (n ∷ ns) g h e = sym (parts-join m ms g) ∙ ap parts e ∙ parts-join n ns h

@@ -1,0 +1,16 @@
+-- Names of processes.
+use Rattle.std.specs.Prelude.{ℕ, Bool, false, ◌&&◌, ◌||◌, ◌==◌, nat_le, List, [], ◌∷◌, length}
+use Rattle.std.specs.List.{list_all}
+
+-- `a` to `z`
+unfoldable pub is_letter : ℕ → Bool
+is_letter b = nat_le 97 b && nat_le b 122
+
+-- `a` to `z`, `0` to `9`, `_`, `-`
+unfoldable pub is_name_byte : ℕ → Bool
+is_name_byte b = is_letter b || (nat_le 48 b && nat_le b 57) || b == 95 || b == 45
+
+-- 1 to 32 of these bytes, the first a letter
+unfoldable pub is_name : List ℕ → Bool
+is_name [] = false
+is_name (b ∷ bs) = is_letter b && nat_le (length bs) 31 && list_all is_name_byte bs

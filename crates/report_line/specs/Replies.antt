@@ -1,0 +1,37 @@
+-- The text of each reply, without LF.
+use Rattle.std.specs.Prelude.{ℕ, List, [], ◌++◌, Option, Some, None, codes, ⊤}
+use Rattle.std.specs.Fmt.{decimal}
+use Rattle.report_line.specs.declared.code.Code.{Code}
+use Rattle.report_line.specs.declared.code.Code.TheVariants.{NothingBegun, OtherRoot, UnknownProcess, WrongNumber, WrongId, NotGrown, Full, OutOfMemory}
+use Rattle.report_line.specs.declared.reply.Reply.{Reply}
+use Rattle.report_line.specs.declared.reply.Reply.TheVariants as replies
+
+-- the number of a refusal
+abbrev pub code_number : Code → ℕ
+code_number NothingBegun = 14
+code_number OtherRoot = 13
+code_number UnknownProcess = 3
+code_number WrongNumber = 5
+code_number WrongId = 6
+code_number NotGrown = 7
+code_number Full = 15
+code_number OutOfMemory = 16
+
+-- what is absent is `-`
+abbrev pub or_dash : Option (List ℕ) → List ℕ
+or_dash None = codes "-"
+or_dash (Some text) = text
+
+-- the replies that are written
+abbrev pub IsWritten : Reply → Type 0
+IsWritten (replies.Taken front) = ⊥
+IsWritten _ = ⊤
+
+-- the text of a reply
+unfoldable pub reply_text : Reply → List ℕ
+reply_text (replies.Accepted front) = codes "OK " ++ decimal front
+reply_text (replies.Old front) = codes "OLD " ++ decimal front
+reply_text (replies.No code name value) = codes "NO " ++ decimal (code_number code) ++ codes " " ++ or_dash name ++ codes " " ++ or_dash value
+reply_text (replies.Bad number) = codes "BAD " ++ decimal number
+reply_text (replies.Line text) = codes "LINE " ++ text
+reply_text (replies.Taken front) = []

@@ -1,0 +1,17 @@
+//! What a client asks.
+
+use crate::name::Names;
+use crate::report::Report;
+
+/// What a line asks for.
+#[derive(Drop)]
+pub enum Call {
+    /// A process reports an event.
+    Report(Report),
+    /// Where do all processes recover from, once these have failed?
+    Line(Names),
+    /// A line that is no call, by the number of what is wrong with it.
+    Bad(u8),
+    /// A line that memory did not suffice to read.
+    Unread,
+}

@@ -3,3 +3,5 @@ pub mod Points
 pub mod Runs
 pub mod Verdicts
 pub mod Texts
+pub mod Splits
+pub mod Sums

@@ -6,3 +6,6 @@ pub mod Nodes
 pub mod Reading
 pub mod Faults
 pub mod View
+pub mod Split
+pub mod Sum
+pub mod Tests

@@ -1,5 +1,5 @@
 -- Working definitions: how a spelling is read, a byte at a time.
-use Rattle.std.specs.Prelude.{◌≡◌, ◌≢◌, ⊤, ℕ, ◌==◌, nat_le, Bool, true, false, if◌then◌else◌, List, [], ◌∷◌, Option, Some, None, option_and_then, option_map, reverse, map}
+use Rattle.std.specs.Prelude.{◌≡◌, ◌≢◌, ⊤, ℕ, ◌==◌, nat_le, if◌then◌else◌, List, [], ◌∷◌, Option, Some, None, option_and_then, option_map, reverse, map}
 use Rattle.id_tree.specs.IdTree.{IdTree, Zero, One, Pair}
 use Rattle.id_tree.specs.NormalForm.{are_equal_leaves, depth, depth_limit}
 use Rattle.id_tree.specs.Nodes.{tree_of}

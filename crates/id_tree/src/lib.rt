@@ -4,20 +4,24 @@
 //! so that equal sets are equal ids with one text.
 #![tactic(auto)]
 
-ghost use Rattle.std.specs.Prelude.{◌≡◌, ◌↔◌, ◌++◌, IsTrue, IfOk, IfErr, MatchResult, OnOk, OnErr, ◌≤◌, ◌≢◌};
+ghost use Rattle.std.specs.Prelude.{◌≡◌, ◌↔◌, ◌++◌, IsTrue, IfOk, IfErr, IsErrOf, MatchResult, OnOk, OnErr, ◌≤◌, ◌<◌, ◌≢◌, false};
 ghost use Rattle.std.specs.List.{list_all};
 ghost use Rattle.id_tree.specs.IdTree.{IdTree, Zero, One};
-ghost use Rattle.id_tree.specs.Points.{Point, owns};
+ghost use Rattle.id_tree.specs.Points.{Point, owns, OwnsSome, Overlap, AreDisjoint, AreTogether};
 ghost use Rattle.id_tree.specs.NormalForm.{IsId, IsNormal, depth, depth_limit};
 ghost use Rattle.id_tree.specs.Spelling.{spelling, is_tree_byte};
 ghost use Rattle.id_tree.specs.Faults.{IsFaultOf};
+ghost use Rattle.id_tree.specs.Split.{left_part, right_part, parts_depth, IsSplit};
+ghost use Rattle.id_tree.specs.Sum.{sum_of};
 
 mod fault;
 mod node;
 mod reader;
+#[cfg(test)]
+mod tests;
 mod view;
 
-pub use fault::IdFault;
+pub use fault::{IdFault, SplitFault, SumFault};
 use node::Node;
 use reader::Part;
 use std::alloc::{AllocError, Global};
@@ -89,6 +93,53 @@ impl Id {
         Ok(Id { node })
     }
 
+    /// Whether some point is owned. It takes no memory.
+    #[tactic(auto, using(crate::proofs::Points::owns_any_iff))]
+    pub fn owns_any(&self) -> bool
+        ensures { IsTrue result ↔ OwnsSome self.now }
+    {
+        self.node.owns_any()
+    }
+
+    /// Whether no point is owned by both. It takes no memory.
+    #[tactic(auto, using(crate::proofs::Points::disjoint_iff, crate::proofs::Points::overlap_iff))]
+    pub fn disjoint(&self, other: &Id) -> bool
+        ensures disjoint { IsTrue result ↔ AreDisjoint self.now other.now }
+        ensures overlapping { (result ≡ false) ↔ Overlap self.now other.now }
+    {
+        self.node.is_disjoint(&other.node)
+    }
+
+    /// Two ids that each own a part of what this one owns, and together all of it.
+    #[tactic(auto, using(crate::proofs::Splits::left_is_id, crate::proofs::Splits::right_is_id))]
+    pub fn split(&self, alloc: Global) -> Result<(Id, Id), SplitFault>
+        ensures left { IfOk result (λ parts. parts.0 ≡ left_part self.now) }
+        ensures right { IfOk result (λ parts. parts.1 ≡ right_part self.now) }
+        ensures split { IfOk result (λ parts. IsSplit self.now parts.0 parts.1) }
+        ensures nothing { IsErrOf result SplitFault.NothingOwned ↔ (self.now ≡ Zero) }
+        ensures deep { IsErrOf result SplitFault.TooDeep ↔ (depth_limit < parts_depth self.now) }
+    {
+        if !self.node.owns_any() {
+            return Err(SplitFault::NothingOwned);
+        }
+        let (left, right) = self.node.split(alloc, 40)?;
+        Ok((Id { node: left }, Id { node: right }))
+    }
+
+    /// The id that owns what either owns. Ids that overlap have none, whether or not there is memory.
+    #[tactic(auto, using(crate::proofs::Sums::sum_together))]
+    pub fn sum(&self, alloc: Global, other: &Id) -> Result<Id, SumFault>
+        ensures sum { IfOk result (λ id. AreTogether self.now other.now id) }
+        ensures disjoint { OnOk result (AreDisjoint self.now other.now) }
+        ensures overlap { IsErrOf result SumFault.Overlap ↔ Overlap self.now other.now }
+    {
+        if !self.disjoint(other) {
+            return Err(SumFault::Overlap);
+        }
+        let node = self.node.sum(alloc, &other.node)?;
+        Ok(Id { node })
+    }
+
     /// The id that the bytes spell, all of the bytes. The memory and the stack that it takes do not grow with how deeply
     /// brackets are nested beyond the depth limit.
     pub fn parse(alloc: Global, bytes: &[u8]) -> Result<Id, IdFault>
@@ -120,6 +171,19 @@ impl Id {
 /// Two ids in normal form that own the same points are equal.
 pub fn ids_with_equal_points_are_equal()
     ensures { (i j : IdTree) → IsNormal i → IsNormal j → ((p : Point) → owns i p ≡ owns j p) → i ≡ j }
+{}
+
+/// An id in normal form other than nothing has two parts in normal form: each owns something, no point is in both, and
+/// together they own what the id owns.
+pub fn a_split_gives_two_parts()
+    ensures split { (i : IdTree) → IsNormal i → i ≢ Zero → IsSplit i (left_part i) (right_part i) }
+    ensures normal { (i : IdTree) → IsNormal i → i ≢ Zero → IsNormal (left_part i) × IsNormal (right_part i) }
+{}
+
+/// The sum by halves owns what either owns, in normal form.
+pub fn a_sum_owns_what_either_owns()
+    ensures together { (i j : IdTree) → AreTogether i j (sum_of i j) }
+    ensures normal { (i j : IdTree) → IsNormal i → IsNormal j → IsNormal (sum_of i j) }
 {}
 
 /// No text is that of two trees.

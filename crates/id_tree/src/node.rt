@@ -1,11 +1,15 @@
 //! The nodes that an id is kept as. They may be in any form: what holds of each id is stated at `Id`.
 
-ghost use Rattle.std.specs.Prelude.{◌≡◌, ◌↔◌, ◌≤◌, ◌++◌, IsTrue, IfOk, OnOk, OnErr, take, length};
+ghost use Rattle.std.specs.Prelude.{◌≡◌, ◌≢◌, ◌↔◌, ◌≤◌, ◌<◌, ◌++◌, IsTrue, IfOk, OnOk, OnErr, IsErrOf, take, length};
 ghost use Rattle.id_tree.specs.IdTree.{Pair};
 ghost use Rattle.id_tree.specs.NormalForm.{depth, are_equal_leaves};
 ghost use Rattle.id_tree.specs.Spelling.{spelling};
 ghost use Rattle.id_tree.specs.Nodes.{tree_of};
+ghost use Rattle.id_tree.specs.Split.{left_part, right_part, parts_depth};
+ghost use Rattle.id_tree.specs.Sum.{normal_pair, sum_of};
+ghost use Rattle.id_tree.specs.Tests.{owns_any, are_disjoint};
 
+use crate::fault::SplitFault;
 use std::alloc::{AllocError, Global};
 
 #[derive(Drop)]
@@ -22,6 +26,23 @@ impl Node {
         match (self, other) {
             (Node::Zero, Node::Zero) | (Node::One, Node::One) => true,
             (Node::Pair(a, b), Node::Pair(c, d)) => a.is_same(c) && b.is_same(d),
+            _ => false,
+        }
+    }
+
+    pub fn owns_any(&self) -> bool
+        ensures { result ≡ owns_any (tree_of self.now) }
+    {
+        !matches!(self, Node::Zero)
+    }
+
+    // Whether no point is owned by both, where both are in normal form.
+    pub fn is_disjoint(&self, other: &Node) -> bool
+        ensures { result ≡ are_disjoint (tree_of self.now) (tree_of other.now) }
+    {
+        match (self, other) {
+            (Node::Zero, _) | (_, Node::Zero) => true,
+            (Node::Pair(a, b), Node::Pair(c, d)) => a.is_disjoint(c) && b.is_disjoint(d),
             _ => false,
         }
     }
@@ -65,6 +86,76 @@ impl Node {
         ensures { IfOk result (λ n. tree_of n ≡ Pair (tree_of l) (tree_of r)) }
     {
         Ok(Node::Pair(Box::new(alloc, l)?, Box::new(alloc, r)?))
+    }
+
+    // The pair of two halves, or the leaf that both are.
+    fn normal_pair(alloc: Global, l: Node, r: Node) -> Result<Node, AllocError>
+        ensures { IfOk result (λ n. tree_of n ≡ normal_pair (tree_of l) (tree_of r)) }
+    {
+        if l.is_equal_leaf(&r) {
+            Ok(l)
+        } else {
+            Node::pair(alloc, l, r)
+        }
+    }
+
+    // What either owns.
+    pub fn sum(&self, alloc: Global, other: &Node) -> Result<Node, AllocError>
+        ensures { IfOk result (λ n. tree_of n ≡ sum_of (tree_of self.now) (tree_of other.now)) }
+    {
+        match (self, other) {
+            (Node::Zero, _) => other.copy(alloc),
+            (_, Node::Zero) => self.copy(alloc),
+            (Node::Pair(a, b), Node::Pair(c, d)) => {
+                let l = a.sum(alloc, c)?;
+                let r = b.sum(alloc, d)?;
+                Node::normal_pair(alloc, l, r)
+            }
+            _ => Ok(Node::One),
+        }
+    }
+
+    // The two parts, neither deeper than `room`. Of nothing both are nothing.
+    #[tactic(auto, using(crate::proofs::Splits::left_of_both, crate::proofs::Splits::right_of_both))]
+    pub fn split(&self, alloc: Global, room: u8) -> Result<(Node, Node), SplitFault>
+        requires { depth (tree_of self.now) ≤ room }
+        ensures left { IfOk result (λ parts. tree_of parts.0 ≡ left_part (tree_of self.now)) }
+        ensures right { IfOk result (λ parts. tree_of parts.1 ≡ right_part (tree_of self.now)) }
+        ensures fits { OnOk result (parts_depth (tree_of self.now) ≤ room) }
+        ensures deep { IsErrOf result SplitFault.TooDeep ↔ (room < parts_depth (tree_of self.now)) }
+        ensures some { result ≢ Err SplitFault.NothingOwned }
+    {
+        let (l, r) = match self {
+            Node::Zero => return Ok((Node::Zero, Node::Zero)),
+            Node::One if room == 0 => return Err(SplitFault::TooDeep),
+            Node::One => {
+                let left = Node::pair(alloc, Node::One, Node::Zero)?;
+                let right = Node::pair(alloc, Node::Zero, Node::One)?;
+                return Ok((left, right));
+            }
+            Node::Pair(l, r) => (l, r),
+        };
+        match (&**l, &**r) {
+            (Node::Zero, r) => {
+                let (a, b) = r.split(alloc, room - 1)?;
+                let left = Node::pair(alloc, Node::Zero, a)?;
+                let right = Node::pair(alloc, Node::Zero, b)?;
+                Ok((left, right))
+            }
+            (l, Node::Zero) => {
+                let (a, b) = l.split(alloc, room - 1)?;
+                let left = Node::pair(alloc, a, Node::Zero)?;
+                let right = Node::pair(alloc, b, Node::Zero)?;
+                Ok((left, right))
+            }
+            (l, r) => {
+                let a = l.copy(alloc)?;
+                let b = r.copy(alloc)?;
+                let left = Node::pair(alloc, a, Node::Zero)?;
+                let right = Node::pair(alloc, Node::Zero, b)?;
+                Ok((left, right))
+            }
+        }
     }
 
     pub fn write(&self, out: &mut Vec<u8>) -> Result<(), AllocError>

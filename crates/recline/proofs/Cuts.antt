@@ -1,8 +1,9 @@
 -- Cutting gives the lines of the whole stream, and there are no others.
-use Rattle.std.proofs.Common.{◌≡◌, ◌≢◌, ℕ, ◌+◌, ◌<◌, ◌≤◌, Bool, true, false, eqb, ltb, List, [], ◌∷◌, ◌++◌, length, get_or, take, drop, Some, None, refl, sym, ap, subst, ◌∙◌, append_assoc, arith, inl, inr}
+use Rattle.std.proofs.Common.{◌≡◌, ◌≢◌, ℕ, zero, suc, min, ◌+◌, ◌<◌, ◌≤◌, Bool, true, false, eqb, ltb, List, [], ◌∷◌, ◌++◌, length, get_or, take, drop, Some, None, refl, sym, ap, subst, ◌∙◌, append_assoc, arith, inl, inr}
 use Rattle.std.specs.List.{flat_map}
 use Rattle.std.proofs.lemmas.Bool.{lt-ltb, le-ltb, cases_lt, cases_eq, eqb-true}
-use Rattle.std.proofs.lemmas.List.{append-nil, length-append, at_drop_more, at_drop_all, take_more, take_all, length-take, drop-drop}
+use Rattle.std.proofs.lemmas.List.{append-nil, length-append, at_drop_more, at_drop_all, take_more, take_all, length-take, length-take-le, get_or-take, drop-drop}
+use Rattle.memchr.specs.Find.{IsFirstByte, is_byte}
 use Rattle.recline.specs.Cutting.{Stand, onto, cut_from, cut_of, NoBreak, IsLine, ended, Stands, IsCut}
 
 not_true : (b : Bool) → (b ≡ true → ⊥) → b ≡ false
@@ -125,6 +126,40 @@ found_long bytes i lt long is so_far =
 pub found_rest : (bytes : List ℕ) (i : ℕ) → length bytes ≤ i → cut_of bytes ≡ cut_from (Some (take i bytes)) (drop i bytes) → cut_of bytes ≡ ([], Some bytes)
 found_rest bytes i le so_far =
     so_far ∙ at_drop_all (cut_from (Some (take i bytes))) bytes i le ∙ at_nothing (take i bytes) ∙ ap (λ (l : List ℕ). ([], Some l)) (take_all i bytes le)
+
+-- no LF below n
+abbrev pub NoneBelow : List ℕ → ℕ → Type 0
+NoneBelow bytes n = (k : ℕ) → k < n → eqb (get_or bytes k 0) 10 ≡ false
+
+none_to : (bytes : List ℕ) (n : ℕ) → n ≤ length bytes → n ≤ 8192 → NoneBelow bytes n → cut_of bytes ≡ cut_from (Some (take n bytes)) (drop n bytes)
+none_to bytes zero le short none = refl
+none_to bytes (suc n) le short none =
+    let up : n + 1 ≡ suc n = omega arith in
+    subst (λ (m : ℕ). cut_of bytes ≡ cut_from (Some (take m bytes)) (drop m bytes)) up (found_none bytes n (omega arith) (omega arith) (none n (omega arith)) (none_to bytes n (omega arith) (omega arith) (λ k lt. none k (omega arith))))
+
+-- what a search of the first 8,193 bytes says of all
+none_here : (bytes : List ℕ) (n : ℕ) → n ≤ 8193 → ((k : ℕ) → 0 ≤ k → k < n → ¬ (eqb (get_or (take 8193 bytes) k 0) 10 ≡ true)) → NoneBelow bytes n
+none_here bytes n le none k lt = ap (λ (b : ℕ). eqb b 10) (sym (get_or-take 8193 bytes k 0 (omega arith))) ∙ not_true (eqb (get_or (take 8193 bytes) k 0) 10) (none k (omega arith) lt)
+
+pub searched_at : (bytes looked : List ℕ) (n : ℕ) → looked ≡ take 8193 bytes → IsFirstByte (is_byte 10) looked (Some n) → (n < length bytes) × (cut_of bytes ≡ onto (take n bytes ∷ []) (cut_of (drop (n + 1) bytes)))
+searched_at bytes looked n same first =
+    let found : IsFirstByte (is_byte 10) (take 8193 bytes) (Some n) = subst (λ (l : List ℕ). IsFirstByte (is_byte 10) l (Some n)) same first in
+    let least : n < min 8193 (length bytes) = subst (λ (m : ℕ). n < m) (length-take 8193 bytes) found.0.high in
+    let here : n < length bytes = omega (arith, least) in
+    let is : eqb (get_or bytes n 0) 10 ≡ true = ap (λ (b : ℕ). eqb b 10) (sym (get_or-take 8193 bytes n 0 (omega (arith, least)))) ∙ found.1 in
+    (here, found_at bytes n here is (none_to bytes n (omega arith) (omega (arith, least)) (none_here bytes n (omega (arith, least)) found.0.before)))
+
+pub searched_long : (bytes looked : List ℕ) → looked ≡ take 8193 bytes → IsFirstByte (is_byte 10) looked None → 8192 < length bytes → cut_of bytes ≡ ([], None)
+searched_long bytes looked same first long =
+    let found : IsFirstByte (is_byte 10) (take 8193 bytes) None = subst (λ (l : List ℕ). IsFirstByte (is_byte 10) l None) same first in
+    let all : NoneBelow bytes 8193 = none_here bytes 8193 (omega arith) (λ k low lt. found k low (subst (λ (m : ℕ). k < m) (sym (length-take-le 8193 bytes (omega arith))) lt)) in
+    found_long bytes 8192 long (omega arith) (all 8192 (omega arith)) (none_to bytes 8192 (omega arith) (omega arith) (λ k lt. all k (omega arith)))
+
+pub searched_rest : (bytes looked : List ℕ) → looked ≡ take 8193 bytes → IsFirstByte (is_byte 10) looked None → length bytes ≤ 8192 → cut_of bytes ≡ ([], Some bytes)
+searched_rest bytes looked same first short =
+    let found : IsFirstByte (is_byte 10) (take 8193 bytes) None = subst (λ (l : List ℕ). IsFirstByte (is_byte 10) l None) same first in
+    let all : NoneBelow bytes (length bytes) = none_here bytes (length bytes) (omega arith) (λ k low lt. found k low (subst (λ (l : List ℕ). k < length l) (sym (take_all 8193 bytes (omega arith))) lt)) in
+    found_rest bytes (length bytes) (omega arith) (none_to bytes (length bytes) (omega arith) short all)
 
 pub drop_one : (n : ℕ) (l : List ℕ) → drop 1 (drop n l) ≡ drop (n + 1) l
 drop_one n l = rw drop-drop refl

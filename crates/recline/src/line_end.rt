@@ -1,8 +1,10 @@
 //! The lines of a stream.
 
-ghost use Rattle.std.specs.Prelude.{◌≡◌, ◌≤◌, ℕ, List, [], ◌∷◌, ◌++◌, Option, Some};
+ghost use Rattle.std.specs.Prelude.{◌≡◌, ◌≤◌, ℕ, List, [], ◌∷◌, ◌++◌, Option, Some, take};
 ghost use Rattle.recline.specs.Cutting.{Stand, cut_of, IsCut};
 ghost use Rattle.recline.specs.Parts.{IsLineEnd};
+
+use memchr::memchr;
 
 /// The greatest length of a line before its LF.
 const MOST: usize = 8192;
@@ -17,19 +19,26 @@ pub(crate) enum LineEnd {
     TooLong,
 }
 
+/// As many bytes as the longest line has with its LF, or all where there are fewer.
+fn longest_line(bytes: &[u8]) -> &[u8]
+    ensures { result.now ≡ take 8193 bytes.now }
+{
+    if bytes.len() > MOST {
+        bytes.split_at(MOST + 1).0
+    } else {
+        bytes
+    }
+}
+
 /// Where the first line of the bytes ends.
 pub(crate) fn line_end(bytes: &[u8]) -> LineEnd
     ensures { IsLineEnd bytes.now result }
 {
-    for i in 0..bytes.len() {
-        if bytes[i] == b'\n' {
-            return LineEnd::At(i);
-        }
-        if i >= MOST {
-            return LineEnd::TooLong;
-        }
+    match memchr(b'\n', longest_line(bytes)) {
+        Some(n) => LineEnd::At(n),
+        None if bytes.len() > MOST => LineEnd::TooLong,
+        None => LineEnd::Missing,
     }
-    LineEnd::Missing
 }
 
 /// The lines of a whole stream: it is these lines, each with its LF, and a rest that has no whole line; and no other

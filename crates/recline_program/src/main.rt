@@ -5,27 +5,35 @@ use clap::Error;
 use clap::error::ErrorKind;
 use recline::{Command, read_args, run_on};
 use std::env;
-use std::io::BufWriter;
+use std::io::{self, BufWriter};
 use std::process::ExitCode;
 
-/// The words of the command line, or nothing where they cannot be read.
-fn words_of(rt: &HostRuntime) -> Option<Vec<String>> {
-    let Ok(args) = env::args(rt) else {
-        return None;
-    };
+/// The words of the command line.
+fn words_of(rt: &HostRuntime) -> io::Result<Vec<String>> {
     let mut words = Vec::new(rt.alloc());
-    for word in args {
+    for word in env::args(rt)? {
         if words.push(word).is_err() {
-            return None;
+            return Err(io::Error::from(io::ErrorKind::OutOfMemory));
         }
     }
-    Some(words)
+    Ok(words)
 }
 
 /// Says on standard error that memory ran out, or that a stream failed, and answers the status for it.
 fn fault(rt: &HostRuntime, cause: &str) -> u8 {
     let _told = eprintln!(rt; "recline: {cause}");
     3
+}
+
+/// Says on standard error why the words cannot be read, and answers the status.
+fn unread(rt: &HostRuntime, error: &io::Error) -> u8 {
+    if error.kind() != io::ErrorKind::InvalidData {
+        return fault(rt, "memory");
+    }
+    let _told = eprintln!(rt;
+        "error: a word of the command line is not UTF-8\n\nFor more information, try '--help'."
+    );
+    2
 }
 
 /// Shows the text for words that are no command, and answers the status.
@@ -48,12 +56,12 @@ fn run(rt: &HostRuntime) -> u8 {
 }
 
 fn main(rt: HostRuntime) -> ExitCode {
-    let Some(words) = words_of(&rt) else {
-        return ExitCode::from(fault(&rt, "memory"));
-    };
-    let status = match read_args(rt.alloc(), &words) {
-        Ok(Command::Run) => run(&rt),
-        Err(error) => show(&rt, &error),
+    let status = match words_of(&rt) {
+        Ok(words) => match read_args(rt.alloc(), &words) {
+            Ok(Command::Run) => run(&rt),
+            Err(error) => show(&rt, &error),
+        },
+        Err(error) => unread(&rt, &error),
     };
     ExitCode::from(status)
 }

@@ -1,3 +1,4 @@
 pub mod Stamps
 pub mod Faults
 pub mod Answers
+pub mod Operations

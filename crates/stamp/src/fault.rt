@@ -42,3 +42,24 @@ impl<T: Drop> From<AllocFailed<T>> for StampTextFault {
         StampTextFault::Memory
     }
 }
+
+/// Why an operation of a stamp was refused. Where two apply, a fault of the event comes before one of the split or the
+/// sum; `Memory` may come in place of any.
+#[derive(Clone, Copy, Debug, PartialEq, Eq, Error)]
+pub enum StampFault {
+    /// The id owns nothing, so that it has no events.
+    #[error("an event of an id that owns nothing")]
+    NothingOwned,
+    /// Some value would be greater than 4,294,967,295.
+    #[error("an event that makes a value above 4294967295")]
+    ClockFull,
+    /// A half of the id would be deeper than 40.
+    #[error("a fork of an id that is too deep to be split")]
+    TooDeep,
+    /// Some point is owned by both ids.
+    #[error("an absorption of an id that overlaps")]
+    Overlap,
+    /// A growth was refused.
+    #[error("out of memory")]
+    Memory,
+}

@@ -7,11 +7,12 @@ ghost use Rattle.stamp.specs.declared.stamp.Stamp.{Stamp as AnyStamp};
 ghost use Rattle.stamp.specs.Stamps.{IsStamp, stamp_text, is_stamp_byte};
 
 mod fault;
+mod operations;
 mod stamp;
 #[cfg(test)]
 mod tests;
 
-pub use fault::StampTextFault;
+pub use fault::{StampFault, StampTextFault};
 pub use stamp::Stamp;
 
 /// Each byte of a text is `(`, `)`, `,`, `;` or a digit: no space, no line feed.

@@ -1,21 +1,12 @@
-use Rattle.std.proofs.Common.{◌≡◌, true, false, eqb, get_or, rules, arith}
-use Rattle.recline.proofs.Cuts.{found_at, found_none, found_long, found_rest}
+use Rattle.std.proofs.Common.{arith}
+use Rattle.recline.proofs.Cuts.{searched_at, searched_long, searched_rest}
 use Rattle.recline.proofs.line_end.line_end.Goals as goal
 
-pub returns-then-bytes-i-eq10 : goal.returns-then-bytes-i-eq10
-returns-then-bytes-i-eq10 c =
-    let is : eqb (get_or c.args.bytes.now c.loop-i.i 0) 10 ≡ true = search rules in
-    (omega arith, found_at c.args.bytes.now c.loop-i.i (omega arith) is c.loop-i.invariant.so_far)
+pub returns-in-Some : goal.returns-in-Some
+returns-in-Some c = searched_at c.args.bytes.now c.longest_line.result.now c.in-Some.n c.longest_line.ensures c.in-Some.ensures
 
-pub returns-then-i-ge-MOST : goal.returns-then-i-ge-MOST
-returns-then-i-ge-MOST c =
-    let is : eqb (get_or c.args.bytes.now c.loop-i.i 0) 10 ≡ false = search rules in
-    found_long c.args.bytes.now c.loop-i.i (omega arith) (omega arith) is c.loop-i.invariant.so_far
+pub returns-in-None : goal.returns-in-None
+returns-in-None c = searched_long c.args.bytes.now c.longest_line.result.now c.longest_line.ensures c.in-None.ensures (omega arith)
 
-pub loop-i-preserved : goal.loop-i-preserved
-loop-i-preserved c =
-    let is : eqb (get_or c.args.bytes.now c.loop-i.i 0) 10 ≡ false = search rules in
-    record { so_far = found_none c.args.bytes.now c.loop-i.i (omega arith) (omega arith) is c.loop-i.invariant.so_far; short = omega arith }
-
-pub returns : goal.returns
-returns c = found_rest c.args.bytes.now c.loop-i.i (omega arith) c.loop-i.invariant.so_far
+pub returns-in-None-2 : goal.returns-in-None-2
+returns-in-None-2 c = searched_rest c.args.bytes.now c.longest_line.result.now c.longest_line.ensures c.in-None-2.ensures (omega arith)

@@ -1,156 +1,110 @@
--- What an accepted report changes in what is kept.
-use Rattle.std.proofs.Common.{◌≡◌, ◌≢◌, ◌⊎◌, inl, inr, ℕ, ◌+◌, ◌<◌, ◌≤◌, Bool, true, false, cond, List, [], ◌∷◌, ◌++◌, length, get_or, set, map, Option, Some, None, Result, Ok, Err, refl, sym, ap, subst, ◌∙◌, arith, append-nil, length-append}
-use Rattle.std.specs.Prelude.{nat_eq, slice_get, count_by, sum_by, OnOk, IsOk}
-use Rattle.std.specs.List.{filter_map, flat_map, list_any}
+-- What an accepted report changes in what is kept of a process.
+use Rattle.std.proofs.Common.{◌≡◌, ◌≢◌, ℕ, suc, ◌+◌, Bool, true, false, cond, List, [], ◌∷◌, ◌++◌, length, Option, Some, None, refl, sym, ap, ◌∙◌, arith, append-nil, append_assoc}
+use Rattle.std.specs.Prelude.{◌||◌}
+use Rattle.std.specs.Option.{is_some, unwrap_or}
 use Rattle.std.specs.Str.{bytes_eq}
-use Rattle.std.specs.Cmp.Lexicographic.{pointwise}
-use Rattle.std.proofs.lemmas.List.Elements.{filter_map-append}
 use Rattle.std.proofs.lemmas.List.Sums.{sum_by-append}
-use Rattle.std.proofs.lemmas.List.Concat.{flat_map-append}
-use Rattle.std.proofs.lemmas.Slice.Eq.{bytes_eq-Decides}
-use Rattle.indexmap.specs.IndexSet.{insert_key}
-use Rattle.id_tree.specs.IdTree.{IdTree, Zero, One}
-use Rattle.event_tree.specs.EventTree.{Leaf}
 use Rattle.stamp.specs.declared.stamp.Stamp.{Stamp}
+use Rattle.report_line.specs.declared.report.Action.{Action}
+use Rattle.report_line.specs.declared.report.Action.TheVariants.{Check, Present, Fork, Retire, Absorb}
 use Rattle.report_line.specs.declared.report.Report.{Report}
-use Rattle.report_line.specs.declared.report.Report.TheVariants.{Begin, Check}
-use Rattle.report_line.specs.declared.reply.Reply.{Reply}
-use Rattle.report_line.specs.declared.reply.Reply.TheVariants.{Accepted}
-use Rattle.chains.specs.declared.process.Process.{Process}
-use Rattle.chains.specs.Processes.{Name, newborn, known, IsKnown, is_numbered_of, registered_from, registered_id, id_after}
-use Rattle.chains.specs.Elements.{element_made, elements_of}
-use Rattle.chains.specs.Admission.{IsReachable, nothing_accepted, one_more, IsAdmission, IsBeginReply, FitsOrNot, report_limit}
-use Rattle.chains.specs.Keeping.{kept_of, last_index}
-use Rattle.chains.specs.Inside.{AreInOrder}
+use Rattle.report_line.specs.declared.report.Report.TheVariants.{Numbered}
+use Rattle.chains.specs.Processes.{Name, child_of, first_of, is_numbered_of, is_birth_of, is_absorb_of, reports_of}
+use Rattle.chains.specs.Elements.{lasting_made, only_if}
+use Rattle.chains.specs.Keeping.{KeptProcess, kept_of, last_index, indexes_from}
+use Rattle.chains.specs.Noting.{noted, taken, is_check}
 use Rattle.chains.proofs.Lists.{last_index-push}
+use Rattle.chains.proofs.Stepping.{absorbed-push, same_bytes, other_bytes}
 
--- a result that is there
-pub on_ok : {T E P : Type 0} (r : Result T E) → IsOk r → OnOk r P → P
-on_ok (Ok x) h p = p
-on_ok (Err e) h p = absurd cc
+-- ---- one more report
 
-pub same_bytes : (p : Name) → bytes_eq p p ≡ true
-same_bytes p = (bytes_eq-Decides p p).1 refl
+pub reports-push : (q : Name) (accepted : List Report) (r : Report) → reports_of q (accepted ++ r ∷ []) ≡ reports_of q accepted + cond (is_numbered_of q r) 1 0
+reports-push q accepted r =
+    let one : 0 + cond (is_numbered_of q r) 1 0 ≡ cond (is_numbered_of q r) 1 0 = omega arith in
+    sum_by-append (λ x. cond (is_numbered_of q x) 1 0) accepted (r ∷ []) ∙ ap (λ (m : ℕ). reports_of q accepted + m) one
 
--- ---- the known processes
+pub indexes-push : {X Y : Type 0} (made : X → Option Y) (n : ℕ) (xs : List X) (y : X) → indexes_from made n (xs ++ y ∷ []) ≡ indexes_from made n xs ++ cond (is_some (made y)) ((n + length xs) ∷ []) []
+indexes-push made n [] y = append-nil (cond (is_some (made y)) (n ∷ []) []) ∙ ap (λ (m : ℕ). cond (is_some (made y)) (m ∷ []) []) (let e : n ≡ n + 0 = omega arith in e)
+indexes-push made n (x ∷ xs) y =
+    let here = cond (is_some (made x)) (n ∷ []) [] in
+    let same : suc n + length xs ≡ n + suc (length xs) = omega arith in
+    ap (λ (l : List ℕ). here ++ l) (indexes-push made (suc n) xs y)
+    ∙ ap (λ (m : ℕ). here ++ (indexes_from made (suc n) xs ++ cond (is_some (made y)) (m ∷ []) [])) same
+    ∙ sym (append_assoc here (indexes_from made (suc n) xs) (cond (is_some (made y)) ((n + suc (length xs)) ∷ []) []))
 
-pub known-begin : (accepted : List Report) (p : Name) → known (accepted ++ Begin p ∷ []) ≡ known accepted ++ p ∷ []
-known-begin accepted p = filter_map-append newborn accepted (Begin p ∷ [])
+-- what a report changes: whether it is one of the process, makes a lasting element of it, and absorbs it
+abbrev pub merged : ℕ → Bool → Bool → Bool → KeptProcess → KeptProcess
+merged front own lasts absorbs k = record {
+  reports = k.reports + cond own 1 0;
+  last = first_of (cond own (Some front) None) k.last;
+  birth = k.birth;
+  lasting = k.lasting ++ cond lasts (front ∷ []) [];
+  absorbed = k.absorbed || absorbs;
+}
 
-pub known-check : (accepted : List Report) (p : Name) (n : ℕ) (s : Stamp) → known (accepted ++ Check p n s ∷ []) ≡ known accepted
-known-check accepted p n s = filter_map-append newborn accepted (Check p n s ∷ []) ∙ append-nil (known accepted)
+pub kept_is : (a b : ℕ) (c d : Option ℕ) (e f : ℕ) (g h : List ℕ) (i j : Bool) → a ≡ b → c ≡ d → e ≡ f → g ≡ h → i ≡ j
+    → (let k : KeptProcess = record { reports = a; last = c; birth = e; lasting = g; absorbed = i } in k) ≡ (let k : KeptProcess = record { reports = b; last = d; birth = f; lasting = h; absorbed = j } in k)
+kept_is a b c d e f g h i j x y z u v = cc
 
-no_push : {X : Type 0} (xs : List X) (x : X) → xs ++ x ∷ [] ≢ []
-no_push [] x e = cc
-no_push (y ∷ ys) x e = cc
+same_birth : (b : Bool) (n : ℕ) (o : Option ℕ) → b ≡ false → unwrap_or (first_of (cond b (Some n) None) o) 0 ≡ unwrap_or o 0
+same_birth b n o e = rw e refl
 
--- a checkpoint is accepted only behind another report
-checked_later : (accepted : List Report) (p : Name) (n front : ℕ) (s : Stamp) → IsAdmission accepted (Check p n s) (Accepted front) → accepted ≢ []
-checked_later accepted p n front s (inl h) = absurd (let e = h.1 in cc)
-checked_later accepted p n front s (inr h) = h.0
+pub kept-push : (accepted : List Report) (r : Report) (q : Name) → is_birth_of q r ≡ false
+    → kept_of (accepted ++ r ∷ []) q ≡ merged (length accepted) (is_numbered_of q r) (is_some (lasting_made q r)) (is_absorb_of q r) (kept_of accepted q)
+kept-push accepted r q e = kept_is _ _ _ _ _ _ _ _ _ _
+    (reports-push q accepted r)
+    (last_index-push (is_numbered_of q) accepted r)
+    (ap (λ (o : Option ℕ). unwrap_or o 0) (last_index-push (is_birth_of q) accepted r) ∙ same_birth (is_birth_of q r) (length accepted) (last_index (is_birth_of q) accepted) e)
+    (indexes-push (lasting_made q) 0 accepted r ∙ ap (λ (m : ℕ). indexes_from (lasting_made q) 0 accepted ++ cond (is_some (lasting_made q r)) (m ∷ []) []) (let e : 0 + length accepted ≡ length accepted = omega arith in e))
+    (absorbed-push q accepted r)
 
--- where no process is known nothing was accepted
-pub unbegun : (accepted : List Report) → IsReachable accepted → known accepted ≡ [] → accepted ≡ []
-unbegun _ nothing_accepted e = refl
-unbegun _ (one_more before (Begin p) reach admitted) e = absurd (no_push (known before) p (sym (known-begin before p) ∙ e))
-unbegun _ (one_more before (Check p n s) reach admitted) e =
-    absurd (checked_later before p n (length before + 1) s admitted (unbegun before reach (sym (known-check before p n s) ∙ e)))
+-- ---- by who it is
 
--- BEGIN is accepted only as the first
-begins : (ks : List Name) (accepted : List Report) (p : Name) (front : ℕ) → IsBeginReply (slice_get ks 0) accepted p (Accepted front) → ks ≡ []
-begins [] accepted p front h = refl
-begins (k ∷ ks) accepted p front (inl h) = absurd (let e = h.1 in cc)
-begins (k ∷ ks) accepted p front (inr h) = absurd (let e = h.1 in cc)
+pub or_false : (b : Bool) → (b || false) ≡ b
+or_false true = refl
+or_false false = refl
 
-pub begins_first : (accepted : List Report) (p : Name) (front : ℕ) → IsReachable accepted → IsAdmission accepted (Begin p) (Accepted front) → accepted ≡ []
-begins_first accepted p front reach h = unbegun accepted reach (begins (known accepted) accepted p front h)
+or_true : (b : Bool) → (b || true) ≡ true
+or_true true = refl
+or_true false = refl
 
--- what is accepted leaves room
-room_left : (accepted : List Report) (front : ℕ) → FitsOrNot accepted (Accepted front) → length accepted < report_limit
-room_left accepted front (inl h) = absurd (let e = h.1 in cc)
-room_left accepted front (inr h) = let fits = h.0 in omega arith
+-- the reporting process
+pub merged_own : (front : ℕ) (lasts : Bool) (k : KeptProcess) → merged front true lasts false k ≡ noted front lasts k
+merged_own front true k = kept_is _ _ _ _ _ _ _ _ _ _ refl refl refl refl (or_false k.absorbed)
+merged_own front false k = kept_is _ _ _ _ _ _ _ _ _ _ refl refl refl (append-nil k.lasting) (or_false k.absorbed)
 
-check_room : (accepted : List Report) (p : Name) (n front : ℕ) (s : Stamp) → IsAdmission accepted (Check p n s) (Accepted front) → length accepted < report_limit
-check_room accepted p n front s (inl h) = absurd (let e = h.1 in cc)
-check_room accepted p n front s (inr (_, inl h)) = absurd (let e = h.1 in cc)
-check_room accepted p n front s (inr (_, inr (_, inl h))) = absurd (let e = h.1 in cc)
-check_room accepted p n front s (inr (_, inr (_, inr (_, inl h)))) = absurd (let e = h.1 in cc)
-check_room accepted p n front s (inr (_, inr (_, inr (_, inr (_, inl h))))) = absurd (let e = h.1 in cc)
-check_room accepted p n front s (inr (_, inr (_, inr (_, inr (_, inr (_, inl h)))))) = absurd (let e = h.1 in cc)
-check_room accepted p n front s (inr (_, inr (_, inr (_, inr (_, inr (_, inr (_, h))))))) = room_left accepted front h
+-- one that the report is not about
+pub merged_other : (front : ℕ) (k : KeptProcess) → merged front false false false k ≡ k
+merged_other front k = kept_is _ _ _ _ _ _ _ _ _ _ (omega arith) refl refl (append-nil k.lasting) (or_false k.absorbed)
 
--- ---- what is kept
+-- one that is absorbed
+pub merged_absorbed : (front : ℕ) (own lasts : Bool) (k : KeptProcess) → merged front own lasts true k ≡ taken (merged front own lasts false k)
+merged_absorbed front own lasts k = kept_is _ _ _ _ _ _ _ _ _ _ refl refl refl refl (or_true k.absorbed)
 
-registered-append : (p : Name) (id : IdTree) (xs ys : List Report) → registered_from p id (xs ++ ys) ≡ registered_from p (registered_from p id xs) ys
-registered-append p id [] ys = refl
-registered-append p id (x ∷ xs) ys = registered-append p (id_after p id x) xs ys
+-- ---- what a report makes
 
-pub process_is : (a b : ℕ) (o q : Option ℕ) (c d : ℕ) (i j : IdTree) → a ≡ b → o ≡ q → c ≡ d → i ≡ j
-    → (let r : Process = record { reports = a; last = o; elements = c; registered = i } in r) ≡ (let r : Process = record { reports = b; last = q; elements = d; registered = j } in r)
-process_is a b o q c d i j e f g h = cc
+pub some_if : {X : Type 0} (b : Bool) (x : X) → is_some (only_if b x) ≡ b
+some_if true x = refl
+some_if false x = refl
 
--- a checkpoint of the process itself
-pub kept-check : (accepted : List Report) (p : Name) (n : ℕ) (s : Stamp) (kept : Process) → kept ≡ kept_of accepted p
-    → (let r : Process = record { reports = kept.reports + 1; last = Some (length accepted); elements = kept.elements + 1; registered = kept.registered } in r) ≡ kept_of (accepted ++ Check p n s ∷ []) p
-kept-check accepted p n s kept e = process_is _ _ _ _ _ _ _ _
-    (ap (λ (k : Process). k.reports + 1) e ∙ sym (sum_by-append (λ r. cond (is_numbered_of p r) 1 0) accepted (Check p n s ∷ []) ∙ rw (same_bytes p) (omega arith)))
-    (sym (last_index-push (is_numbered_of p) accepted (Check p n s) ∙ rw (same_bytes p) refl))
-    (ap (λ (k : Process). k.elements + 1) e ∙ sym (ap length (flat_map-append (element_made p) accepted (Check p n s ∷ [])) ∙ rw (same_bytes p) (omega (arith, length-append (elements_of p accepted) (s ∷ [])))))
-    (ap (λ (k : Process). k.registered) e ∙ sym (registered-append p Zero accepted (Check p n s ∷ [])))
+-- no process is born by it but a new one
+pub no_birth : (q : Name) (a : Action) (p : Name) (n : ℕ) (s : Stamp) → ((child : Name) → child_of a ≡ Some child → q ≢ child) → is_birth_of q (Numbered p n s a) ≡ false
+no_birth q Check p n s f = refl
+no_birth q Present p n s f = refl
+no_birth q (Fork kept child given) p n s f = other_bytes q child (f child refl)
+no_birth q (Retire target) p n s f = refl
+no_birth q (Absorb retired) p n s f = refl
 
-at_most_one : (b : Bool) (s : Stamp) → length (cond b (s ∷ []) []) ≤ 1
-at_most_one true s = omega arith
-at_most_one false s = omega arith
+pub own_lasts : (p : Name) (a : Action) (n : ℕ) (s : Stamp) → ((child : Name) → child_of a ≡ Some child → p ≢ child) → is_some (lasting_made p (Numbered p n s a)) ≡ is_check a
+own_lasts p Check n s f = some_if (bytes_eq p p) s ∙ same_bytes p
+own_lasts p Present n s f = refl
+own_lasts p (Fork kept child given) n s f = some_if (bytes_eq p child) (record { id = given; events = s.events }) ∙ other_bytes p child (f child refl)
+own_lasts p (Retire target) n s f = refl
+own_lasts p (Absorb retired) n s f = refl
 
-few_made : (p : Name) (r : Report) → length (element_made p r) ≤ 1
-few_made p (Begin q) = at_most_one (bytes_eq p q) (record { id = One; events = Leaf 0 })
-few_made p (Check q n t) = at_most_one (bytes_eq p q) t
-
--- no more elements than reports
-pub elements_few : (p : Name) (accepted : List Report) → length (elements_of p accepted) ≤ length accepted
-elements_few p [] = omega arith
-elements_few p (r ∷ rs) = omega (arith, elements_few p rs, few_made p r, length-append (element_made p r) (elements_of p rs))
-
--- ---- in order again
-
-only_one : (ks : List Name) (i : ℕ) (p : Name) → length ks ≤ 1 → i < length ks → get_or ks i p ≡ p → (ks ≡ p ∷ []) × (i ≡ 0)
-only_one [] i p few lt e = absurd (omega arith)
-only_one (k ∷ []) i p few lt e = let zero_is : i ≡ 0 = omega arith in (let first : get_or (k ∷ []) 0 p ≡ p = ap (λ (j : ℕ). get_or (k ∷ []) j p) (sym zero_is) ∙ e in ap (λ (x : Name). x ∷ []) first, zero_is)
-only_one (k ∷ l ∷ ks) i p few lt e = absurd (omega arith)
-
-pub after_begin : (accepted after : List Report) (names names' : List Name) (processes processes' : List Process) (p : Name) (root : Process)
-    → AreInOrder accepted names processes → IsAdmission accepted (Begin p) (Accepted (length accepted + 1))
-    → root ≡ record { reports = 0; last = None; elements = 1; registered = One }
-    → after ≡ accepted ++ Begin p ∷ [] → names' ≡ insert_key (pointwise nat_eq) names p → processes' ≡ processes ++ root ∷ [] → AreInOrder after names' processes'
-after_begin accepted after names names' processes processes' p root h admitted r a n q =
-    let empty : accepted ≡ [] = begins_first accepted p (length accepted + 1) h.reachable admitted in
-    let after_is : after ≡ Begin p ∷ [] = a ∙ ap (λ (xs : List Report). xs ++ Begin p ∷ []) empty in
-    let names_are : names ≡ [] = h.named ∙ ap known empty in
-    let none : processes ≡ [] = h.kept ∙ ap (λ (xs : List Report). map (kept_of xs) (known xs)) empty in
-    let root_is : root ≡ kept_of (Begin p ∷ []) p = r ∙ sym (rw (same_bytes p) refl) in
-    record {
-      reachable = subst IsReachable (sym a) (one_more accepted (Begin p) h.reachable admitted);
-      few = rw after_is (omega arith);
-      fewer = rw after_is (omega arith);
-      named = rw after_is (n ∙ ap (λ (ns : List Name). insert_key (pointwise nat_eq) ns p) names_are);
-      kept = rw after_is (q ∙ ap (λ (ps : List Process). ps ++ root ∷ []) none ∙ ap (λ (k : Process). k ∷ []) root_is);
-    }
-
-pub after_check : (accepted after : List Report) (names : List Name) (processes : List Process) (p : Name) (n i : ℕ) (s : Stamp) (kept kept' : Process)
-    → AreInOrder accepted names processes → IsAdmission accepted (Check p n s) (Accepted (length accepted + 1))
-    → i < length (known accepted) → get_or (known accepted) i p ≡ p → kept ≡ kept_of accepted p
-    → kept' ≡ record { reports = kept.reports + 1; last = Some (length accepted); elements = kept.elements + 1; registered = kept.registered }
-    → after ≡ accepted ++ Check p n s ∷ [] → AreInOrder after names (set processes i kept')
-after_check accepted after names processes p n i s kept kept' h admitted lt at is new a =
-    let one = only_one (known accepted) i p h.fewer lt at in
-    let known_is : known after ≡ p ∷ [] = ap known a ∙ known-check accepted p n s ∙ one.0 in
-    let processes_are : processes ≡ kept_of accepted p ∷ [] = h.kept ∙ ap (map (kept_of accepted)) one.0 in
-    let after_kept : kept' ≡ kept_of after p = new ∙ kept-check accepted p n s kept is ∙ ap (λ (xs : List Report). kept_of xs p) (sym a) in
-    let room = check_room accepted p n (length accepted + 1) s admitted in
-    record {
-      reachable = subst IsReachable (sym a) (one_more accepted (Check p n s) h.reachable admitted);
-      few = omega (arith, ap length a, length-append accepted (Check p n s ∷ []), room);
-      fewer = omega (arith, ap length known_is);
-      named = h.named ∙ one.0 ∙ sym known_is;
-      kept = ap (λ (ps : List Process). set ps i kept') processes_are ∙ ap (λ (j : ℕ). set (kept_of accepted p ∷ []) j kept') one.1 ∙ ap (λ (k : Process). k ∷ []) after_kept ∙ sym (ap (map (kept_of after)) known_is);
-    }
+pub other_lasts : (q p : Name) (a : Action) (n : ℕ) (s : Stamp) → q ≢ p → ((child : Name) → child_of a ≡ Some child → q ≢ child) → is_some (lasting_made q (Numbered p n s a)) ≡ false
+other_lasts q p Check n s d f = some_if (bytes_eq q p) s ∙ other_bytes q p d
+other_lasts q p Present n s d f = refl
+other_lasts q p (Fork kept child given) n s d f = some_if (bytes_eq q child) (record { id = given; events = s.events }) ∙ other_bytes q child (f child refl)
+other_lasts q p (Retire target) n s d f = refl
+other_lasts q p (Absorb retired) n s d f = refl

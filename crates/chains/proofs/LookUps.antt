@@ -1,21 +1,19 @@
 -- Looking a process up by its name.
-use Rattle.std.proofs.Common.{◌≡◌, ℕ, ◌+◌, ◌<◌, ◌≤◌, ◌∷◌, ◌++◌, Bool, true, false, List, length, get_or, map, take, drop, All, Some, position, Contains, refl, sym, ap, subst, ◌∙◌, arith}
+use Rattle.std.proofs.Common.{◌≡◌, ℕ, ◌+◌, ◌<◌, ◌≤◌, ◌∷◌, ◌++◌, false, List, length, get_or, take, drop, All, Some, position, sym, ap, subst, ◌∙◌}
 use Rattle.std.specs.Prelude.{nat_eq}
 use Rattle.std.specs.List.{list_any}
 use Rattle.std.specs.Cmp.Lexicographic.{pointwise, nat_list_eq_equiv}
 use Rattle.std.proofs.lemmas.Bool.{true≢false}
 use Rattle.std.proofs.lemmas.Map.Views.{list_any-from_Contains}
 use Rattle.std.proofs.lemmas.List.Quantifiers.{position-Some}
-use Rattle.std.proofs.lemmas.List.{get_or-map, take-append-drop, drop_more, take_all}
+use Rattle.std.proofs.lemmas.List.{take-append-drop, drop_more, take_all}
 use Rattle.std.proofs.lemmas.List.Elements.{All-more}
 use Rattle.std.proofs.lemmas.Option.{slice_get_within, get_or_from_slice_get}
 use Rattle.std.proofs.lemmas.Slice.Eq.{bytes_eq-Decides}
 use Rattle.report_line.specs.declared.report.Report.{Report}
-use Rattle.chains.specs.declared.process.Process.{Process}
 use Rattle.chains.specs.Processes.{Name, known, IsKnown}
 use Rattle.chains.specs.Elements.{name_of}
 use Rattle.chains.specs.Failures.{IsFirstUnknown}
-use Rattle.chains.specs.Keeping.{kept_of}
 
 -- a name that is not found is not known
 pub absent : (keys : List Name) (accepted : List Report) (p : Name) → keys ≡ known accepted → list_any (pointwise nat_eq p) keys ≡ false → ¬ IsKnown accepted p
@@ -26,12 +24,6 @@ pub found_name : (keys : List Name) (accepted : List Report) (p : Name) (i : ℕ
 found_name keys accepted p i e at =
     let there = position-Some (pointwise nat_eq p) (known accepted) i p (subst (λ (ks : List Name). position (pointwise nat_eq p) ks ≡ Some i) e at) in
     (there.0, sym ((bytes_eq-Decides p (get_or (known accepted) i p)).0 there.1))
-
-pub found_kept : (keys : List Name) (processes : List Process) (accepted : List Report) (p : Name) (i : ℕ) (k : Process) → keys ≡ known accepted → processes ≡ map (kept_of accepted) (known accepted)
-    → position (pointwise nat_eq p) keys ≡ Some i → k ≡ get_or processes i k → IsKnown accepted p × (k ≡ kept_of accepted p)
-found_kept keys processes accepted p i k e f at is =
-    let there = found_name keys accepted p i e at in
-    ((i, there.0, there.1), is ∙ ap (λ (ps : List Process). get_or ps i k) f ∙ get_or-map (kept_of accepted) (known accepted) i p k there.0 ∙ ap (kept_of accepted) there.1)
 
 -- a name that a number was found for is known
 pub known_from : (accepted : List Report) (i : ℕ) (p : Name) → name_of accepted i ≡ Some p → IsKnown accepted p

@@ -1,26 +1,40 @@
 -- A test that applies, or that leaves it to the later ones.
-use Rattle.std.proofs.Common.{◌≡◌, ◌⊎◌, inl, inr, ℕ, ◌+◌, List, length, Option, Some, None, Result, Ok, Err, refl, ap}
-use Rattle.report_line.specs.declared.code.Code.TheVariants.{OutOfMemory, WrongNumber}
+use Rattle.std.proofs.Common.{◌≡◌, ◌↔◌, inl, inr, ℕ, Bool, List, Some, None, Result, Ok, Err, IsTrue, refl, sym, ap, ◌∙◌}
+use Rattle.std.specs.Prelude.{IfOk}
+use Rattle.std.specs.Fmt.{decimal}
+use Rattle.id_tree.specs.IdTree.{IdTree}
+use Rattle.id_tree.specs.Points.{AreDisjoint, AreTogether}
+use Rattle.id_tree.specs.NormalForm.{IsNormal}
+use Rattle.id_tree.specs.Sum.{sum_of}
+use Rattle.id_tree.proofs.Points.{equal_points}
+use Rattle.id_tree.proofs.Sums as sums
+use Rattle.report_line.specs.declared.code.Code.{Code}
+use Rattle.report_line.specs.declared.code.Code.TheVariants.{OutOfMemory, Full, Ended}
+use Rattle.stamp.specs.declared.stamp.Stamp.{Stamp}
+use Rattle.report_line.specs.declared.report.Action.{Action}
+use Rattle.report_line.specs.declared.report.Action.TheVariants.{Check, Present, Fork, Retire, Absorb}
 use Rattle.report_line.specs.declared.report.Report.{Report}
 use Rattle.report_line.specs.declared.reply.Reply.{Reply}
 use Rattle.report_line.specs.declared.reply.Reply.TheVariants as replies
 use Rattle.chains.specs.declared.tests.Verdict.{Verdict}
 use Rattle.chains.specs.declared.tests.Verdict.TheVariants.{Old, Fits}
 use Rattle.chains.specs.declared.refusal.No.{No}
-use Rattle.chains.specs.Admission.{Decides, TakesMemory}
+use Rattle.chains.specs.Processes.{Name, registered_id, expected_id}
+use Rattle.chains.specs.Admission.{Decides, TakesMemory, IsStampReply, IsWaitingReply, IsStandingReply}
 use Rattle.chains.specs.Keeping.{Tests}
+use Rattle.chains.specs.Testing.{RefusesWith, IsFull, IsNoAbsorb}
 
 -- the test does not apply, and the later ones decide
 pub passed_on : (F : Type 0) (reply : Reply) (P : Reply → Type 0) (accepted : List Report) (r : Result Verdict No)
     → ¬ F → Tests P accepted r → Tests (λ a. Decides F reply a (P a)) accepted r
-passed_on F reply P accepted (Ok (Old front)) n h = inr (n, h)
+passed_on F reply P accepted (Ok Old) n h = inr (n, h)
 passed_on F reply P accepted (Ok Fits) n h = inr (n, h)
 passed_on F reply P accepted (Err refusal) n (inl h) = inl (inr (n, h))
 passed_on F reply P accepted (Err refusal) n (inr h) = inr (h.0, inr (n, h.1), h.2, h.3, h.4, h.5)
 
 -- what is decided so is decided by the whole
 pub weaker : (P Q : Reply → Type 0) (accepted : List Report) (r : Result Verdict No) → ((a : Reply) → P a → Q a) → Tests P accepted r → Tests Q accepted r
-weaker P Q accepted (Ok (Old front)) f h = f _ h
+weaker P Q accepted (Ok Old) f h = f _ h
 weaker P Q accepted (Ok Fits) f h = f _ h
 weaker P Q accepted (Err refusal) f (inl h) = inl (f _ h)
 weaker P Q accepted (Err refusal) f (inr h) = inr (h.0, f _ h.1, h.2, h.3, h.4, h.5)
@@ -30,6 +44,48 @@ pub lacking : (P : Reply → Type 0) (accepted : List Report) (refusal : No) (an
     → refusal ≡ record { code = OutOfMemory; name = None; value = None } → P answer → TakesMemory answer → Tests P accepted (Err refusal)
 lacking P accepted refusal answer e h t = inr (answer, h, t, ap (λ (r : No). r.code) e, ap (λ (r : No). r.name) e, ap (λ (r : No). r.value) e)
 
--- a refusal of a number, as it is made
-pub number_refused : (p q v w : List ℕ) → q ≡ p → v ≡ w → replies.No WrongNumber (Some p) (Some w) ≡ replies.No WrongNumber (Some q) (Some v)
-number_refused p q v w e f = cc
+-- a refusal with a value, by the first test
+pub refuses : {E : Type 0} (F : Type 0) (P : Reply → Type 0) (accepted : List Report) (refusal : No) (code : Code) (name value : List ℕ) (r : Result (List ℕ) E)
+    → RefusesWith refusal code name r → IfOk r (λ t. t ≡ value) → F → Tests (λ a. Decides F (replies.No code (Some name) (Some value)) a (P a)) accepted (Err refusal)
+refuses F P accepted refusal code name value (Ok t) e is h = inl (inl (h, rw (e, is) refl))
+refuses F P accepted refusal code name value (Err x) e is h =
+    inr (replies.No code (Some name) (Some value), inl (h, refl), tt, ap (λ (r : No). r.code) e, ap (λ (r : No). r.name) e, ap (λ (r : No). r.value) e)
+
+-- a refusal without one
+pub refuses_plainly : (F : Type 0) (P : Reply → Type 0) (accepted : List Report) (refusal : No) (code : Code) (name : List ℕ)
+    → refusal ≡ record { code = code; name = Some name; value = None } → F → Tests (λ a. Decides F (replies.No code (Some name) None) a (P a)) accepted (Err refusal)
+refuses_plainly F P accepted refusal code name e h = inl (inl (h, rw e refl))
+
+-- a refusal by a limit
+pub refuses_full : (F : Type 0) (P : Reply → Type 0) (accepted : List Report) (refusal : No) (limit : ℕ) → IsFull refusal limit → F → Tests (λ a. Decides F (replies.No Full None (Some (decimal limit))) a (P a)) accepted (Err refusal)
+refuses_full F P accepted refusal limit (inl e) h = inl (inl (h, rw e refl))
+refuses_full F P accepted refusal limit (inr e) h = lacking (λ a. Decides F (replies.No Full None (Some (decimal limit))) a (P a)) accepted refusal (replies.No Full None (Some (decimal limit))) e (inl (h, refl)) tt
+
+-- a refusal since the process ended
+pub refuses_ended : {E : Type 0} (target : Name) (accepted : List Report) (p : Name) (n : ℕ) (s : Stamp) (a : Action) (refusal : No) (r : Result (List ℕ) E)
+    → RefusesWith refusal Ended p r → IfOk r (λ t. t ≡ target) → Tests (IsStandingReply (Some target) accepted p n s a) accepted (Err refusal)
+refuses_ended target accepted p n s a refusal (Ok t) e is = inl (rw (e, is) refl)
+refuses_ended target accepted p n s a refusal (Err x) e is = lacking (IsStandingReply (Some target) accepted p n s a) accepted refusal (replies.No Ended (Some p) (Some target)) e refl tt
+
+-- an action that is no absorb asks for no retirement
+pub as_own : (accepted : List Report) (p : Name) (n : ℕ) (s : Stamp) (a : Action) (r : Result Verdict No) → IsNoAbsorb a → Tests (IsStampReply accepted p n s a) accepted r → Tests (IsWaitingReply accepted p n s a) accepted r
+as_own accepted p n s Check r own h = h
+as_own accepted p n s Present r own h = h
+as_own accepted p n s (Fork kept child given) r own h = h
+as_own accepted p n s (Retire target) r own h = h
+as_own accepted p n s (Absorb retired) r own h = absurd own
+
+pub own_id : (accepted : List Report) (p : Name) (a : Action) → IsNoAbsorb a → expected_id accepted p a ≡ registered_id p accepted
+own_id accepted p Check own = refl
+own_id accepted p Present own = refl
+own_id accepted p (Fork kept child given) own = refl
+own_id accepted p (Retire target) own = refl
+own_id accepted p (Absorb retired) own = absurd own
+
+-- an id with the points of a sum is the sum
+pub is_the_sum : (l r i : IdTree) → IsNormal l → IsNormal r → IsNormal i → AreTogether l r i → i ≡ sum_of l r
+is_the_sum l r i m n k together = equal_points i (sum_of l r) k (sums.normal l r m n) (λ p. together p ∙ sym (sums.together l r p))
+
+-- what the test for a sum tells of two ids holds of those that they are
+pub told_sum : (l r left right i : IdTree) (b : Bool) → l ≡ left → r ≡ right → AreDisjoint left right → (AreDisjoint l r → IsTrue b ↔ (i ≡ sum_of l r)) → IsTrue b ↔ (i ≡ sum_of left right)
+told_sum l r left right i b e f apart told = rw (← e, ← f) (told (rw (e, f) apart))

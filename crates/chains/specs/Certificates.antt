@@ -1,10 +1,10 @@
 -- Certificates: a recovery line with a reason chain for each process that falls below its last surviving position.
-use Rattle.std.specs.Prelude.{◌≡◌, ◌≢◌, ℕ, ◌+◌, ◌-◌, ◌<◌, List, [], ◌∷◌, ◌++◌, Option, Some, length, All, Contains, ⊤, ◌↔◌, false}
+use Rattle.std.specs.Prelude.{◌≡◌, ◌≢◌, ℕ, ◌+◌, ◌-◌, ◌<◌, List, [], ◌∷◌, ◌++◌, Some, length, All, Contains, ⊤, ◌↔◌, false}
 use Rattle.std.specs.List.Sorted.{IsStrictlyIncreasing}
 use Rattle.report_line.specs.declared.report.Report.{Report}
 use Rattle.chains.specs.declared.position.Position.{Position}
 use Rattle.chains.specs.declared.position.Position.TheVariants.{At, Retired}
-use Rattle.chains.specs.Processes.{Name, known, IsKnown}
+use Rattle.chains.specs.Processes.{Name, known}
 use Rattle.chains.specs.Elements.{elements, name_of}
 use Rattle.chains.specs.Positions.{Place, IsLastSurviving, position_in, IsCut, is_retired, rank}
 use Rattle.chains.specs.Knowledge.{Knows, IsStampConsistent}

@@ -1,35 +1,66 @@
 -- How the logic stores what chains are seen as.
-use Rattle.std.specs.Prelude.{◌≡◌, ◌⊎◌, ℕ, List, refl}
+use Rattle.std.specs.Prelude.{◌≡◌, ◌⊎◌, ℕ, zero, suc, List, refl}
 use Rattle.std.specs.Coded.{Coded, code_by, coded×, coded⊎, coded_ℕ, coded_list}
 use Rattle.std.proofs.Common.{inl, inr}
 use Rattle.id_tree.specs.IdTree.{IdTree, id_tree_code}
 use Rattle.event_tree.specs.EventTree.{EventTree, event_tree_code}
 use Rattle.stamp.specs.declared.stamp.Stamp.{Stamp}
+use Rattle.report_line.specs.declared.report.Action.{Action}
+use Rattle.report_line.specs.declared.report.Action.TheVariants.{Check, Present, Fork, Retire, Absorb}
 use Rattle.report_line.specs.declared.report.Report.{Report}
-use Rattle.report_line.specs.declared.report.Report.TheVariants.{Begin, Check}
-use Rattle.chains.specs.Answers.{Kept}
+use Rattle.report_line.specs.declared.report.Report.TheVariants.{Begin, Numbered}
+use Rattle.chains.specs.Kept.{Kept}
 
 abbrev pub stamp_code : Coded Stamp
 stamp_code = code_by (IdTree × EventTree) (coded× id_tree_code event_tree_code) (λ s. (s.id, s.events)) (λ p. record { id = p.0; events = p.1 }) (λ _. refl)
 
+abbrev pub ActionFields : Type 0
+ActionFields = ℕ ⊎ ((IdTree × (List ℕ × IdTree)) ⊎ (List ℕ ⊎ List ℕ))
+
+abbrev pub action_fields : Action → ActionFields
+action_fields Check = inl 0
+action_fields Present = inl 1
+action_fields (Fork kept child given) = inr (inl (kept, (child, given)))
+action_fields (Retire target) = inr (inr (inl target))
+action_fields (Absorb retired) = inr (inr (inr retired))
+
+abbrev pub action_of : ActionFields → Action
+action_of (inl zero) = Check
+action_of (inl (suc n)) = Present
+action_of (inr (inl f)) = Fork f.0 f.1.0 f.1.1
+action_of (inr (inr (inl target))) = Retire target
+action_of (inr (inr (inr retired))) = Absorb retired
+
+pub action_of-action_fields : (a : Action) → action_of (action_fields a) ≡ a
+action_of-action_fields Check = refl
+action_of-action_fields Present = refl
+action_of-action_fields (Fork kept child given) = refl
+action_of-action_fields (Retire target) = refl
+action_of-action_fields (Absorb retired) = refl
+
+abbrev pub action_code : Coded Action
+action_code =
+    code_by ActionFields (coded⊎ coded_ℕ (coded⊎ (coded× id_tree_code (coded× (coded_list coded_ℕ) id_tree_code)) (coded⊎ (coded_list coded_ℕ) (coded_list coded_ℕ)))) action_fields action_of action_of-action_fields
+
 abbrev pub Fields : Type 0
-Fields = List ℕ ⊎ (List ℕ × (ℕ × Stamp))
+Fields = List ℕ ⊎ (List ℕ × (ℕ × (Stamp × Action)))
 
 abbrev pub fields_of : Report → Fields
 fields_of (Begin p) = inl p
-fields_of (Check p n s) = inr (p, (n, s))
+fields_of (Numbered p n s a) = inr (p, (n, (s, a)))
 
 abbrev pub report_of : Fields → Report
 report_of (inl p) = Begin p
-report_of (inr f) = Check f.0 f.1.0 f.1.1
+report_of (inr f) = Numbered f.0 f.1.0 f.1.1.0 f.1.1.1
 
 pub report_of-fields_of : (r : Report) → report_of (fields_of r) ≡ r
 report_of-fields_of (Begin p) = refl
-report_of-fields_of (Check p n s) = refl
+report_of-fields_of (Numbered p n s a) = refl
 
 abbrev pub report_code : Coded Report
 report_code =
-    code_by Fields (coded⊎ (coded_list coded_ℕ) (coded× (coded_list coded_ℕ) (coded× coded_ℕ stamp_code))) fields_of report_of report_of-fields_of
+    code_by Fields (coded⊎ (coded_list coded_ℕ) (coded× (coded_list coded_ℕ) (coded× coded_ℕ (coded× stamp_code action_code)))) fields_of report_of report_of-fields_of
 
 abbrev pub kept_code : Coded Kept
-kept_code = code_by (List Report × ℕ) (coded× (coded_list report_code) coded_ℕ) (λ k. (k.accepted, k.room)) (λ p. record { accepted = p.0; room = p.1 }) (λ _. refl)
+kept_code =
+    code_by (List Report × (ℕ × List ℕ)) (coded× (coded_list report_code) (coded× coded_ℕ (coded_list coded_ℕ))) (λ k. (k.accepted, (k.room, k.rooms))) (λ p. record { accepted = p.0; room = p.1.0; rooms = p.1.1 }) (λ _. refl)

@@ -1,23 +1,53 @@
 -- The elements of a process: what it can be returned to.
-use Rattle.std.specs.Prelude.{ℕ, ◌+◌, zero, suc, List, [], ◌∷◌, Option, Some, None, slice_get, if◌then◌else◌}
-use Rattle.std.specs.List.{flat_map}
+use Rattle.std.specs.Prelude.{ℕ, zero, suc, Bool, List, [], ◌∷◌, ◌++◌, Option, Some, None, slice_get, if◌then◌else◌}
+use Rattle.std.specs.List.{filter_map}
 use Rattle.std.specs.Option.{option_map_or}
 use Rattle.std.specs.Str.{bytes_eq}
 use Rattle.id_tree.specs.IdTree.{One}
 use Rattle.event_tree.specs.EventTree.{Leaf}
 use Rattle.stamp.specs.declared.stamp.Stamp.{Stamp}
+use Rattle.report_line.specs.declared.report.Action.{Action}
+use Rattle.report_line.specs.declared.report.Action.TheVariants.{Check, Present, Fork, Retire, Absorb}
 use Rattle.report_line.specs.declared.report.Report.{Report}
-use Rattle.report_line.specs.declared.report.Report.TheVariants.{Begin, Check}
-use Rattle.chains.specs.Processes.{Name, known}
+use Rattle.report_line.specs.declared.report.Report.TheVariants.{Begin, Numbered}
+use Rattle.chains.specs.Processes.{Name, known, last_report}
 
--- the element of p that a report makes, if it makes one: the root's birth has the stamp 1;0, a checkpoint its own
-abbrev pub element_made : Name → Report → List Stamp
-element_made p (Begin q) = if bytes_eq p q then record { id = One; events = Leaf 0 } ∷ [] else []
-element_made p (Check q n s) = if bytes_eq p q then s ∷ [] else []
+-- a thing where the test holds
+abbrev pub only_if : {X : Type 0} → Bool → X → Option X
+only_if b x = if b then Some x else None
 
--- the elements of the process of this name, in order; each is seen as its id and events
+-- the lasting element of p that q's action under this stamp makes, if it makes one: a checkpoint its own stamp, a child's
+-- birth its part of the id with the events of the fork
+abbrev pub lasting_by : Name → Name → Stamp → Action → Option Stamp
+lasting_by p q s Check = only_if (bytes_eq p q) s
+lasting_by p q s Present = None
+lasting_by p q s (Fork kept child given) = only_if (bytes_eq p child) (record { id = given; events = s.events })
+lasting_by p q s (Retire target) = None
+lasting_by p q s (Absorb retired) = None
+
+-- the lasting element of p that a report makes, if it makes one: the root's birth has the stamp 1;0
+abbrev pub lasting_made : Name → Report → Option Stamp
+lasting_made p (Begin q) = only_if (bytes_eq p q) (record { id = One; events = Leaf 0 })
+lasting_made p (Numbered q n s a) = lasting_by p q s a
+
+-- the birth and the checkpoints of p, in order
+abbrev pub lasting_of : Name → List Report → List Stamp
+lasting_of p accepted = filter_map (lasting_made p) accepted
+
+-- the element of a report that is a present state
+abbrev pub present_in : Option Report → List Stamp
+present_in None = []
+present_in (Some (Begin p)) = []
+present_in (Some (Numbered p n s Check)) = []
+present_in (Some (Numbered p n s Present)) = s ∷ []
+present_in (Some (Numbered p n s (Fork kept child given))) = []
+present_in (Some (Numbered p n s (Retire target))) = []
+present_in (Some (Numbered p n s (Absorb retired))) = []
+
+-- The elements of the process of this name, in order: its birth, its checkpoints, and its present state, which stands
+-- until its next report. Each is seen as its id and events.
 abbrev pub elements_of : Name → List Report → List Stamp
-elements_of p accepted = flat_map (element_made p) accepted
+elements_of p accepted = lasting_of p accepted ++ present_in (last_report p accepted)
 
 -- the name of a process by its number, counted from 0 in order of birth
 abbrev pub name_of : List Report → ℕ → Option Name
@@ -26,6 +56,10 @@ name_of accepted p = slice_get (known accepted) p
 -- the elements of a process by its number
 abbrev pub elements : List Report → ℕ → List Stamp
 elements accepted p = option_map_or (λ name. elements_of name accepted) (name_of accepted p) []
+
+-- those of them that last
+abbrev pub lasting : List Report → ℕ → List Stamp
+lasting accepted p = option_map_or (λ name. lasting_of name accepted) (name_of accepted p) []
 
 -- element k, counted from 1
 abbrev pub element : List Report → ℕ → ℕ → Option Stamp

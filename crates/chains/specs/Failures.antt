@@ -1,5 +1,5 @@
 -- Sets of failed processes.
-use Rattle.std.specs.Prelude.{◌≡◌, ◌<◌, ◌++◌, ◌∷◌, ℕ, List, All, Contains, ◌↔◌, Option, Some, Result, Ok, Err, length}
+use Rattle.std.specs.Prelude.{◌≡◌, ◌<◌, ◌++◌, ◌∷◌, ℕ, Bool, false, IsTrue, slice_index_or, List, All, Contains, ◌↔◌, Some, Result, Ok, Err, length}
 use Rattle.std.specs.List.Sorted.{IsStrictlyIncreasing}
 use Rattle.report_line.specs.declared.report.Report.{Report}
 use Rattle.chains.specs.Processes.{Name, known, IsKnown}
@@ -27,3 +27,12 @@ abbrev pub FailsAs : Result (List ℕ) FailedFault → List Report → List Name
 FailsAs (Ok failed) accepted names = IsFailedSet accepted names failed
 FailsAs (Err (Unknown name)) accepted names = IsFirstUnknown accepted names name
 FailsAs (Err Memory) accepted names = All (IsKnown accepted) names
+
+-- Working definitions: a flag for each known process, set for just those that are named; and the places of set flags.
+pub record AreMarked (accepted : List Report) (names : List Name) (flags : List Bool) : Type 0 where
+  pub complete : length flags ≡ length (known accepted)
+  pub named : (p : ℕ) (name : Name) → name_of accepted p ≡ Some name → (IsTrue (slice_index_or flags p false) ↔ Contains names name)
+
+pub record AreNumbersOf (flags : List Bool) (numbers : List ℕ) : Type 0 where
+  pub in_order : IsStrictlyIncreasing numbers
+  pub just_set : (p : ℕ) → (Contains numbers p ↔ ((p < length flags) × IsTrue (slice_index_or flags p false)))

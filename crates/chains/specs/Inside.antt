@@ -1,28 +1,43 @@
 -- Working definitions: what the fields of chains are kept as.
-use Rattle.std.specs.Prelude.{◌≡◌, ℕ, ◌-◌, ◌≤◌, min, List, length, map, vec_len, vec_capacity}
+use Rattle.std.specs.Prelude.{◌≡◌, ℕ, ◌-◌, ◌≤◌, ◌<◌, min, List, length, map, slice_index_or, vec_len, vec_capacity}
 use Rattle.indexmap.specs.IndexSet.{spare}
+use Rattle.id_tree.specs.IdTree.{One}
+use Rattle.event_tree.specs.EventTree.{Leaf}
+use Rattle.stamp.specs.declared.stamp.Stamp.{Stamp}
 use Rattle.chains.specs.declared.chains.Chains.TheInside.{Inside}
 use Rattle.report_line.specs.declared.report.Report.{Report}
 use Rattle.chains.specs.declared.process.Process.{Process}
 use Rattle.chains.specs.Processes.{Name, known}
-use Rattle.chains.specs.Admission.{IsReachable, report_limit}
-use Rattle.chains.specs.Answers.{Kept}
-use Rattle.chains.specs.Keeping.{kept_of}
+use Rattle.chains.specs.Admission.{IsReachable, report_limit, process_limit}
+use Rattle.chains.specs.Kept.{Kept}
+use Rattle.chains.specs.Keeping.{kept_of, view_of}
+use Rattle.chains.specs.Room.{element_room}
 
--- the accepted list, and the least room of the three fields
+-- the accepted list, the least room of the three fields, and the room of each process
 abbrev pub kept_in : Inside → Kept
 kept_in a = record {
   accepted = a.reports.items;
   room = min (vec_capacity a.reports - vec_len a.reports) (min (spare a.names) (vec_capacity a.processes - vec_len a.processes));
+  rooms = map element_room a.processes.items;
 }
+
+-- no name stands twice
+abbrev pub AreDistinct : List Name → Type 0
+AreDistinct names = (i j : ℕ) (p : Name) → i < length names → j < length names → slice_index_or names i p ≡ slice_index_or names j p → i ≡ j
 
 -- the names are those of the known processes, and beside each stands what is kept of it
 pub record AreInOrder (accepted : List Report) (names : List Name) (processes : List Process) : Type 0 where
   pub reachable : IsReachable accepted
   pub few : length accepted ≤ report_limit
-  pub fewer : length (known accepted) ≤ 1
+  pub few_known : length (known accepted) ≤ process_limit
+  pub distinct : AreDistinct (known accepted)
   pub named : names ≡ known accepted
-  pub kept : processes ≡ map (kept_of accepted) (known accepted)
+  pub kept : map view_of processes ≡ map (kept_of accepted) (known accepted)
 
-abbrev pub IsInOrder : Inside → Type 0
-IsInOrder a = AreInOrder a.reports.items a.names.keys a.processes.items
+-- the stamp 1;0
+abbrev pub first_stamp : Stamp
+first_stamp = record { id = One; events = Leaf 0 }
+
+pub record IsInOrder (a : Inside) : Type 0 where
+  pub fields : AreInOrder a.reports.items a.names.keys a.processes.items
+  pub first : a.first ≡ first_stamp

@@ -1,6 +1,6 @@
 -- Working definitions: what is kept of each process beside the accepted list, and the tests of a report.
-use Rattle.std.specs.Prelude.{◌≡◌, ◌⊎◌, ℕ, suc, ◌+◌, Bool, List, [], ◌∷◌, Option, Some, None, Result, Ok, Err, count_by, length, if◌then◌else◌}
-use Rattle.std.specs.Option.{option_map}
+use Rattle.std.specs.Prelude.{◌≡◌, ◌⊎◌, ℕ, suc, ◌+◌, Bool, List, [], ◌∷◌, ◌++◌, Option, Some, None, Result, Ok, Err, length, if◌then◌else◌}
+use Rattle.std.specs.Option.{option_map, unwrap_or, is_some}
 use Rattle.report_line.specs.declared.code.Code.TheVariants.{OutOfMemory}
 use Rattle.report_line.specs.declared.report.Report.{Report}
 use Rattle.report_line.specs.declared.reply.Reply.{Reply}
@@ -9,8 +9,8 @@ use Rattle.chains.specs.declared.process.Process.{Process}
 use Rattle.chains.specs.declared.tests.Verdict.{Verdict}
 use Rattle.chains.specs.declared.tests.Verdict.TheVariants.{Old, Fits}
 use Rattle.chains.specs.declared.refusal.No.{No}
-use Rattle.chains.specs.Processes.{Name, is_numbered_of, registered_id, first_of}
-use Rattle.chains.specs.Elements.{elements_of}
+use Rattle.chains.specs.Processes.{Name, reports_of, is_numbered_of, is_birth_of, is_absorbed, first_of}
+use Rattle.chains.specs.Elements.{lasting_made}
 use Rattle.chains.specs.Admission.{TakesMemory}
 
 -- the index of the last element that passes a test
@@ -18,18 +18,36 @@ abbrev pub last_index : {X : Type 0} → (X → Bool) → List X → Option ℕ
 last_index test [] = None
 last_index test (x ∷ xs) = first_of (option_map (λ i. suc i) (last_index test xs)) (if test x then Some 0 else None)
 
--- what is kept of a process
-abbrev pub kept_of : List Report → Name → Process
+-- the indexes, counted from n, of the elements of which something is made
+abbrev pub indexes_from : {X Y : Type 0} → (X → Option Y) → ℕ → List X → List ℕ
+indexes_from made n [] = []
+indexes_from made n (x ∷ xs) = (if is_some (made x) then n ∷ [] else []) ++ indexes_from made (suc n) xs
+
+-- What is kept of a process: how many reports with a number, the index of the last of them and of the one by which it is
+-- born, the indexes of those that made its lasting elements, and whether its retirement was absorbed.
+pub record KeptProcess : Type 0 where
+  pub reports : ℕ
+  pub last : Option ℕ
+  pub birth : ℕ
+  pub lasting : List ℕ
+  pub absorbed : Bool
+
+abbrev pub kept_of : List Report → Name → KeptProcess
 kept_of accepted p = record {
-  reports = count_by (is_numbered_of p) accepted;
+  reports = reports_of p accepted;
   last = last_index (is_numbered_of p) accepted;
-  elements = length (elements_of p accepted);
-  registered = registered_id p accepted;
+  birth = unwrap_or (last_index (is_birth_of p) accepted) 0;
+  lasting = indexes_from (lasting_made p) 0 accepted;
+  absorbed = is_absorbed p accepted;
 }
+
+-- a process as it is kept
+abbrev pub view_of : Process → KeptProcess
+view_of k = record { reports = k.reports; last = k.last; birth = k.birth; lasting = k.lasting.items; absorbed = k.absorbed }
 
 -- the result of tests that stand for a reply with this meaning, where the front is that of the accepted list
 abbrev pub Tests : (Reply → Type 0) → List Report → Result Verdict No → Type 0
-Tests P accepted (Ok (Old front)) = P (replies.Old front)
+Tests P accepted (Ok Old) = P (replies.Old (length accepted))
 Tests P accepted (Ok Fits) = P (replies.Accepted (length accepted + 1))
 Tests P accepted (Err refusal) =
     P (replies.No refusal.code refusal.name refusal.value)

@@ -1,5 +1,5 @@
 -- What a place knows of other processes (the profile of the clocks), and which cuts are consistent by it.
-use Rattle.std.specs.Prelude.{◌≡◌, ◌≢◌, ℕ, ◌+◌, ◌≤◌, ◌<◌, List, length, Option, Some, None}
+use Rattle.std.specs.Prelude.{◌≡◌, ◌≢◌, ℕ, ◌≤◌, ◌<◌, List, length, Option, Some, None, if◌then◌else◌}
 use Rattle.std.specs.Option.{option_map}
 use Rattle.event_tree.specs.EventTree.{EventTree}
 use Rattle.event_tree.specs.Values.{ExceedsOn}
@@ -7,17 +7,21 @@ use Rattle.stamp.specs.declared.stamp.Stamp.{Stamp}
 use Rattle.report_line.specs.declared.report.Report.{Report}
 use Rattle.chains.specs.declared.position.Position.{Position}
 use Rattle.chains.specs.declared.position.Position.TheVariants.{At, Retired}
-use Rattle.chains.specs.Processes.{known}
-use Rattle.chains.specs.Elements.{element}
-use Rattle.chains.specs.Positions.{Place, position_in}
+use Rattle.chains.specs.Processes.{known, last_events}
+use Rattle.chains.specs.Elements.{name_of, element}
+use Rattle.chains.specs.Positions.{Place, is_retired, position_in}
 
--- the events of a place: those of its element, or of the retirement (no report that is taken so far is one)
+-- the events of a retired process are those of its retirement, which is its last report
+abbrev pub retired_events : List Report → ℕ → Option EventTree
+retired_events accepted p = if is_retired accepted p then option_map (λ name. last_events name accepted) (name_of accepted p) else None
+
+-- the events of a place: those of its element, or of the retirement
 abbrev pub events_at : List Report → Place → Option EventTree
 events_at accepted x = events_of x.position
   where
     events_of : Position → Option EventTree
     events_of (At k) = option_map (λ y. y.events) (element accepted x.process k)
-    events_of Retired = None
+    events_of Retired = retired_events accepted x.process
 
 -- the place is beyond the element: greater at some point that the element's id owns
 pub record IsBeyond (accepted : List Report) (x : Place) (y : Stamp) : Type 0 where

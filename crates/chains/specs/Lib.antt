@@ -11,3 +11,12 @@ pub mod Failures
 pub mod Codes
 pub mod Keeping
 pub mod Inside
+pub mod Kept
+pub mod Ready
+pub mod Birth
+pub mod States
+pub mod Laws
+pub mod Testing
+pub mod Noting
+pub mod Room
+pub mod Stamps

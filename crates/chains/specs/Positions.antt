@@ -1,30 +1,25 @@
 -- Positions of processes, and cuts. Processes go by their numbers, counted from 0 in order of birth.
-use Rattle.std.specs.Prelude.{◌≡◌, ◌⊎◌, ℕ, ◌+◌, ◌≤◌, ◌<◌, Bool, true, false, List, length, Contains, ⊤, if◌then◌else◌, slice_index_or}
-use Rattle.std.specs.List.{list_any}
+use Rattle.std.specs.Prelude.{◌≡◌, ◌⊎◌, ℕ, ◌+◌, ◌≤◌, ◌<◌, Bool, true, false, List, length, Contains, slice_index_or}
+use Rattle.std.specs.Option.{option_map_or, is_some}
 use Rattle.report_line.specs.declared.report.Report.{Report}
-use Rattle.report_line.specs.declared.report.Report.TheVariants.{Begin, Check}
 use Rattle.chains.specs.declared.position.Position.{Position}
 use Rattle.chains.specs.declared.position.Position.TheVariants.{At, Retired}
-use Rattle.chains.specs.Processes.{known}
-use Rattle.chains.specs.Elements.{elements}
+use Rattle.chains.specs.Processes.{known, target_of}
+use Rattle.chains.specs.Elements.{name_of, elements, lasting}
 
 -- A position is At 0 (unborn), At an element's number, or Retired. A place is a position of a process.
 pub record Place : Type 0 where
   pub process : ℕ
   pub position : Position
 
--- whether the report ends its process; none of those that are taken so far does
-abbrev pub is_retirement : Report → Bool
-is_retirement (Begin p) = false
-is_retirement (Check p n s) = false
-
+-- whether the process retired
 abbrev pub is_retired : List Report → ℕ → Bool
-is_retired accepted p = list_any is_retirement accepted
+is_retired accepted p = option_map_or (λ name. is_some (target_of name accepted)) (name_of accepted p) false
 
--- Of these failed processes, the position survives: an element of the process, or Retired once it retired. (An element
--- that is the present state of a failed process would not; no report that is taken so far makes one.)
+-- Of these failed processes, the position survives: an element of the process, for a failed process one that lasts (its
+-- present state is lost); or Retired once it retired.
 abbrev pub IsSurviving : List Report → List ℕ → ℕ → Position → Type 0
-IsSurviving accepted failed p (At k) = (1 ≤ k) × (k ≤ length (elements accepted p))
+IsSurviving accepted failed p (At k) = (1 ≤ k) × (k ≤ length (elements accepted p)) × (Contains failed p → k ≤ length (lasting accepted p))
 IsSurviving accepted failed p Retired = is_retired accepted p ≡ true
 
 -- the place of a position in the order unborn, elements, retired

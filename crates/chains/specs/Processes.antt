@@ -1,20 +1,33 @@
 -- What an accepted list says of processes. An accepted list has its reports in the order of their acceptance.
 use Rattle.std.specs.Prelude.{◌≡◌, ℕ, ◌+◌, Bool, false, List, [], ◌∷◌, Option, Some, None, count_by, Contains, if◌then◌else◌}
-use Rattle.std.specs.List.{filter_map}
+use Rattle.std.specs.List.{filter_map, list_any}
+use Rattle.std.specs.Option.{option_map_or}
 use Rattle.std.specs.Str.{bytes_eq}
 use Rattle.id_tree.specs.IdTree.{IdTree, Zero, One}
+use Rattle.id_tree.specs.Sum.{sum_of}
 use Rattle.event_tree.specs.EventTree.{EventTree, Leaf}
+use Rattle.stamp.specs.declared.stamp.Stamp.{Stamp}
+use Rattle.report_line.specs.declared.report.Action.{Action}
+use Rattle.report_line.specs.declared.report.Action.TheVariants.{Check, Present, Fork, Retire, Absorb}
 use Rattle.report_line.specs.declared.report.Report.{Report}
-use Rattle.report_line.specs.declared.report.Report.TheVariants.{Begin, Check}
+use Rattle.report_line.specs.declared.report.Report.TheVariants.{Begin, Numbered}
 
 -- a name, as its bytes
 abbrev pub Name : Type 0
 Name = List ℕ
 
+-- the child that the action makes, if it makes one
+abbrev pub child_of : Action → Option Name
+child_of Check = None
+child_of Present = None
+child_of (Fork kept child given) = Some child
+child_of (Retire target) = None
+child_of (Absorb retired) = None
+
 -- the process that is born by the report, if one is
 abbrev pub newborn : Report → Option Name
 newborn (Begin p) = Some p
-newborn (Check p n s) = None
+newborn (Numbered p n s a) = child_of a
 
 -- the known processes, in order of birth: BEGIN's first
 abbrev pub known : List Report → List Name
@@ -23,14 +36,20 @@ known accepted = filter_map newborn accepted
 abbrev pub IsKnown : List Report → Name → Type 0
 IsKnown accepted p = Contains (known accepted) p
 
+-- ---- the reports of a process
+
 -- whether it is a report of p with a number; BEGIN has none
 abbrev pub is_numbered_of : Name → Report → Bool
 is_numbered_of p (Begin q) = false
-is_numbered_of p (Check q n s) = bytes_eq p q
+is_numbered_of p (Numbered q n s a) = bytes_eq p q
 
--- the number that the next report of p has to have: one more than the numbered reports so far
+-- how many reports with a number are accepted of p
+abbrev pub reports_of : Name → List Report → ℕ
+reports_of p accepted = count_by (is_numbered_of p) accepted
+
+-- the number that the next report of p has to have
 abbrev pub next_number : Name → List Report → ℕ
-next_number p accepted = count_by (is_numbered_of p) accepted + 1
+next_number p accepted = reports_of p accepted + 1
 
 -- the first of two that is there
 abbrev pub first_of : {X : Type 0} → Option X → Option X → Option X
@@ -46,23 +65,95 @@ last_passing test (x ∷ xs) = first_of (last_passing test xs) (if test x then S
 abbrev pub last_report : Name → List Report → Option Report
 last_report p accepted = last_passing (is_numbered_of p) accepted
 
--- the events that a process has after its last report, or at its birth
+-- whether p is born by the report
+abbrev pub is_birth_of : Name → Report → Bool
+is_birth_of p r = option_map_or (λ q. bytes_eq p q) (newborn r) false
+
+-- the report by which p is born
+abbrev pub birth_report : Name → List Report → Option Report
+birth_report p accepted = last_passing (is_birth_of p) accepted
+
+-- ---- events and ids
+
+-- the events after the report: a root begins with none, and a child with those of the fork
 abbrev pub events_after : Option Report → EventTree
 events_after None = Leaf 0
 events_after (Some (Begin p)) = Leaf 0
-events_after (Some (Check p n s)) = s.events
+events_after (Some (Numbered p n s a)) = s.events
 
+-- the events that a process has after its last report, or before that at its birth
 abbrev pub last_events : Name → List Report → EventTree
-last_events p accepted = events_after (last_report p accepted)
+last_events p accepted = events_after (first_of (last_report p accepted) (birth_report p accepted))
 
--- the id that is registered of p, from report to report: the root's is everything
-abbrev pub id_after : Name → IdTree → Report → IdTree
-id_after p id (Begin q) = if bytes_eq p q then One else id
-id_after p id (Check q n s) = id
+-- The id that a process has after its action under this stamp: a fork keeps one part, and else it is the stamp's. (The tests
+-- see to it that this is the one registered before, or for an absorb the sum.)
+abbrev pub id_kept : Stamp → Action → IdTree
+id_kept s Check = s.id
+id_kept s Present = s.id
+id_kept s (Fork kept child given) = kept
+id_kept s (Retire target) = s.id
+id_kept s (Absorb retired) = s.id
 
-abbrev pub registered_from : Name → IdTree → List Report → IdTree
-registered_from p id [] = id
-registered_from p id (r ∷ rs) = registered_from p (id_after p id r) rs
+-- the id that a child begins with
+abbrev pub id_given : Action → IdTree
+id_given Check = Zero
+id_given Present = Zero
+id_given (Fork kept child given) = given
+id_given (Retire target) = Zero
+id_given (Absorb retired) = Zero
 
+-- the id at birth: a root has everything
+abbrev pub id_at_birth : Option Report → IdTree
+id_at_birth None = Zero
+id_at_birth (Some (Begin p)) = One
+id_at_birth (Some (Numbered p n s a)) = id_given a
+
+-- the id after the last report, or before that at birth
+abbrev pub id_after : Option Report → Option Report → IdTree
+id_after None birth = id_at_birth birth
+id_after (Some (Begin p)) birth = One
+id_after (Some (Numbered p n s a)) birth = id_kept s a
+
+-- the id that is registered of p; of a retired process, the one that goes to its target
 abbrev pub registered_id : Name → List Report → IdTree
-registered_id p accepted = registered_from p Zero accepted
+registered_id p accepted = id_after (last_report p accepted) (birth_report p accepted)
+
+-- ---- retirements
+
+-- the target, if the report is a retirement
+abbrev pub target_after : Option Report → Option Name
+target_after None = None
+target_after (Some (Begin p)) = None
+target_after (Some (Numbered p n s Check)) = None
+target_after (Some (Numbered p n s Present)) = None
+target_after (Some (Numbered p n s (Fork kept child given))) = None
+target_after (Some (Numbered p n s (Retire target))) = Some target
+target_after (Some (Numbered p n s (Absorb retired))) = None
+
+-- the process into which p retired, if it did
+abbrev pub target_of : Name → List Report → Option Name
+target_of p accepted = target_after (last_report p accepted)
+
+-- whether the report absorbs the retirement of p
+abbrev pub is_absorb_of : Name → Report → Bool
+is_absorb_of p (Begin q) = false
+is_absorb_of p (Numbered q n s Check) = false
+is_absorb_of p (Numbered q n s Present) = false
+is_absorb_of p (Numbered q n s (Fork kept child given)) = false
+is_absorb_of p (Numbered q n s (Retire target)) = false
+is_absorb_of p (Numbered q n s (Absorb retired)) = bytes_eq p retired
+
+abbrev pub is_absorbed : Name → List Report → Bool
+is_absorbed p accepted = list_any (is_absorb_of p) accepted
+
+-- r retired into q, and was not absorbed
+abbrev pub Waits : List Report → Name → Name → Type 0
+Waits accepted r q = (target_of r accepted ≡ Some q) × (is_absorbed r accepted ≡ false)
+
+-- the id that the stamp of a report has to have: the registered one, for an absorb with that of the retirement
+abbrev pub expected_id : List Report → Name → Action → IdTree
+expected_id accepted p Check = registered_id p accepted
+expected_id accepted p Present = registered_id p accepted
+expected_id accepted p (Fork kept child given) = registered_id p accepted
+expected_id accepted p (Retire target) = registered_id p accepted
+expected_id accepted p (Absorb retired) = sum_of (registered_id p accepted) (registered_id retired accepted)

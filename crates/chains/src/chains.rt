@@ -1,26 +1,43 @@
 //! The accepted reports, and what they say of processes.
 
-ghost use Rattle.std.specs.Prelude.{◌≡◌, ◌≤◌, ◌<◌, ◌+◌, ◌∷◌, ◌++◌, [], ⊤, IfOk, MatchResult, MatchOption, OnOk, length, slice_get, option_copied, Some, map, min, vec_len, vec_capacity, ◌-◌, All};
+ghost use Rattle.std.specs.Prelude.{◌≡◌, ◌≢◌, ◌≤◌, ◌<◌, ◌+◌, ◌∷◌, ◌++◌, ℕ, [], ⊤, IfOk, MatchResult, MatchOption, IsTrue, ◌↔◌, OnOk, length, slice_get, option_copied, Some, None, true, map, min, vec_len, vec_capacity, ◌-◌, ◌^◌, nat_eq, slice_index_or, slice_set};
+ghost use Rattle.std.specs.Option.{option_map};
 ghost use Rattle.report_line.specs.declared.reply.Reply.TheVariants.{Accepted};
-ghost use Rattle.report_line.specs.declared.report.Report.TheVariants as reports;
-ghost use Rattle.chains.specs.Processes.{known, IsKnown};
-ghost use Rattle.chains.specs.Elements.{name_of};
+ghost use Rattle.id_tree.specs.IdTree.{One};
+ghost use Rattle.event_tree.specs.EventTree.{Leaf};
+ghost use Rattle.chains.specs.Processes.{Name as AnyName, known, newborn, IsKnown, reports_of, last_report, birth_report, id_after, id_at_birth, events_after, registered_id, last_events, target_of, is_absorbed};
+ghost use Rattle.chains.specs.Elements.{name_of, elements, elements_of, lasting_of, lasting_made, present_in};
+ghost use Rattle.chains.specs.Stamps.{stamp_of};
 ghost use Rattle.chains.specs.Positions.{IsLastSurviving};
-ghost use Rattle.chains.specs.Admission.{IsReachable, IsAdmission, report_limit};
-ghost use Rattle.chains.specs.Answers.{IsReady, Prepares, Commits, reply_of};
+ghost use Rattle.chains.specs.States.{IsStateOf};
+ghost use Rattle.chains.specs.Admission.{IsReachable, IsAdmission, report_limit, process_limit};
+ghost use Rattle.chains.specs.Kept.{Kept, HasRoomFor};
+ghost use Rattle.chains.specs.Inside.{first_stamp};
+ghost use Rattle.chains.specs.Answers.{IsReady, MayBeAccepted, Prepares, Commits, IsNumberOf, reply_of};
 ghost use Rattle.chains.specs.Turns.{Fate, IsReportTurn};
-ghost use Rattle.chains.specs.Failures.{FailsAs, IsFirstUnknown};
-ghost use Rattle.chains.specs.Keeping.{kept_of, Tests};
+ghost use Rattle.chains.specs.Keeping.{kept_of, view_of, Tests};
+ghost use Rattle.chains.specs.Laws.{ArePartsOfAll, NeverFall};
+ghost use Rattle.chains.specs.Testing.{IsNumberIn};
+ghost use Rattle.chains.specs.Noting.{noted, born, is_check, names_after, changed_at, IsTakenBy, IsKeptBy, IsFound, IsPlaceWithin, HasPlace};
+ghost use Rattle.chains.specs.Room.{element_room, HasNoteRoom, MayBeKept};
+ghost use Rattle.chains.specs.declared.process.Process.{Process as AnyProcess};
+ghost use Rattle.indexmap.specs.IndexSet.{spare, insert_key};
+ghost use Rattle.std.specs.Cmp.Lexicographic.{pointwise};
 
-use crate::failed::{Failed, FailedFault};
+use crate::copies::{copy_names, copy_processes, share_all};
+use crate::elements::{Element, Elements};
+use crate::failed::Failed;
 use crate::position::Position;
-use crate::prepared::Prepared;
+use crate::prepared::{Prepared, Ready};
 use crate::process::Process;
 use crate::refusal::{Admitted, No};
-use crate::tests::{Verdict, out_of_memory, test_begin, test_check};
+use crate::shared::Shared;
+use crate::state::State;
+use crate::tests::{Verdict, is_birth, out_of_memory};
+use event_tree::Events;
 use id_tree::Id;
 use indexmap::IndexSet;
-use report_line::{Code, Name, Report};
+use report_line::{Action, Name, Report};
 use stamp::Stamp;
 use std::alloc::{AllocError, Global};
 use std::marker::Model;
@@ -29,7 +46,9 @@ use std::marker::Model;
 #[derive(Drop)]
 pub struct Chains {
     alloc: Global,
-    reports: Vec<Report>,
+    /// The stamp of a root at its birth.
+    first: Stamp,
+    reports: Vec<Shared>,
     /// The known processes, in order of birth.
     names: IndexSet<Name>,
     /// What is kept of each of them.
@@ -37,7 +56,7 @@ pub struct Chains {
 }
 
 impl Model for Chains {
-    ghost use Rattle.chains.specs.Answers.{Kept};
+    ghost use Rattle.chains.specs.Kept.{Kept};
     ghost use Rattle.chains.specs.Codes.{kept_code};
 
     ghost Value = { Kept };
@@ -58,10 +77,27 @@ impl Chains {
     {
         Chains {
             alloc,
+            first: Stamp::first(alloc),
             reports: Vec::new(alloc),
             names: IndexSet::new(alloc),
             processes: Vec::new(alloc),
         }
+    }
+
+    /// The same reports once more, each of which both chains share.
+    pub fn copy(&self) -> Result<Chains, AllocError>
+        ensures { IfOk result (λ copy. copy.accepted ≡ self.now.accepted) }
+    {
+        let reports = share_all(self.alloc, &self.reports)?;
+        let names = copy_names(self.alloc, self.names.as_slice())?;
+        let processes = copy_processes(self.alloc, &self.processes)?;
+        Ok(Chains {
+            alloc: self.alloc,
+            first: Stamp::first(self.alloc),
+            reports,
+            names,
+            processes,
+        })
     }
 
     /// The allocator that the chains were made with.
@@ -73,7 +109,11 @@ impl Chains {
     pub fn lawful(&self)
         ensures reachable { IsReachable self.now.accepted }
         ensures few { length self.now.accepted ≤ report_limit }
-        ensures fewer { length (known self.now.accepted) ≤ 1 }
+        ensures few_known { length (known self.now.accepted) ≤ process_limit }
+        // The ids of live processes and of retirements that wait.
+        ensures parts { ArePartsOfAll self.now.accepted }
+        // The events of a process, from report to report.
+        ensures rising { NeverFall self.now.accepted }
     {
         let _reports = &self.reports;
     }
@@ -101,64 +141,214 @@ impl Chains {
     }
 
     /// The root, once it has begun.
-    fn root(&self) -> Option<&Name>
+    pub(crate) fn root(&self) -> Option<&Name>
         ensures { option_copied result ≡ slice_get (known self.now.accepted) 0 }
     {
         self.names.first()
     }
 
-    /// What is kept of the process of this name.
-    fn look_up(&self, name: &Name) -> Option<&Process>
-        ensures { MatchOption result (¬ IsKnown self.now.accepted name.now)
-            (λ kept. IsKnown self.now.accepted name.now × (kept.now ≡ kept_of self.now.accepted name.now)) }
+    /// The number of the process of this name, counted from 0 in order of birth.
+    pub(crate) fn number_of(&self, name: &Name) -> Option<u32>
+        ensures { MatchOption result (¬ IsKnown self.now.accepted name.now) (λ p. name_of self.now.accepted p ≡ Some name.now) }
     {
         match self.names.get_index_of(name) {
             None => None,
-            Some(number) => Some(&self.processes[number]),
+            Some(place) => Some(place as u32),
         }
     }
 
-    /// All tests of a report but that of memory.
-    fn test(&self, report: &Report) -> Result<Verdict, No>
-        ensures { Tests (IsAdmission self.now.accepted report.now) self.now.accepted result }
+    // ---- what is kept of a process, by its number
+
+    /// How many reports with a number are accepted of it.
+    pub(crate) fn reports_of(&self, process: u32) -> u32
+        requires { process < length (known self.now.accepted) }
+        ensures { (p : AnyName) → name_of self.now.accepted process ≡ Some p → result ≡ reports_of p self.now.accepted }
     {
-        let accepted = self.reports.as_slice();
-        match report {
-            Report::Begin { process } => test_begin(self.alloc, accepted, self.root(), process),
-            Report::Check {
-                process,
-                number,
-                stamp,
-            } => {
-                if accepted.is_empty() {
-                    return Err(No {
-                        code: Code::NothingBegun,
-                        name: None,
-                        value: None,
-                    });
-                }
-                match self.look_up(process) {
-                    None => Err(No {
-                        code: Code::UnknownProcess,
-                        name: Some(process.copy()),
-                        value: None,
-                    }),
-                    Some(kept) => {
-                        test_check(self.alloc, accepted, kept, report, process, *number, stamp)
-                    }
-                }
-            }
+        self.processes[process as usize].reports
+    }
+
+    /// The last of its reports with a number.
+    pub(crate) fn last_report(&self, process: u32) -> Option<&Report>
+        requires { process < length (known self.now.accepted) }
+        ensures { (p : AnyName) → name_of self.now.accepted process ≡ Some p → option_copied result ≡ last_report p self.now.accepted }
+    {
+        match self.processes[process as usize].last {
+            None => None,
+            Some(index) => Some(self.reports[index as usize].get()),
         }
     }
 
-    /// Makes room for one more report.
-    fn grow(&mut self) -> Result<(), AllocError>
+    /// The report by which it is born.
+    pub(crate) fn birth_report(&self, process: u32) -> &Report
+        requires { process < length (known self.now.accepted) }
+        ensures { (p : AnyName) → name_of self.now.accepted process ≡ Some p → birth_report p self.now.accepted ≡ Some result.now }
+    {
+        let birth = self.processes[process as usize].birth;
+        self.reports[birth as usize].get()
+    }
+
+    /// Whether its retirement was absorbed.
+    pub(crate) fn is_absorbed(&self, process: u32) -> bool
+        requires { process < length (known self.now.accepted) }
+        ensures { (p : AnyName) → name_of self.now.accepted process ≡ Some p → result ≡ is_absorbed p self.now.accepted }
+    {
+        self.processes[process as usize].absorbed
+    }
+
+    /// Its registered id.
+    pub(crate) fn registered_id(&self, process: u32) -> &Id
+        requires { process < length (known self.now.accepted) }
+        ensures { (p : AnyName) → name_of self.now.accepted process ≡ Some p → result.now ≡ registered_id p self.now.accepted }
+    {
+        match self.last_report(process) {
+            Some(report) => id_kept(report, &self.first.id),
+            None => id_at_birth(self.birth_report(process), &self.first.id),
+        }
+    }
+
+    /// The events after its last report, or at its birth.
+    pub(crate) fn last_events(&self, process: u32) -> &Events
+        requires { process < length (known self.now.accepted) }
+        ensures { (p : AnyName) → name_of self.now.accepted process ≡ Some p → result.now ≡ last_events p self.now.accepted }
+    {
+        match self.last_report(process) {
+            Some(report) => events_after(report, &self.first.events),
+            None => events_after(self.birth_report(process), &self.first.events),
+        }
+    }
+
+    /// The process into which it retired, if it did.
+    pub(crate) fn target_of(&self, process: u32) -> Option<&Name>
+        requires { process < length (known self.now.accepted) }
+        ensures { (p : AnyName) → name_of self.now.accepted process ≡ Some p → option_copied result ≡ target_of p self.now.accepted }
+    {
+        match self.last_report(process) {
+            Some(
+                Report::Numbered {
+                    action: Action::Retire { target },
+                    ..
+                },
+            ) => Some(target),
+            _ => None,
+        }
+    }
+
+    /// How many elements it has.
+    pub(crate) fn element_count(&self, process: u32) -> u32
+        requires { process < length (known self.now.accepted) }
+        ensures { (p : AnyName) → name_of self.now.accepted process ≡ Some p → result ≡ length (elements_of p self.now.accepted) }
+    {
+        self.lasting_count(process) + present_count(self.last_report(process))
+    }
+
+    /// How many elements it has that last: its birth and its checkpoints.
+    pub(crate) fn lasting_count(&self, process: u32) -> u32
+        requires { process < length (known self.now.accepted) }
+        ensures count { (p : AnyName) → name_of self.now.accepted process ≡ Some p → result ≡ length (lasting_of p self.now.accepted) }
+        ensures few { result ≤ report_limit }
+    {
+        self.processes[process as usize].lasting.len() as u32
+    }
+
+    /// The elements of a process by its number, in order. It takes no memory.
+    pub fn elements(&self, process: u32) -> Elements<'_>
+        requires { process < length (known self.now.accepted) }
+        ensures { result ≡ elements self.now.accepted process }
+    {
+        Elements::of(self, process)
+    }
+
+    /// Element k of a process by its number, counted from 0.
+    pub(crate) fn element(&self, process: u32, k: u32) -> Option<Element<'_>>
+        requires { process < length (known self.now.accepted) }
+        ensures { option_map stamp_of result ≡ slice_get (elements self.now.accepted process) k }
+    {
+        let lasting = self.lasting_count(process);
+        if k < lasting {
+            Some(element_made(self.lasting_report(process, k), &self.first))
+        } else if k == lasting {
+            element_present(self.last_report(process))
+        } else {
+            None
+        }
+    }
+
+    /// The report that made the lasting element k of a process, counted from 0.
+    fn lasting_report(&self, process: u32, k: u32) -> &Report
+        requires process { process < length (known self.now.accepted) }
+        requires within { (p : AnyName) → name_of self.now.accepted process ≡ Some p → k < length (lasting_of p self.now.accepted) }
+        ensures { (p : AnyName) → name_of self.now.accepted process ≡ Some p → lasting_made p result.now ≡ slice_get (lasting_of p self.now.accepted) k }
+    {
+        let index = self.processes[process as usize].lasting[k as usize];
+        self.reports[index as usize].get()
+    }
+
+    /// What is kept of the process of this name, if it is known. It takes no memory.
+    pub fn state(&self, name: &Name) -> Option<State<'_>>
+        ensures { MatchOption result (¬ IsKnown self.now.accepted name.now) (λ state. IsKnown self.now.accepted name.now × IsStateOf self.now.accepted name.now state) }
+    {
+        let process = self.number_of(name)?;
+        let id = match self.target_of(process) {
+            Some(_) => None,
+            None => Some(self.registered_id(process)),
+        };
+        Some(State {
+            reports: self.reports_of(process),
+            elements: self.element_count(process),
+            id,
+        })
+    }
+
+    /// The last surviving position of a process by its number. It takes no memory.
+    pub fn last_surviving(&self, process: u32, failed: &Failed) -> Position
+        requires { process < length (known self.now.accepted) }
+        ensures { IsLastSurviving self.now.accepted failed.now process result }
+    {
+        if self.target_of(process).is_some() {
+            return Position::Retired;
+        }
+        if failed.contains(process) {
+            Position::At(self.lasting_count(process))
+        } else {
+            Position::At(self.element_count(process))
+        }
+    }
+
+    // ---- admission
+
+    /// Makes room for one more report, of the process of this number if it is that of a known one.
+    fn grow(&mut self, number: Option<u32>) -> Result<(), AllocError>
+        requires { IsPlaceWithin number (length (known self.old.accepted)) }
         ensures same { self.new.accepted ≡ self.old.accepted }
         ensures room { OnOk result (0 < self.new.room) }
+        ensures element_room { OnOk result (HasPlace number self.new.rooms) }
     {
         self.reports.reserve(1)?;
         self.names.reserve(1)?;
-        self.processes.reserve(1)
+        self.processes.reserve(1)?;
+        reserve_element(&mut self.processes, number)
+    }
+
+    /// Makes every growth that accepting a report needs.
+    fn ready(&mut self, report: Report, number: Option<u32>) -> Result<Ready, AllocError>
+        requires number { IsNumberIn self.old.accepted report number }
+        requires known { IsFound report number }
+        ensures same { self.new.accepted ≡ self.old.accepted }
+        ensures report { IfOk result (λ r. r.report ≡ report) }
+        ensures ready { IfOk result (λ r. IsNumberOf self.new.accepted report r.process × (0 < self.new.room) × HasRoomFor self.new report r.process) }
+    {
+        self.grow(number)?;
+        let lasting = if is_birth(&report) {
+            Vec::with_capacity(self.alloc, 1)?
+        } else {
+            Vec::new(self.alloc)
+        };
+        let report = Shared::new(self.alloc, report)?;
+        Ok(Ready {
+            report,
+            process: number.unwrap_or(0),
+            lasting,
+        })
     }
 
     /// Makes the tests of a report and every growth that accepting it needs. The accepted list stays as it is, also
@@ -168,58 +358,40 @@ impl Chains {
         ensures answer { Prepares self.old.accepted report.now result }
         ensures ready { IfOk result (λ prepared. IsReady prepared self.new) }
     {
-        match self.test(report)? {
-            Verdict::Old(front) => Ok(Prepared::Old(front)),
+        let number = self.number_in(report);
+        match self.test(report, number)? {
+            Verdict::Old => Ok(Prepared::Old(self.front())),
             Verdict::Fits => {
-                let Ok(()) = self.grow() else {
-                    return Err(out_of_memory());
-                };
                 let Ok(copy) = report.copy(self.alloc) else {
                     return Err(out_of_memory());
                 };
-                Ok(Prepared::Ready(copy))
+                match self.ready(copy, number) {
+                    Ok(ready) => Ok(Prepared::Ready(ready)),
+                    Err(_) => Err(out_of_memory()),
+                }
             }
         }
     }
 
-    /// Accepts the root's `BEGIN`.
-    fn accept_begin(&mut self, process: &Name)
-        requires admitted { IsAdmission self.old.accepted (reports.Begin process.now) (Accepted (length self.old.accepted + 1)) }
-        requires room { 0 < self.old.room }
-        ensures { self.new.accepted ≡ self.old.accepted ++ reports.Begin process.now ∷ [] }
+    /// Accepts a report.
+    fn accept(&mut self, ready: Ready)
+        requires { MayBeAccepted self.old ready }
+        ensures { self.new.accepted ≡ self.old.accepted ++ ready.report ∷ [] }
     {
-        let report = Report::Begin {
-            process: process.copy(),
-        };
-        let root = Process {
-            reports: 0,
-            last: None,
-            elements: 1,
-            registered: Id::one(self.alloc),
-        };
-        let _ = self.names.insert(process.copy());
-        self.processes.push_reserved(root);
-        self.reports.push_reserved(report);
-    }
-
-    /// Accepts a checkpoint.
-    fn accept_check(&mut self, process: &Name, number: u32, stamp: Stamp)
-        requires admitted { IsAdmission self.old.accepted (reports.Check process.now number stamp) (Accepted (length self.old.accepted + 1)) }
-        requires room { 0 < self.old.room }
-        ensures { self.new.accepted ≡ self.old.accepted ++ reports.Check process.now number stamp ∷ [] }
-    {
-        let report = Report::Check {
-            process: process.copy(),
-            number,
-            stamp,
-        };
-        let Some(place) = self.names.get_index_of(process) else {
-            unreachable!();
-        };
-        let kept = &mut self.processes[place];
-        kept.reports += 1;
-        kept.elements += 1;
-        kept.last = Some(self.reports.len() as u32);
+        let front = self.reports.len() as u32;
+        let Ready {
+            report,
+            process,
+            lasting,
+        } = ready;
+        keep(
+            &mut self.names,
+            &mut self.processes,
+            report.get(),
+            process as usize,
+            front,
+            lasting,
+        );
         self.reports.push_reserved(report);
     }
 
@@ -230,15 +402,8 @@ impl Chains {
     {
         match prepared {
             Prepared::Old(front) => Admitted::Old(front),
-            Prepared::Ready(report) => {
-                match report {
-                    Report::Begin { process } => self.accept_begin(&process),
-                    Report::Check {
-                        process,
-                        number,
-                        stamp,
-                    } => self.accept_check(&process, number, stamp),
-                }
+            Prepared::Ready(ready) => {
+                self.accept(ready);
                 Admitted::Accepted(self.front())
             }
         }
@@ -256,63 +421,232 @@ impl Chains {
     pub fn admit_owned(&mut self, report: Report) -> Result<Admitted, No>
         ensures turn { (fate : Fate) × IsReportTurn fate self.old.accepted report (reply_of result) self.new.accepted }
     {
-        match self.test(&report) {
+        let number = self.number_in(&report);
+        match self.test(&report, number) {
             Err(refused) => Err(refused),
-            Ok(Verdict::Old(front)) => Ok(Admitted::Old(front)),
-            Ok(Verdict::Fits) => match self.grow() {
-                Ok(()) => Ok(self.commit(Prepared::Ready(report))),
+            Ok(Verdict::Old) => Ok(Admitted::Old(self.front())),
+            Ok(Verdict::Fits) => match self.ready(report, number) {
+                Ok(ready) => Ok(self.commit(Prepared::Ready(ready))),
                 Err(_) => Err(out_of_memory()),
             },
         }
     }
+}
 
-    /// The last surviving position of a process by its number. It takes no memory.
-    pub fn last_surviving(&self, process: u32, _failed: &Failed) -> Position
-        requires { process < length (known self.now.accepted) }
-        ensures { IsLastSurviving self.now.accepted _failed.now process result }
-    {
-        Position::At(self.processes[process as usize].elements)
-    }
-
-    /// The number of the process of this name, counted from 0 in order of birth.
-    fn number_of(&self, name: &Name) -> Option<u32>
-        ensures { MatchOption result (¬ IsKnown self.now.accepted name.now) (λ p. name_of self.now.accepted p ≡ Some name.now) }
-    {
-        match self.names.get_index_of(name) {
-            None => None,
-            Some(place) => Some(place as u32),
+/// Makes room for one more element of the process at this place.
+fn reserve_element(processes: &mut Vec<Process>, number: Option<u32>) -> Result<(), AllocError>
+    requires { IsPlaceWithin number (length processes.old.items) }
+    ensures views { map view_of processes.new.items ≡ map view_of processes.old.items }
+    ensures len { vec_len processes.new ≡ vec_len processes.old }
+    ensures capacity { vec_capacity processes.new ≡ vec_capacity processes.old }
+    ensures room { OnOk result (HasPlace number (map element_room processes.new.items)) }
+{
+    match number {
+        None => Ok(()),
+        Some(place) => {
+            let kept = &mut processes[place as usize];
+            kept.lasting.reserve(1)
         }
     }
+}
 
-    /// The first of these names that no process has.
-    fn first_unknown<'a>(&self, names: &'a [Name]) -> Option<&'a Name>
-        ensures { MatchOption result (All (IsKnown self.now.accepted) names.now) (λ name. IsFirstUnknown self.now.accepted names.now name.now) }
-    {
-        for name in names {
-            match self.number_of(name) {
-                None => return Some(name),
-                Some(_) => {}
+/// Keeps what an accepted report says of processes. The place is that of the process that reports.
+fn keep(
+    names: &mut IndexSet<Name>,
+    processes: &mut Vec<Process>,
+    report: &Report,
+    place: usize,
+    front: u32,
+    lasting: Vec<u32>,
+)
+    requires fits { MayBeKept names.old.keys processes.old.items report.now place }
+    requires names { 0 < spare names.old }
+    requires processes { vec_len processes.old < vec_capacity processes.old }
+    requires empty { lasting.items ≡ [] }
+    requires lasting { newborn report.now ≢ None → 0 < vec_capacity lasting }
+    ensures names { names.new.keys ≡ names_after names.old.keys report.now }
+    ensures views { IsKeptBy (map view_of processes.old.items) names.old.keys report.now place front (map view_of processes.new.items) }
+{
+    match report {
+        Report::Begin { process } => add(names, processes, process.copy(), front, lasting),
+        Report::Numbered { action, .. } => {
+            note(processes, place, front, is_check(action));
+            match action {
+                Action::Fork { child, .. } => add(names, processes, child.copy(), front, lasting),
+                Action::Absorb { retired } => note_absorbed(names, processes, retired),
+                Action::Check => {}
+                Action::Present => {}
+                Action::Retire { .. } => {}
             }
         }
-        None
     }
+}
 
-    /// The failed processes of these names, whose order and repeats do not matter.
-    pub fn failed_from(&self, names: &[Name]) -> Result<Failed, FailedFault>
-        ensures { FailsAs result self.now.accepted names.now }
-    {
-        match self.first_unknown(names) {
-            Some(name) => return Err(FailedFault::Unknown(name.copy())),
-            None => {}
+/// Whether the action is a checkpoint.
+fn is_check(action: &Action) -> bool
+    ensures { result ≡ is_check action.now }
+{
+    match action {
+        Action::Check => true,
+        Action::Present => false,
+        Action::Fork { .. } => false,
+        Action::Retire { .. } => false,
+        Action::Absorb { .. } => false,
+    }
+}
+
+/// Notes a report of a process: it is the last one now, and may have made a lasting element.
+fn note(processes: &mut Vec<Process>, place: usize, front: u32, lasts: bool)
+    requires { HasNoteRoom processes.old.items place }
+    ensures views { map view_of processes.new.items ≡ changed_at (noted front lasts) place (map view_of processes.old.items) }
+    ensures capacity { vec_capacity processes.new ≡ vec_capacity processes.old }
+    ensures length { vec_len processes.new ≡ vec_len processes.old }
+{
+    let kept = &mut processes[place];
+    kept.reports += 1;
+    kept.last = Some(front);
+    if lasts {
+        kept.lasting.push_reserved(front);
+    }
+}
+
+/// Notes that the retirement of a process was absorbed.
+fn note_absorbed(names: &IndexSet<Name>, processes: &mut Vec<Process>, retired: &Name)
+    requires { length names.now.keys ≡ length processes.old.items }
+    ensures { IsTakenBy names.now.keys (map view_of processes.old.items) retired.now (map view_of processes.new.items) }
+{
+    match names.get_index_of(retired) {
+        None => {}
+        Some(place) => {
+            let kept = &mut processes[place];
+            kept.absorbed = true;
         }
-        let mut numbers = Vec::new(self.alloc);
-        if names.is_empty() {
-            return Ok(Failed::of(numbers));
-        }
-        // One process is known at most, so each name is the root's.
-        match numbers.push(0) {
-            Ok(()) => Ok(Failed::of(numbers)),
-            Err(_) => Err(FailedFault::Memory),
-        }
+    }
+}
+
+/// Adds a process that is born by the report of this index.
+fn add(
+    names: &mut IndexSet<Name>,
+    processes: &mut Vec<Process>,
+    name: Name,
+    birth: u32,
+    lasting: Vec<u32>,
+)
+    requires names { 0 < spare names.old }
+    requires processes { vec_len processes.old < vec_capacity processes.old }
+    requires empty { lasting.items ≡ [] }
+    requires lasting { 0 < vec_capacity lasting }
+    ensures names { names.new.keys ≡ insert_key (pointwise nat_eq) names.old.keys name }
+    ensures views { map view_of processes.new.items ≡ map view_of processes.old.items ++ born birth ∷ [] }
+{
+    let mut lasting = lasting;
+    lasting.push_reserved(birth);
+    let _ = names.insert(name);
+    processes.push_reserved(Process {
+        reports: 0,
+        last: None,
+        birth,
+        lasting,
+        absorbed: false,
+    });
+}
+
+/// How many present states the last report of a process stands for.
+fn present_count(last: Option<&Report>) -> u32
+    ensures { result ≡ length (present_in (option_copied last.entry)) }
+{
+    match last {
+        Some(
+            Report::Numbered {
+                action: Action::Present,
+                ..
+            },
+        ) => 1,
+        _ => 0,
+    }
+}
+
+/// The lasting element that a report makes, where it makes one.
+fn element_made<'a>(report: &'a Report, first: &'a Stamp) -> Element<'a>
+    requires { first.now ≡ first_stamp }
+    ensures { (p : AnyName) → lasting_made p report.now ≢ None → lasting_made p report.now ≡ Some (stamp_of result) }
+{
+    match report {
+        Report::Begin { .. } => Element {
+            id: &first.id,
+            events: &first.events,
+        },
+        Report::Numbered { stamp, action, .. } => match action {
+            Action::Fork { given, .. } => Element {
+                id: given,
+                events: &stamp.events,
+            },
+            _ => Element {
+                id: &stamp.id,
+                events: &stamp.events,
+            },
+        },
+    }
+}
+
+/// The present state that the last report of a process stands for, if it does.
+fn element_present<'a>(last: Option<&'a Report>) -> Option<Element<'a>>
+    ensures { option_map stamp_of result ≡ slice_get (present_in (option_copied last.entry)) 0 }
+{
+    match last {
+        Some(
+            Report::Numbered {
+                stamp,
+                action: Action::Present,
+                ..
+            },
+        ) => Some(Element {
+            id: &stamp.id,
+            events: &stamp.events,
+        }),
+        _ => None,
+    }
+}
+
+/// The id of a process after its report.
+fn id_kept<'a>(report: &'a Report, first: &'a Id) -> &'a Id
+    requires { first.now ≡ One }
+    ensures { result.now ≡ id_after (Some report.now) None }
+{
+    match report {
+        Report::Begin { .. } => first,
+        Report::Numbered { stamp, action, .. } => match action {
+            Action::Fork { kept, .. } => kept,
+            Action::Check => &stamp.id,
+            Action::Present => &stamp.id,
+            Action::Retire { .. } => &stamp.id,
+            Action::Absorb { .. } => &stamp.id,
+        },
+    }
+}
+
+/// The id of a process at its birth.
+fn id_at_birth<'a>(report: &'a Report, first: &'a Id) -> &'a Id
+    requires first { first.now ≡ One }
+    requires birth { newborn report.now ≢ None }
+    ensures { result.now ≡ id_at_birth (Some report.now) }
+{
+    match report {
+        Report::Begin { .. } => first,
+        Report::Numbered { action, .. } => match action {
+            Action::Fork { given, .. } => given,
+            _ => first,
+        },
+    }
+}
+
+/// The events of a process after its report, or after the one by which it is born.
+fn events_after<'a>(report: &'a Report, first: &'a Events) -> &'a Events
+    requires { first.now ≡ Leaf 0 }
+    ensures { result.now ≡ events_after (Some report.now) }
+{
+    match report {
+        Report::Begin { .. } => first,
+        Report::Numbered { stamp, .. } => &stamp.events,
     }
 }

@@ -1,8 +1,12 @@
 //! Sets of failed processes.
 
-ghost use Rattle.std.specs.Prelude.{◌≡◌, List, ℕ};
+ghost use Rattle.std.specs.Prelude.{◌≡◌, ◌<◌, ◌^◌, ◌↔◌, List, ℕ, IfOk, IsTrue, MatchOption, All, Contains, length};
+ghost use Rattle.chains.specs.Processes.{known, IsKnown};
+ghost use Rattle.chains.specs.Failures.{IsFailedSet, IsFirstUnknown, FailsAs, AreMarked, AreNumbersOf};
 
+use crate::chains::Chains;
 use report_line::Name;
+use std::alloc::{AllocError, Global};
 use std::marker::Model;
 
 /// Failed processes, seen as their numbers in order of birth.
@@ -27,10 +31,28 @@ pub enum FailedFault {
 }
 
 impl Failed {
-    pub(crate) fn of(numbers: Vec<u32>) -> Failed
-        ensures { result ≡ numbers.items }
+    /// The failed processes of these names, whose order and repeats do not matter.
+    pub fn from_names(chains: &Chains, names: &[Name]) -> Result<Failed, FailedFault>
+        ensures { FailsAs result chains.now.accepted names.now }
     {
-        Failed { numbers }
+        match first_unknown(chains, names) {
+            Some(name) => return Err(FailedFault::Unknown(name.copy())),
+            None => {}
+        }
+        match numbers_of(chains, names) {
+            Ok(numbers) => Ok(Failed { numbers }),
+            Err(_) => Err(FailedFault::Memory),
+        }
+    }
+
+    /// All known processes.
+    pub fn all(chains: &Chains) -> Result<Failed, AllocError>
+        ensures { IfOk result (λ f. IsFailedSet chains.now.accepted (known chains.now.accepted) f) }
+    {
+        chains.lawful();
+        let flags = Vec::from_elem(chains.alloc(), true, chains.count() as usize)?;
+        let numbers = marked(chains.alloc(), &flags)?;
+        Ok(Failed { numbers })
     }
 
     /// The numbers of the failed processes, in order of birth.
@@ -39,4 +61,64 @@ impl Failed {
     {
         &self.numbers
     }
+
+    /// Whether the process of this number failed. It takes no memory.
+    pub fn contains(&self, process: u32) -> bool
+        ensures { IsTrue result ↔ Contains self.now process }
+    {
+        self.numbers.contains(&process)
+    }
+}
+
+/// The first of these names that no process has.
+fn first_unknown<'a>(chains: &Chains, names: &'a [Name]) -> Option<&'a Name>
+    ensures { MatchOption result (All (IsKnown chains.now.accepted) names.now) (λ name. IsFirstUnknown chains.now.accepted names.now name.now) }
+{
+    for name in names {
+        match chains.number_of(name) {
+            None => return Some(name),
+            Some(_) => {}
+        }
+    }
+    None
+}
+
+/// The numbers of the processes of these names, in order of birth.
+fn numbers_of(chains: &Chains, names: &[Name]) -> Result<Vec<u32>, AllocError>
+    requires { All (IsKnown chains.now.accepted) names.now }
+    ensures { IfOk result (λ ns. IsFailedSet chains.now.accepted names.now ns.items) }
+{
+    chains.lawful();
+    let flags = flags_of(chains, names)?;
+    marked(chains.alloc(), &flags)
+}
+
+/// Which processes have one of these names.
+fn flags_of(chains: &Chains, names: &[Name]) -> Result<Vec<bool>, AllocError>
+    requires { All (IsKnown chains.now.accepted) names.now }
+    ensures { IfOk result (λ flags. AreMarked chains.now.accepted names.now flags.items) }
+{
+    chains.lawful();
+    let mut flags = Vec::from_elem(chains.alloc(), false, chains.count() as usize)?;
+    for name in names {
+        let Some(number) = chains.number_of(name) else {
+            unreachable!();
+        };
+        flags[number as usize] = true;
+    }
+    Ok(flags)
+}
+
+/// The places of the flags that are set.
+fn marked(alloc: Global, flags: &[bool]) -> Result<Vec<u32>, AllocError>
+    requires { length flags.now < 2 ^ 32 }
+    ensures { IfOk result (λ ns. AreNumbersOf flags.now ns.items) }
+{
+    let mut numbers = Vec::new(alloc);
+    for i in 0..flags.len() {
+        if flags[i] {
+            numbers.push(i as u32)?;
+        }
+    }
+    Ok(numbers)
 }

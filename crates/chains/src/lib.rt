@@ -2,15 +2,21 @@
 #![tactic(auto)]
 
 mod chains;
+mod copies;
+mod elements;
 mod failed;
 mod position;
 mod prepared;
 mod process;
 mod refusal;
+mod shared;
+mod state;
 mod tests;
 
 pub use chains::Chains;
+pub use elements::{Element, Elements};
 pub use failed::{Failed, FailedFault};
 pub use position::Position;
-pub use prepared::Prepared;
+pub use prepared::{Prepared, Ready};
 pub use refusal::{Admitted, No};
+pub use state::State;

@@ -1,6 +1,30 @@
 //! A report between its tests and its acceptance.
 
-use report_line::Report;
+use crate::shared::Shared;
+use std::marker::Model;
+
+/// A report that passed all tests, with the number of its process where that is known, and room for a process that is born
+/// by it.
+#[derive(Drop)]
+pub struct Ready {
+    pub(crate) report: Shared,
+    pub(crate) process: u32,
+    pub(crate) lasting: Vec<u32>,
+}
+
+impl Model for Ready {
+    ghost use Rattle.chains.specs.Ready.{ReadyReport, ready_code};
+
+    ghost Value = { ReadyReport };
+
+    ghost coded = { ready_code };
+
+    ghost use Rattle.chains.specs.Birth.{ready_in, HasBirthRoom};
+
+    ghost view = { ready_in };
+
+    ghost invariant = { HasBirthRoom };
+}
 
 /// What `Chains::prepare` answers, for `Chains::commit`.
 #[derive(Drop)]
@@ -8,5 +32,5 @@ pub enum Prepared {
     /// The report is the last accepted one of its process, or the `BEGIN` that was accepted, at this front.
     Old(u32),
     /// The report passed all tests, and there is room for it.
-    Ready(Report),
+    Ready(Ready),
 }

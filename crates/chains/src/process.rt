@@ -1,16 +1,37 @@
 //! What is kept of a process.
 
-use id_tree::Id;
+ghost use Rattle.std.specs.Prelude.{◌≡◌, IfOk};
+ghost use Rattle.chains.specs.Keeping.{view_of};
 
-/// What is kept of a process beside the accepted reports.
+use std::alloc::{AllocError, Global};
+
+/// What is kept of a process beside the accepted reports. Reports go by their indexes in the accepted list.
 #[derive(Drop)]
 pub struct Process {
     /// How many reports with a number are accepted of it.
     pub reports: u32,
-    /// The index of the last of them in the accepted list.
+    /// The last of them.
     pub last: Option<u32>,
-    /// How many elements it has.
-    pub elements: u32,
-    /// The id that is registered of it.
-    pub registered: Id,
+    /// The report by which it is born.
+    pub birth: u32,
+    /// The reports that made its birth and its checkpoints.
+    pub lasting: Vec<u32>,
+    /// Whether it retired and the retirement was absorbed.
+    pub absorbed: bool,
+}
+
+impl Process {
+    /// The same once more.
+    pub fn copy(&self, alloc: Global) -> Result<Process, AllocError>
+        ensures { IfOk result (λ copy. view_of copy ≡ view_of self.now) }
+    {
+        let lasting = Vec::from_slice(alloc, &self.lasting)?;
+        Ok(Process {
+            reports: self.reports,
+            last: self.last,
+            birth: self.birth,
+            lasting,
+            absorbed: self.absorbed,
+        })
+    }
 }

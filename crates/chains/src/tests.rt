@@ -1,30 +1,37 @@
-//! The tests of a report.
+//! The tests of a report, in their order.
 
-ghost use Rattle.std.specs.Prelude.{◌≡◌, ◌+◌, ◌<◌, ◌≤◌, ◌↔◌, ⊤, IfOk, IsTrue, MatchOption, Some, None, Ok, Err, length, slice_get, option_and_then, option_copied};
+ghost use Rattle.std.specs.Prelude.{◌≡◌, ◌≢◌, ◌+◌, ◌<◌, ◌↔◌, ⊤, IfOk, IsTrue, MatchOption, Some, None, length, option_copied, slice_get};
 ghost use Rattle.std.specs.Fmt.{decimal};
 ghost use Rattle.id_tree.specs.Spelling.{spelling};
-ghost use Rattle.event_tree.specs.EventTree.{Leaf};
+ghost use Rattle.id_tree.specs.Points.{AreDisjoint};
+ghost use Rattle.id_tree.specs.Split.{IsSplit};
+ghost use Rattle.id_tree.specs.Sum.{sum_of};
 ghost use Rattle.report_line.specs.declared.report.Report.TheVariants as reports;
-ghost use Rattle.chains.specs.Processes.{last_events, events_after};
-ghost use Rattle.chains.specs.Admission.{FitsOrNot, IsStampReply, IsCheckReply, IsBeginReply, report_limit};
-ghost use Rattle.chains.specs.Keeping.{kept_of, Tests};
+ghost use Rattle.report_line.specs.declared.report.Action.TheVariants as actions;
+ghost use Rattle.chains.specs.Processes.{Name as AnyName, known, newborn, IsKnown, last_report, last_events, registered_id, target_of, Waits};
+ghost use Rattle.chains.specs.Elements.{name_of};
+ghost use Rattle.chains.specs.Admission.{FitsOrNot, AreGrown, IsActionReply, IsStampReply, IsWaitingReply, IsStandingReply, IsNumberedReply, IsBeginReply, IsAdmission, report_limit, process_limit};
+ghost use Rattle.chains.specs.Keeping.{Tests};
+ghost use Rattle.chains.specs.Testing.{IsNumberIn, IsNoAbsorb, RefusesWith, IsFull};
 
-use crate::process::Process;
+use crate::chains::Chains;
 use crate::refusal::No;
-use event_tree::Events;
-use id_tree::Id;
-use report_line::{Code, Name, Report, Text};
+use id_tree::{Id, SumFault};
+use report_line::{Action, Code, Name, Report, Text};
 use stamp::Stamp;
 use std::alloc::{AllocError, Global};
 
 /// How many reports are accepted at most.
 pub const REPORT_LIMIT: u32 = 16_384;
 
+/// How many processes are known at most.
+pub const PROCESS_LIMIT: u32 = 1_024;
+
 /// What the tests of a report find where none refuses it.
 #[derive(Clone, Copy)]
 pub enum Verdict {
-    /// It was accepted before, and this is the front.
-    Old(u32),
+    /// It was accepted before.
+    Old,
     /// It may be accepted.
     Fits,
 }
@@ -45,6 +52,13 @@ fn id_text(alloc: Global, id: &Id) -> Result<Text, AllocError>
     Ok(Text::from_vec(bytes))
 }
 
+fn name_text(alloc: Global, name: &Name) -> Result<Text, AllocError>
+    ensures { IfOk result (λ t. t ≡ name.now) }
+{
+    let bytes = Vec::from_slice(alloc, name.as_bytes())?;
+    Ok(Text::from_vec(bytes))
+}
+
 /// A refusal for want of memory.
 pub fn out_of_memory() -> No
     ensures { result ≡ record { code = Code.OutOfMemory; name = None; value = None } }
@@ -56,137 +70,398 @@ pub fn out_of_memory() -> No
     }
 }
 
-/// Whether one more report fits.
-pub fn test_room(alloc: Global, accepted: &[Report]) -> Result<Verdict, No>
-    ensures { Tests (FitsOrNot accepted.now) accepted.now result }
+/// A refusal without a value.
+fn refusal(code: Code, name: &Name) -> No
+    ensures { result ≡ record { code = code; name = Some name.now; value = None } }
 {
-    if accepted.len() < REPORT_LIMIT as usize {
-        return Ok(Verdict::Fits);
+    No {
+        code,
+        name: Some(name.copy()),
+        value: None,
     }
-    match number_text(alloc, REPORT_LIMIT) {
-        Ok(limit) => Err(No {
+}
+
+/// A refusal with a value, if there is memory for it.
+fn refusal_with(code: Code, name: &Name, value: Result<Text, AllocError>) -> No
+    ensures { RefusesWith result code name.now value }
+{
+    match value {
+        Ok(text) => No {
+            code,
+            name: Some(name.copy()),
+            value: Some(text),
+        },
+        Err(_) => out_of_memory(),
+    }
+}
+
+/// A refusal since no more fit than this limit.
+fn full(alloc: Global, limit: u32) -> No
+    ensures { IsFull result limit }
+{
+    match number_text(alloc, limit) {
+        Ok(text) => No {
             code: Code::Full,
             name: None,
-            value: Some(limit),
-        }),
-        Err(_) => Err(out_of_memory()),
-    }
-}
-
-/// Whether the stamp is that of its process, grown.
-fn test_stamp(
-    alloc: Global,
-    accepted: &[Report],
-    name: &Name,
-    kept: &Process,
-    last: &Events,
-    stamp: &Stamp,
-) -> Result<Verdict, No>
-    requires kept { kept.now ≡ kept_of accepted.now name.now }
-    requires last { last.now ≡ last_events name.now accepted.now }
-    ensures { Tests (IsStampReply accepted.now name.now stamp.now) accepted.now result }
-{
-    if !stamp.id.equal(&kept.registered) {
-        return match id_text(alloc, &kept.registered) {
-            Ok(id) => Err(No {
-                code: Code::WrongId,
-                name: Some(name.copy()),
-                value: Some(id),
-            }),
-            Err(_) => Err(out_of_memory()),
-        };
-    }
-    if !last.leq(&stamp.events) || !stamp.events.exceeds_on(last, &kept.registered) {
-        return Err(No {
-            code: Code::NotGrown,
-            name: Some(name.copy()),
-            value: None,
-        });
-    }
-    test_room(alloc, accepted)
-}
-
-/// The events after the last report, or at birth.
-fn last_events_of<'a>(accepted: &'a [Report], last: Option<u32>, born: &'a Events) -> &'a Events
-    requires within { MatchOption last ⊤ (λ i. i < length accepted.now) }
-    requires born { born.now ≡ Leaf 0 }
-    ensures { result.now ≡ events_after (option_and_then (λ i. slice_get accepted.now i) last) }
-{
-    match last {
-        None => born,
-        Some(i) => match &accepted[i as usize] {
-            Report::Begin { .. } => born,
-            Report::Check { stamp, .. } => &stamp.events,
+            value: Some(text),
         },
+        Err(_) => out_of_memory(),
     }
 }
 
-/// Whether the report at this index, if there is one, is this one.
-fn is_at(accepted: &[Report], last: Option<u32>, report: &Report) -> bool
-    requires within { MatchOption last ⊤ (λ i. i < length accepted.now) }
-    ensures { IsTrue result ↔ (option_and_then (λ i. slice_get accepted.now i) last ≡ Some report.now) }
-{
-    match last {
-        None => false,
-        Some(i) => accepted[i as usize].equal(report),
+impl Chains {
+    /// The number of the process that reports, where it is known; a root that begins has none.
+    pub(crate) fn number_in(&self, report: &Report) -> Option<u32>
+        ensures { IsNumberIn self.now.accepted report.now result }
+    {
+        match report {
+            Report::Begin { .. } => None,
+            Report::Numbered { process, .. } => self.number_of(process),
+        }
     }
-}
 
-/// The tests of a checkpoint of a known process.
-pub fn test_check(
-    alloc: Global,
-    accepted: &[Report],
-    kept: &Process,
-    report: &Report,
-    name: &Name,
-    number: u32,
-    stamp: &Stamp,
-) -> Result<Verdict, No>
-    requires kept { kept.now ≡ kept_of accepted.now name.now }
-    requires fields { report.now ≡ reports.Check name.now number stamp.now }
-    requires few { length accepted.now ≤ report_limit }
-    ensures { Tests (IsCheckReply accepted.now name.now number stamp.now) accepted.now result }
-{
-    if is_at(accepted, kept.last, report) {
-        return Ok(Verdict::Old(accepted.len() as u32));
-    }
-    if number != kept.reports + 1 {
-        return match number_text(alloc, kept.reports + 1) {
-            Ok(next) => Err(No {
-                code: Code::WrongNumber,
-                name: Some(name.copy()),
-                value: Some(next),
-            }),
-            Err(_) => Err(out_of_memory()),
-        };
-    }
-    let born = Events::zero(alloc);
-    let last = last_events_of(accepted, kept.last, &born);
-    test_stamp(alloc, accepted, name, kept, last, stamp)
-}
-
-/// The tests of a `BEGIN`, where this is the root, if there is one.
-pub fn test_begin(
-    alloc: Global,
-    accepted: &[Report],
-    root: Option<&Name>,
-    name: &Name,
-) -> Result<Verdict, No>
-    requires { length accepted.now ≤ report_limit }
-    ensures { Tests (IsBeginReply (option_copied root.entry) accepted.now name.now) accepted.now result }
-{
-    match root {
-        None => test_room(alloc, accepted),
-        Some(root) => {
-            if root.as_bytes() == name.as_bytes() {
-                Ok(Verdict::Old(accepted.len() as u32))
-            } else {
-                Err(No {
-                    code: Code::OtherRoot,
-                    name: Some(root.copy()),
-                    value: None,
-                })
+    /// All tests of a report but that of memory. The number is that of the process that reports.
+    pub(crate) fn test(&self, report: &Report, number: Option<u32>) -> Result<Verdict, No>
+        requires { IsNumberIn self.now.accepted report.now number }
+        ensures { Tests (IsAdmission self.now.accepted report.now) self.now.accepted result }
+    {
+        match report {
+            Report::Begin { process } => self.test_begin(report, process),
+            Report::Numbered {
+                process,
+                number: n,
+                stamp,
+                action,
+            } => {
+                if self.front() == 0 {
+                    return Err(No {
+                        code: Code::NothingBegun,
+                        name: None,
+                        value: None,
+                    });
+                }
+                match number {
+                    None => Err(refusal(Code::UnknownProcess, process)),
+                    Some(place) => self.test_numbered(place, report, process, *n, stamp, action),
+                }
             }
         }
+    }
+
+    /// The tests of a `BEGIN`.
+    fn test_begin(&self, report: &Report, name: &Name) -> Result<Verdict, No>
+        requires { report.now ≡ reports.Begin name.now }
+        ensures { Tests (IsBeginReply (slice_get (known self.now.accepted) 0) self.now.accepted name.now) self.now.accepted result }
+    {
+        match self.root() {
+            None => self.test_room(report),
+            Some(root) => {
+                if root.as_bytes() == name.as_bytes() {
+                    Ok(Verdict::Old)
+                } else {
+                    Err(refusal(Code::OtherRoot, root))
+                }
+            }
+        }
+    }
+
+    /// The tests of a report of a known process.
+    fn test_numbered(
+        &self,
+        place: u32,
+        report: &Report,
+        name: &Name,
+        number: u32,
+        stamp: &Stamp,
+        action: &Action,
+    ) -> Result<Verdict, No>
+        requires place { name_of self.now.accepted place ≡ Some name.now }
+        requires fields { report.now ≡ reports.Numbered name.now number stamp.now action.now }
+        ensures { Tests (IsNumberedReply self.now.accepted name.now number stamp.now action.now) self.now.accepted result }
+    {
+        if self.is_last(place, report) {
+            return Ok(Verdict::Old);
+        }
+        match self.target_of(place) {
+            Some(target) => Err(refusal_with(Code::Ended, name, name_text(self.alloc(), target))),
+            None => self.test_number(place, report, name, number, stamp, action),
+        }
+    }
+
+    /// Whether the report is the last one of its process.
+    fn is_last(&self, place: u32, report: &Report) -> bool
+        requires { place < length (known self.now.accepted) }
+        ensures { (p : AnyName) → name_of self.now.accepted place ≡ Some p → IsTrue result ↔ (last_report p self.now.accepted ≡ Some report.now) }
+    {
+        match self.last_report(place) {
+            None => false,
+            Some(last) => last.equal(report),
+        }
+    }
+
+    /// The tests from that of the number on.
+    fn test_number(
+        &self,
+        place: u32,
+        report: &Report,
+        name: &Name,
+        number: u32,
+        stamp: &Stamp,
+        action: &Action,
+    ) -> Result<Verdict, No>
+        requires place { name_of self.now.accepted place ≡ Some name.now }
+        requires fields { report.now ≡ reports.Numbered name.now number stamp.now action.now }
+        requires lives { target_of name.now self.now.accepted ≡ None }
+        ensures { Tests (IsStandingReply None self.now.accepted name.now number stamp.now action.now) self.now.accepted result }
+    {
+        self.lawful();
+        let next = self.reports_of(place) + 1;
+        if number != next {
+            return Err(refusal_with(Code::WrongNumber, name, number_text(self.alloc(), next)));
+        }
+        match retired_in(action) {
+            None => self.test_own(place, report, name, number, stamp, action),
+            Some(retired) => match self.waiting(retired, name) {
+                None => Err(refusal(Code::NotWaiting, retired)),
+                Some(partner) => {
+                    self.test_absorb(place, partner, report, name, number, stamp, retired)
+                }
+            },
+        }
+    }
+
+    /// The number of this process, if it retired into the other one and was not absorbed.
+    fn waiting(&self, retired: &Name, target: &Name) -> Option<u32>
+        ensures { MatchOption result (¬ Waits self.now.accepted retired.now target.now) (λ r. Waits self.now.accepted retired.now target.now × (name_of self.now.accepted r ≡ Some retired.now)) }
+    {
+        self.lawful();
+        match self.number_of(retired) {
+            None => None,
+            Some(partner) => {
+                if self.waits_for(partner, target) {
+                    Some(partner)
+                } else {
+                    None
+                }
+            }
+        }
+    }
+
+    /// Whether the process retired into that one and was not absorbed.
+    fn waits_for(&self, process: u32, target: &Name) -> bool
+        requires { process < length (known self.now.accepted) }
+        ensures { (p : AnyName) → name_of self.now.accepted process ≡ Some p → IsTrue result ↔ Waits self.now.accepted p target.now }
+    {
+        match self.target_of(process) {
+            None => false,
+            Some(into) => into.as_bytes() == target.as_bytes() && !self.is_absorbed(process),
+        }
+    }
+
+    /// The tests of the stamp and the action of a report that is no absorb.
+    fn test_own(
+        &self,
+        place: u32,
+        report: &Report,
+        name: &Name,
+        number: u32,
+        stamp: &Stamp,
+        action: &Action,
+    ) -> Result<Verdict, No>
+        requires place { name_of self.now.accepted place ≡ Some name.now }
+        requires fields { report.now ≡ reports.Numbered name.now number stamp.now action.now }
+        requires own { IsNoAbsorb action.now }
+        ensures { Tests (IsStampReply self.now.accepted name.now number stamp.now action.now) self.now.accepted result }
+    {
+        let registered = self.registered_id(place);
+        if !stamp.id.equal(registered) {
+            return Err(refusal_with(Code::WrongId, name, id_text(self.alloc(), registered)));
+        }
+        if !self.is_grown(place, stamp) {
+            return Err(refusal(Code::NotGrown, name));
+        }
+        self.test_action(report, name, number, stamp, registered, action)
+    }
+
+    /// The tests of an action that is no absorb, behind those of its stamp.
+    fn test_action(
+        &self,
+        report: &Report,
+        name: &Name,
+        number: u32,
+        stamp: &Stamp,
+        registered: &Id,
+        action: &Action,
+    ) -> Result<Verdict, No>
+        requires registered { registered.now ≡ registered_id name.now self.now.accepted }
+        requires fields { report.now ≡ reports.Numbered name.now number stamp.now action.now }
+        requires own { IsNoAbsorb action.now }
+        ensures { Tests (IsActionReply self.now.accepted name.now number stamp.now action.now) self.now.accepted result }
+    {
+        match action {
+            Action::Fork { kept, child, given } => {
+                self.test_fork(report, name, number, stamp, registered, kept, child, given)
+            }
+            Action::Retire { target } => self.test_retire(report, name, number, stamp, target),
+            Action::Check => self.test_room(report),
+            Action::Present => self.test_room(report),
+            Action::Absorb { .. } => unreachable!(),
+        }
+    }
+
+    /// The tests of a fork behind those of its stamp.
+    fn test_fork(
+        &self,
+        report: &Report,
+        name: &Name,
+        number: u32,
+        stamp: &Stamp,
+        registered: &Id,
+        kept: &Id,
+        child: &Name,
+        given: &Id,
+    ) -> Result<Verdict, No>
+        requires registered { registered.now ≡ registered_id name.now self.now.accepted }
+        requires fields { report.now ≡ reports.Numbered name.now number stamp.now (actions.Fork kept.now child.now given.now) }
+        ensures { Tests (IsActionReply self.now.accepted name.now number stamp.now (actions.Fork kept.now child.now given.now)) self.now.accepted result }
+    {
+        match self.number_of(child) {
+            Some(_) => return Err(refusal(Code::NameTaken, child)),
+            None => {}
+        }
+        if !is_split(registered, kept, given) {
+            return Err(refusal_with(Code::WrongParts, name, id_text(self.alloc(), registered)));
+        }
+        self.test_room(report)
+    }
+
+    /// The tests of a retirement behind those of its stamp.
+    fn test_retire(
+        &self,
+        report: &Report,
+        name: &Name,
+        number: u32,
+        stamp: &Stamp,
+        target: &Name,
+    ) -> Result<Verdict, No>
+        requires { report.now ≡ reports.Numbered name.now number stamp.now (actions.Retire target.now) }
+        ensures { Tests (IsActionReply self.now.accepted name.now number stamp.now (actions.Retire target.now)) self.now.accepted result }
+    {
+        if target.as_bytes() == name.as_bytes() {
+            return Err(refusal(Code::WrongTarget, target));
+        }
+        match self.number_of(target) {
+            None => Err(refusal(Code::WrongTarget, target)),
+            Some(_) => self.test_room(report),
+        }
+    }
+
+    /// The tests of the stamp and the action of an absorb, of a retirement that waits.
+    fn test_absorb(
+        &self,
+        place: u32,
+        partner: u32,
+        report: &Report,
+        name: &Name,
+        number: u32,
+        stamp: &Stamp,
+        retired: &Name,
+    ) -> Result<Verdict, No>
+        requires place { name_of self.now.accepted place ≡ Some name.now }
+        requires partner { name_of self.now.accepted partner ≡ Some retired.now }
+        requires waits { Waits self.now.accepted retired.now name.now }
+        requires apart { AreDisjoint (registered_id name.now self.now.accepted) (registered_id retired.now self.now.accepted) }
+        requires fields { report.now ≡ reports.Numbered name.now number stamp.now (actions.Absorb retired.now) }
+        ensures { Tests (IsStampReply self.now.accepted name.now number stamp.now (actions.Absorb retired.now)) self.now.accepted result }
+    {
+        let registered = self.registered_id(place);
+        let other = self.registered_id(partner);
+        if !stamp.id.is_sum_of(registered, other) {
+            return Err(refusal_with(
+                Code::WrongId,
+                name,
+                sum_text(self.alloc(), registered, other),
+            ));
+        }
+        if !self.is_grown(place, stamp) {
+            return Err(refusal(Code::NotGrown, name));
+        }
+        if !self.last_events(partner).leq(&stamp.events) {
+            return Err(refusal(Code::NotJoined, retired));
+        }
+        self.test_room(report)
+    }
+
+    /// Whether the events are at or above the last ones, and greater at some point of the registered id.
+    fn is_grown(&self, place: u32, stamp: &Stamp) -> bool
+        requires { place < length (known self.now.accepted) }
+        ensures { (p : AnyName) → name_of self.now.accepted place ≡ Some p → IsTrue result ↔ AreGrown (last_events p self.now.accepted) (registered_id p self.now.accepted) stamp.now.events }
+    {
+        let last = self.last_events(place);
+        last.leq(&stamp.events) && stamp.events.exceeds_on(last, self.registered_id(place))
+    }
+
+    /// Whether one more report fits, and one more process where one is born by it.
+    fn test_room(&self, report: &Report) -> Result<Verdict, No>
+        ensures { Tests (FitsOrNot self.now.accepted report.now) self.now.accepted result }
+    {
+        if self.front() >= REPORT_LIMIT {
+            return Err(full(self.alloc(), REPORT_LIMIT));
+        }
+        if is_birth(report) && self.count() >= PROCESS_LIMIT {
+            return Err(full(self.alloc(), PROCESS_LIMIT));
+        }
+        Ok(Verdict::Fits)
+    }
+}
+
+/// The process whose retirement is absorbed, if the action is an absorb.
+fn retired_in(action: &Action) -> Option<&Name>
+    ensures { MatchOption result (IsNoAbsorb action.now) (λ retired. action.now ≡ actions.Absorb retired.now) }
+{
+    match action {
+        Action::Absorb { retired } => Some(retired),
+        Action::Check => None,
+        Action::Present => None,
+        Action::Fork { .. } => None,
+        Action::Retire { .. } => None,
+    }
+}
+
+/// Whether a process is born by the report.
+pub(crate) fn is_birth(report: &Report) -> bool
+    ensures { IsTrue result ↔ (newborn report.now ≢ None) }
+{
+    match report {
+        Report::Begin { .. } => true,
+        Report::Numbered {
+            action: Action::Fork { .. },
+            ..
+        } => true,
+        _ => false,
+    }
+}
+
+/// Whether these are two parts of the id, each of which owns something, and together all of it.
+fn is_split(id: &Id, kept: &Id, given: &Id) -> bool
+    ensures { IsTrue result ↔ IsSplit id.now kept.now given.now }
+{
+    kept.owns_any() && given.owns_any() && id.is_sum_of(kept, given)
+}
+
+/// The text of the sum of two ids that do not overlap.
+fn sum_text(alloc: Global, left: &Id, right: &Id) -> Result<Text, AllocError>
+    requires { AreDisjoint left.now right.now }
+    ensures { IfOk result (λ t. t ≡ spelling (sum_of left.now right.now)) }
+{
+    match left.sum(alloc, right) {
+        Ok(sum) => {
+            left.known();
+            right.known();
+            sum.known();
+            id_text(alloc, &sum)
+        }
+        Err(SumFault::Memory) => Err(AllocError),
+        Err(SumFault::Overlap) => unreachable!(),
     }
 }

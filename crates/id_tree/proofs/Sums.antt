@@ -1,11 +1,13 @@
--- What the sum of two ids owns, and its form.
-use Rattle.std.proofs.Common.{◌≡◌, ◌+◌, ◌≤◌, ◌||◌, max, Bool, true, false, [], ◌∷◌, inl, inr, refl, sym, ◌∙◌, arith}
+-- What the sum of two ids owns, its form, and what the test for it tells.
+use Rattle.std.proofs.Common.{◌≡◌, ◌↔◌, ◌+◌, ◌≤◌, ◌||◌, max, Bool, true, false, [], ◌∷◌, inl, inr, refl, sym, ◌∙◌, arith}
 use Rattle.std.proofs.Math.Bool.{or-false}
-use Rattle.std.proofs.lemmas.Bool.{cases_Bool}
+use Rattle.std.proofs.lemmas.Bool.{and_from, or_parts, cases_Bool, both_ways, true≢false}
 use Rattle.id_tree.specs.IdTree.{IdTree, Zero, One, Pair}
 use Rattle.id_tree.specs.NormalForm.{IsNormal, IsId, are_equal_leaves, depth}
-use Rattle.id_tree.specs.Points.{Point, owns, AreTogether}
+use Rattle.id_tree.specs.Points.{Point, owns, AreDisjoint, AreTogether}
 use Rattle.id_tree.specs.Sum.{normal_pair, sum_of}
+use Rattle.id_tree.specs.Tests.{are_disjoint, IsSumBy}
+use Rattle.id_tree.proofs.Points.{equal_points, some_point, disjoint_from}
 
 -- what holds of both forms of a pair holds of the normal one
 either : (P : IdTree → Type 0) (l r : IdTree) → (are_equal_leaves l r ≡ true → P l) → (are_equal_leaves l r ≡ false → P (Pair l r)) → P (normal_pair l r)
@@ -61,3 +63,50 @@ sum_together i j t e = rw e (together i j)
 
 pub sum_is_id : (i j t : IdTree) → t ≡ sum_of i j → IsId i → IsId j → IsId t
 sum_is_id i j t e m n = rw e (record { normal = normal i j m.normal n.normal; shallow = omega (arith, depth_sum i j, m.shallow, n.shallow) })
+
+-- ---- what the test tells
+
+sum_from_test : (i l r : IdTree) → IsNormal i → IsSumBy i l r → (are_disjoint l r ≡ true) × (i ≡ sum_of l r)
+sum_from_test i Zero r n h = (refl, h)
+sum_from_test i One Zero n h = (refl, h)
+sum_from_test i One One n h = absurd h
+sum_from_test i One (Pair c d) n h = absurd h
+sum_from_test i (Pair a b) Zero n h = (refl, h)
+sum_from_test i (Pair a b) One n h = absurd h
+sum_from_test Zero (Pair a b) (Pair c d) n h = absurd h
+sum_from_test One (Pair a b) (Pair c d) n h =
+    let x = sum_from_test One a c tt h.0 in
+    let y = sum_from_test One b d tt h.1 in
+    (and_from _ _ x.0 y.0, rw (← x.1, ← y.1) refl)
+sum_from_test (Pair u v) (Pair a b) (Pair c d) n h =
+    let x = sum_from_test u a c n.0 h.0 in
+    let y = sum_from_test v b d n.1 h.1 in
+    (and_from _ _ x.0 y.0, rw (← x.1, ← y.1) (rw n.2 refl))
+
+test_from_points : (i l r : IdTree) → IsNormal i → IsNormal l → IsNormal r → AreDisjoint l r → AreTogether l r i → IsSumBy i l r
+test_from_points i Zero r n m k apart whole = equal_points i r n k whole
+test_from_points i One Zero n m k apart whole = equal_points i One n tt whole
+test_from_points i One One n m k apart whole = absurd (true≢false (apart [] refl))
+test_from_points i One (Pair c d) n m k apart whole = let q = some_point (Pair c d) k refl in absurd (both_ways (owns (Pair c d) q.0) (apart q.0 refl) q.1)
+test_from_points i (Pair a b) Zero n m k apart whole = equal_points i (Pair a b) n m (λ p. whole p ∙ or-false (owns (Pair a b) p))
+test_from_points i (Pair a b) One n m k apart whole = let q = some_point (Pair a b) m refl in absurd (true≢false (apart q.0 q.1))
+test_from_points Zero (Pair a b) (Pair c d) n m k apart whole =
+    let q = some_point (Pair a b) m refl in
+    absurd (both_ways (owns (Pair a b) q.0) (or_parts _ _ (sym (whole q.0))).0 q.1)
+test_from_points One (Pair a b) (Pair c d) n m k apart whole = (
+  test_from_points One a c tt m.0 k.0 (λ p. apart (false ∷ p)) (λ p. whole (false ∷ p)),
+  test_from_points One b d tt m.1 k.1 (λ p. apart (true ∷ p)) (λ p. whole (true ∷ p)),
+)
+test_from_points (Pair u v) (Pair a b) (Pair c d) n m k apart whole = (
+  test_from_points u a c n.0 m.0 k.0 (λ p. apart (false ∷ p)) (λ p. whole (false ∷ p)),
+  test_from_points v b d n.1 m.1 k.1 (λ p. apart (true ∷ p)) (λ p. whole (true ∷ p)),
+)
+
+pub is_sum_iff : (i l r : IdTree) → IsNormal i → IsNormal l → IsNormal r → IsSumBy i l r ↔ (AreDisjoint l r × AreTogether l r i)
+is_sum_iff i l r n m k = (
+  λ h. let x = sum_from_test i l r n h in (disjoint_from l r x.0, sum_together l r i x.1),
+  λ h. test_from_points i l r n m k h.0 h.1,
+)
+
+pub is_disjoint_sum_iff : (i l r : IdTree) → IsNormal i → IsNormal l → IsNormal r → AreDisjoint l r → IsSumBy i l r ↔ (i ≡ sum_of l r)
+is_disjoint_sum_iff i l r n m k apart = (λ h. (sum_from_test i l r n h).1, λ e. test_from_points i l r n m k apart (sum_together l r i e))

@@ -1,5 +1,5 @@
 -- Tests of what ids in normal form own, by recursion.
-use Rattle.std.specs.Prelude.{Bool, true, false, ◌&&◌}
+use Rattle.std.specs.Prelude.{◌≡◌, Bool, true, false, ◌&&◌}
 use Rattle.id_tree.specs.IdTree.{IdTree, Zero, One, Pair}
 
 -- it owns something
@@ -17,3 +17,15 @@ are_disjoint One (Pair c d) = false
 are_disjoint (Pair a b) Zero = true
 are_disjoint (Pair a b) One = false
 are_disjoint (Pair a b) (Pair c d) = are_disjoint a c && are_disjoint b d
+
+-- i owns just what l and r own, who own no point both
+abbrev pub IsSumBy : IdTree → IdTree → IdTree → Type 0
+IsSumBy i Zero r = i ≡ r
+IsSumBy i One Zero = i ≡ One
+IsSumBy i One One = ⊥
+IsSumBy i One (Pair c d) = ⊥
+IsSumBy i (Pair a b) Zero = i ≡ Pair a b
+IsSumBy i (Pair a b) One = ⊥
+IsSumBy Zero (Pair a b) (Pair c d) = ⊥
+IsSumBy One (Pair a b) (Pair c d) = IsSumBy One a c × IsSumBy One b d
+IsSumBy (Pair x y) (Pair a b) (Pair c d) = IsSumBy x a c × IsSumBy y b d

@@ -110,6 +110,15 @@ impl Id {
         self.node.is_disjoint(&other.node)
     }
 
+    /// Whether this id owns just what the two others own, who own no point both. It takes no memory.
+    #[tactic(auto, using(crate::proofs::Sums::is_sum_iff, crate::proofs::Sums::is_disjoint_sum_iff))]
+    pub fn is_sum_of(&self, left: &Id, right: &Id) -> bool
+        ensures points { IsTrue result ↔ (AreDisjoint left.now right.now × AreTogether left.now right.now self.now) }
+        ensures sum { AreDisjoint left.now right.now → (IsTrue result ↔ (self.now ≡ sum_of left.now right.now)) }
+    {
+        self.node.is_sum_of(&left.node, &right.node)
+    }
+
     /// Two ids that each own a part of what this one owns, and together all of it.
     #[tactic(auto, using(crate::proofs::Splits::left_is_id, crate::proofs::Splits::right_is_id))]
     pub fn split(&self, alloc: Global) -> Result<(Id, Id), SplitFault>

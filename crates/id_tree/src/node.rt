@@ -7,7 +7,7 @@ ghost use Rattle.id_tree.specs.Spelling.{spelling};
 ghost use Rattle.id_tree.specs.Nodes.{tree_of};
 ghost use Rattle.id_tree.specs.Split.{left_part, right_part, parts_depth};
 ghost use Rattle.id_tree.specs.Sum.{normal_pair, sum_of};
-ghost use Rattle.id_tree.specs.Tests.{owns_any, are_disjoint};
+ghost use Rattle.id_tree.specs.Tests.{owns_any, are_disjoint, IsSumBy};
 
 use crate::fault::SplitFault;
 use std::alloc::{AllocError, Global};
@@ -43,6 +43,22 @@ impl Node {
         match (self, other) {
             (Node::Zero, _) | (_, Node::Zero) => true,
             (Node::Pair(a, b), Node::Pair(c, d)) => a.is_disjoint(c) && b.is_disjoint(d),
+            _ => false,
+        }
+    }
+
+    // Whether it owns just what the two others own, who own no point both, where all are in normal form.
+    pub fn is_sum_of(&self, left: &Node, right: &Node) -> bool
+        ensures { IsTrue result ↔ IsSumBy (tree_of self.now) (tree_of left.now) (tree_of right.now) }
+    {
+        match (left, right) {
+            (Node::Zero, _) => self.is_same(right),
+            (_, Node::Zero) => self.is_same(left),
+            (Node::Pair(a, b), Node::Pair(c, d)) => match self {
+                Node::Zero => false,
+                Node::One => self.is_sum_of(a, c) && self.is_sum_of(b, d),
+                Node::Pair(l, r) => l.is_sum_of(a, c) && r.is_sum_of(b, d),
+            },
             _ => false,
         }
     }

@@ -32,6 +32,14 @@ fn splits_and_sums(rt: HostRuntime) -> Result<(), Fail> {
     }
     let sum = id(alloc, "((1,0),0)")?.sum(alloc, &id(alloc, "((0,1),0)")?)?;
     assert!(rt; is_written(alloc, &sum, "(1,0)")?);
+    for (whole, left, right, is_sum) in [
+        ("(1,0)", "((1,0),0)", "((0,1),0)", true),
+        ("1", "1", "(0,1)", false),
+        ("(1,0)", "((1,0),0)", "(0,1)", false),
+    ] {
+        let (whole, left, right) = (id(alloc, whole)?, id(alloc, left)?, id(alloc, right)?);
+        assert_eq!(rt; whole.is_sum_of(&left, &right), is_sum);
+    }
     let mut deep = Id::one(alloc);
     for _ in 0..40 {
         let (l, _) = deep.split(alloc)?;

@@ -9,7 +9,7 @@ use Rattle.report_line.specs.Names.{is_letter, is_name_byte, is_name}
 use Rattle.report_line.specs.Cuts.{Lacks}
 use Rattle.report_line.specs.Spelling.{AreNames, names_text}
 use Rattle.report_line.proofs.Cutting.{and_both, cut_same, Lacks-uncut}
-use Rattle.report_line.proofs.Calls.{Lacks-name, byte_44, letter_44}
+use Rattle.report_line.proofs.Plain.{Lacks-name, byte_44, letter_44}
 
 -- the parts between commas
 abbrev pub parts : List ℕ → List (List ℕ)

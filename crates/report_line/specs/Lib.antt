@@ -5,3 +5,5 @@ pub mod Reading
 pub mod Replies
 pub mod Numbers
 pub mod Cuts
+pub mod Cutting
+pub mod Feeding

@@ -1,9 +1,10 @@
 -- What it means to read a line: a relation over the spelling of calls.
-use Rattle.std.specs.Prelude.{◌≡◌, ℕ, List, Result, Ok, Err, ⊤}
+use Rattle.std.specs.Prelude.{◌≡◌, ◌≢◌, ℕ, List, ◌∷◌, Result, Ok, Err, codes, ⊤}
 use Rattle.report_line.specs.declared.fault.LineFault.{LineFault}
 use Rattle.report_line.specs.declared.fault.LineFault.TheVariants.{Grammar, Memory}
+use Rattle.report_line.specs.declared.report.Action.{Action}
 use Rattle.report_line.specs.declared.call.Call.{Call}
-use Rattle.report_line.specs.Spelling.{spelling, HasSpelling}
+use Rattle.report_line.specs.Spelling.{words_of, spelling, HasSpelling, action_word, action_fields, IsAction}
 
 -- One is found for which P holds; or, at `Grammar`, P holds for none. Memory may be wanting for either.
 abbrev pub Finds : {X : Type 0} → Result X LineFault → (X → Type 0) → Type 0
@@ -18,3 +19,27 @@ Spells c bytes = HasSpelling c × (bytes ≡ spelling c)
 -- a call is read off its line; at `Grammar`, the bytes are the line of no call
 abbrev pub Reads : Result Call LineFault → List ℕ → Type 0
 Reads result bytes = Finds result (λ c. Spells c bytes)
+
+-- Working definitions from here on: a line is read word by word.
+
+-- The first of the words is the text of one for which P holds, and new are the others; or, at `Grammar`, the first word is
+-- that of none, or there is no word.
+abbrev pub Takes : {X : Type 0} → Result X LineFault → (X → Type 0) → (X → List ℕ) → List (List ℕ) → List (List ℕ) → Type 0
+Takes (Ok x) P text old new = P x × (old ≡ text x ∷ new)
+Takes {X} (Err Grammar) P text old new = (x : X) → P x → (rest : List (List ℕ)) → old ≢ text x ∷ rest
+Takes (Err Memory) P text old new = ⊤
+
+-- the call is one that has a line, and these are its words
+abbrev pub IsCallOf : List (List ℕ) → Call → Type 0
+IsCallOf words c = HasSpelling c × (words ≡ words_of c)
+
+-- the action has this word, and these fields
+abbrev pub IsActionOf : List ℕ → List (List ℕ) → Action → Type 0
+IsActionOf kind fields a = IsAction a × (kind ≡ action_word a) × (fields ≡ action_fields a)
+
+-- the word of no call that is no report with a number
+pub record IsOtherKind (kind : List ℕ) : Type 0 where
+  pub no_begin : kind ≢ codes "BEGIN"
+  pub no_line : kind ≢ codes "LINE"
+  pub no_state : kind ≢ codes "STATE"
+  pub no_bye : kind ≢ codes "BYE"

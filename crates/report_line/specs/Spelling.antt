@@ -1,9 +1,13 @@
 -- The one spelling of each call.
-use Rattle.std.specs.Prelude.{ℕ, ◌<◌, ◌^◌, List, [], ◌∷◌, IsTrue, codes}
+use Rattle.std.specs.Prelude.{ℕ, ◌<◌, ◌^◌, List, [], ◌∷◌, IsTrue, codes, ⊤}
 use Rattle.std.specs.List.{join_with_byte, AllByRecursion}
 use Rattle.std.specs.Fmt.{decimal}
+use Rattle.id_tree.specs.NormalForm.{IsId}
+use Rattle.id_tree.specs.Spelling as ids
 use Rattle.stamp.specs.declared.stamp.Stamp.{Stamp}
 use Rattle.stamp.specs.Stamps.{IsStamp, stamp_text}
+use Rattle.report_line.specs.declared.report.Action.{Action}
+use Rattle.report_line.specs.declared.report.Action.TheVariants.{Check, Present, Fork, Retire, Absorb}
 use Rattle.report_line.specs.declared.report.Report.TheVariants as reports
 use Rattle.report_line.specs.declared.call.Call.{Call}
 use Rattle.report_line.specs.declared.call.Call.TheVariants as calls
@@ -22,11 +26,29 @@ abbrev pub names_text : List (List ℕ) → List ℕ
 names_text [] = codes "-"
 names_text (n ∷ ns) = join_with_byte 44 (n ∷ ns)
 
+-- the word that names an action
+abbrev pub action_word : Action → List ℕ
+action_word Check = codes "CHECK"
+action_word Present = codes "PRESENT"
+action_word (Fork kept child given) = codes "FORK"
+action_word (Retire target) = codes "RETIRE"
+action_word (Absorb retired) = codes "ABSORB"
+
+-- the words behind the stamp
+abbrev pub action_fields : Action → List (List ℕ)
+action_fields Check = []
+action_fields Present = []
+action_fields (Fork kept child given) = ids.spelling kept ∷ child ∷ ids.spelling given ∷ []
+action_fields (Retire target) = target ∷ []
+action_fields (Absorb retired) = retired ∷ []
+
 -- the words of a call
 abbrev pub words_of : Call → List (List ℕ)
 words_of (calls.Report (reports.Begin p)) = codes "BEGIN" ∷ p ∷ []
-words_of (calls.Report (reports.Check p n s)) = codes "CHECK" ∷ p ∷ decimal n ∷ stamp_text s ∷ []
+words_of (calls.Report (reports.Numbered p n s a)) = action_word a ∷ p ∷ decimal n ∷ stamp_text s ∷ action_fields a
 words_of (calls.Line ns) = codes "LINE" ∷ names_text ns ∷ []
+words_of (calls.State p) = codes "STATE" ∷ p ∷ []
+words_of calls.Bye = codes "BYE" ∷ []
 words_of (calls.Bad n) = []
 words_of calls.Unread = []
 
@@ -34,16 +56,27 @@ words_of calls.Unread = []
 unfoldable pub spelling : Call → List ℕ
 spelling c = join_with_byte 32 (words_of c)
 
--- what the fields of a checkpoint's report are
-pub record AreFields (process : List ℕ) (number : ℕ) (stamp : Stamp) : Type 0 where
+-- names are names, and ids are in normal form and within the limits
+abbrev pub IsAction : Action → Type 0
+IsAction Check = ⊤
+IsAction Present = ⊤
+IsAction (Fork kept child given) = IsId kept × IsTrue (is_name child) × IsId given
+IsAction (Retire target) = IsTrue (is_name target)
+IsAction (Absorb retired) = IsTrue (is_name retired)
+
+-- what the fields of a report with a number are
+pub record AreFields (process : List ℕ) (number : ℕ) (stamp : Stamp) (action : Action) : Type 0 where
   pub name : IsTrue (is_name process)
   pub count : IsCount number
   pub stamped : IsStamp stamp
+  pub acted : IsAction action
 
 -- the calls that have a line
 abbrev pub HasSpelling : Call → Type 0
 HasSpelling (calls.Report (reports.Begin p)) = IsTrue (is_name p)
-HasSpelling (calls.Report (reports.Check p n s)) = AreFields p n s
+HasSpelling (calls.Report (reports.Numbered p n s a)) = AreFields p n s a
 HasSpelling (calls.Line ns) = AreNames ns
+HasSpelling (calls.State p) = IsTrue (is_name p)
+HasSpelling calls.Bye = ⊤
 HasSpelling (calls.Bad n) = ⊥
 HasSpelling calls.Unread = ⊥

@@ -1,6 +1,6 @@
 //! What a client asks.
 
-use crate::name::Names;
+use crate::name::{Name, Names};
 use crate::report::Report;
 
 /// What a line asks for.
@@ -10,6 +10,10 @@ pub enum Call {
     Report(Report),
     /// Where do all processes recover from, once these have failed?
     Line(Names),
+    /// What is kept of this process?
+    State(Name),
+    /// The client is done.
+    Bye,
     /// A line that is no call, by the number of what is wrong with it.
     Bad(u8),
     /// A line that memory did not suffice to read.

@@ -12,13 +12,25 @@ pub enum Code {
     OtherRoot,
     /// No process has that name.
     UnknownProcess,
+    /// The process retired.
+    Ended,
     /// The number is not the next of its process.
     WrongNumber,
+    /// No retirement of that process waits for the one that absorbs it.
+    NotWaiting,
     /// The id is not that of its process.
     WrongId,
     /// The events did not grow where the id owns.
     NotGrown,
-    /// No more reports fit.
+    /// The child's name is that of a known process.
+    NameTaken,
+    /// The two ids of a fork are not two parts of the id that is forked.
+    WrongParts,
+    /// The target of a retirement is unknown, or the process itself.
+    WrongTarget,
+    /// The events are not at or above those of the retirement.
+    NotJoined,
+    /// No more reports, or no more processes, fit.
     Full,
     /// Memory ran out.
     OutOfMemory,
@@ -33,9 +45,15 @@ impl Code {
             Code::NothingBegun => 14,
             Code::OtherRoot => 13,
             Code::UnknownProcess => 3,
+            Code::Ended => 4,
             Code::WrongNumber => 5,
+            Code::NotWaiting => 11,
             Code::WrongId => 6,
             Code::NotGrown => 7,
+            Code::NameTaken => 8,
+            Code::WrongParts => 9,
+            Code::WrongTarget => 10,
+            Code::NotJoined => 12,
             Code::Full => 15,
             Code::OutOfMemory => 16,
         }

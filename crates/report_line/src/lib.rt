@@ -1,27 +1,31 @@
 //! The lines that a client sends, as calls, and the replies that it gets, as text.
 //!
 //! A name, a number and a stamp have one text each, and a call is its words parted by one space, so each line is that of
-//! one call at most. What reading a line means is a relation over the spelling of calls.
+//! one call at most. What reading a line means is a relation over the spelling of calls. A stream is cut into its lines,
+//! whatever pieces it comes in.
 #![tactic(auto)]
 
 mod call;
 mod code;
 mod fault;
+mod feed;
 mod name;
 mod number;
 mod reading;
 mod reply;
 mod report;
 mod text;
+mod words;
 mod writing;
 
 pub use call::Call;
 pub use code::Code;
 pub use fault::LineFault;
+pub use feed::{Feed, Lines, lines_of_a_stream, pieces_do_not_matter};
 pub use name::{Name, Names};
 pub use reading::{a_line_has_one_call, read_line};
-pub use reply::Reply;
-pub use report::Report;
+pub use reply::{Outcome, Reply};
+pub use report::{Action, Report};
 pub use text::Text;
 pub use writing::{write_line, write_reply};
 

@@ -1,27 +1,25 @@
 //! Lines as calls.
 
-ghost use Rattle.std.specs.Prelude.{◌≡◌, ◌≢◌, ◌++◌, ◌∷◌, ℕ, IfOk, MatchOption, MatchResult, codes};
+ghost use Rattle.std.specs.Prelude.{◌≡◌, ◌≢◌, ◌∷◌, [], IsTrue, IfOk, MatchResult, codes};
+ghost use Rattle.std.specs.Fmt.{decimal};
+ghost use Rattle.id_tree.specs.NormalForm.{IsId};
+ghost use Rattle.id_tree.specs.Spelling as ids;
 ghost use Rattle.stamp.specs.Stamps.{IsStamp, stamp_text};
-ghost use Rattle.report_line.specs.Spelling.{AreNames, names_text, spelling, HasSpelling};
-ghost use Rattle.report_line.specs.Reading.{Finds, Reads};
-ghost use Rattle.report_line.specs.Cuts.{Lacks};
+ghost use Rattle.report_line.specs.Names.{is_name};
+ghost use Rattle.report_line.specs.Spelling.{IsCount, AreNames, names_text, spelling, HasSpelling};
+ghost use Rattle.report_line.specs.Reading.{Finds, Reads, Takes, IsCallOf, IsActionOf, IsOtherKind};
+ghost use Rattle.report_line.specs.Cuts.{words_in};
 ghost use Rattle.report_line.specs.declared.call.Call.{Call as AnyCall};
 
 use crate::call::Call;
 use crate::fault::LineFault;
 use crate::name::{Name, Names};
 use crate::number::number_of;
-use crate::report::Report;
+use crate::report::{Action, Report};
+use crate::words::{Words, cut_once};
+use id_tree::{Id, IdFault};
 use stamp::{Stamp, StampTextFault};
 use std::alloc::Global;
-
-// What stands in front of the first such byte, and what behind it.
-fn cut_once(byte: u8, bytes: &[u8]) -> Option<(&[u8], &[u8])>
-    ensures { MatchOption result (Lacks byte bytes.now) (λ parts. Lacks byte parts.0.now × (bytes.now ≡ parts.0.now ++ byte ∷ parts.1.now)) }
-{
-    let at = bytes.iter().position(|b| *b == byte)?;
-    Some((&bytes[..at], &bytes[at + 1..]))
-}
 
 fn read_stamp(alloc: Global, word: &[u8]) -> Result<Stamp, LineFault>
     ensures { Finds result (λ s. IsStamp s × (word.now ≡ stamp_text s)) }
@@ -32,6 +30,19 @@ fn read_stamp(alloc: Global, word: &[u8]) -> Result<Stamp, LineFault>
             Ok(stamp)
         }
         Err(StampTextFault::Memory) => Err(LineFault::Memory),
+        Err(_) => Err(LineFault::Grammar),
+    }
+}
+
+fn read_id(alloc: Global, word: &[u8]) -> Result<Id, LineFault>
+    ensures { Finds result (λ i. IsId i × (word.now ≡ ids.spelling i)) }
+{
+    match Id::parse(alloc, word) {
+        Ok(id) => {
+            id.known();
+            Ok(id)
+        }
+        Err(IdFault::Memory) => Err(LineFault::Memory),
         Err(_) => Err(LineFault::Grammar),
     }
 }
@@ -58,59 +69,177 @@ fn read_names(alloc: Global, word: &[u8]) -> Result<Names, LineFault>
     Ok(names)
 }
 
-fn read_begin(fields: &[u8]) -> Result<Call, LineFault>
-    ensures { Reads result (codes "BEGIN" ++ 32 ∷ fields.now) }
+fn take_name(words: &mut Words<'_>) -> Result<Name, LineFault>
+    ensures { Takes result (λ p. IsTrue (is_name p)) (λ p. p) words.old words.new }
 {
-    let Some(process) = Name::from_bytes(fields) else {
+    let Some(word) = words.next() else {
         return Err(LineFault::Grammar);
     };
-    Ok(Call::Report(Report::Begin { process }))
+    match Name::from_bytes(word) {
+        Some(name) => Ok(name),
+        None => Err(LineFault::Grammar),
+    }
 }
 
-fn read_check(alloc: Global, fields: &[u8]) -> Result<Call, LineFault>
-    ensures { Reads result (codes "CHECK" ++ 32 ∷ fields.now) }
+fn take_number(words: &mut Words<'_>) -> Result<u32, LineFault>
+    ensures { Takes result IsCount decimal words.old words.new }
 {
-    let Some((process, rest)) = cut_once(b' ', fields) else {
+    let Some(word) = words.next() else {
         return Err(LineFault::Grammar);
     };
-    let Some((number, stamp)) = cut_once(b' ', rest) else {
+    match number_of(word) {
+        Some(number) => Ok(number),
+        None => Err(LineFault::Grammar),
+    }
+}
+
+fn take_stamp(alloc: Global, words: &mut Words<'_>) -> Result<Stamp, LineFault>
+    ensures { Takes result IsStamp stamp_text words.old words.new }
+{
+    let Some(word) = words.next() else {
         return Err(LineFault::Grammar);
     };
-    let Some(process) = Name::from_bytes(process) else {
+    read_stamp(alloc, word)
+}
+
+fn take_id(alloc: Global, words: &mut Words<'_>) -> Result<Id, LineFault>
+    ensures { Takes result IsId ids.spelling words.old words.new }
+{
+    let Some(word) = words.next() else {
         return Err(LineFault::Grammar);
     };
-    let Some(number) = number_of(number) else {
-        return Err(LineFault::Grammar);
-    };
-    let stamp = read_stamp(alloc, stamp)?;
-    Ok(Call::Report(Report::Check {
+    read_id(alloc, word)
+}
+
+// The name that is the only word left.
+fn last_name(words: &mut Words<'_>) -> Result<Name, LineFault>
+    ensures { Finds result (λ p. IsTrue (is_name p) × (words.old ≡ p ∷ [])) }
+{
+    let name = take_name(words)?;
+    if words.is_empty() {
+        Ok(name)
+    } else {
+        Err(LineFault::Grammar)
+    }
+}
+
+fn read_fork(alloc: Global, words: &mut Words<'_>) -> Result<Action, LineFault>
+    ensures { Finds result (IsActionOf (codes "FORK") words.old) }
+{
+    let kept = take_id(alloc, words)?;
+    let child = take_name(words)?;
+    let given = take_id(alloc, words)?;
+    if words.is_empty() {
+        Ok(Action::Fork { kept, child, given })
+    } else {
+        Err(LineFault::Grammar)
+    }
+}
+
+fn read_retire(words: &mut Words<'_>) -> Result<Action, LineFault>
+    ensures { Finds result (IsActionOf (codes "RETIRE") words.old) }
+{
+    let target = last_name(words)?;
+    Ok(Action::Retire { target })
+}
+
+fn read_absorb(words: &mut Words<'_>) -> Result<Action, LineFault>
+    ensures { Finds result (IsActionOf (codes "ABSORB") words.old) }
+{
+    let retired = last_name(words)?;
+    Ok(Action::Absorb { retired })
+}
+
+// The action of this word and of the fields behind the stamp.
+fn read_action(alloc: Global, kind: &[u8], words: &mut Words<'_>) -> Result<Action, LineFault>
+    ensures { Finds result (IsActionOf kind.now words.old) }
+{
+    if kind == b"CHECK".as_slice() && words.is_empty() {
+        Ok(Action::Check)
+    } else if kind == b"PRESENT".as_slice() && words.is_empty() {
+        Ok(Action::Present)
+    } else if kind == b"FORK".as_slice() {
+        read_fork(alloc, words)
+    } else if kind == b"RETIRE".as_slice() {
+        read_retire(words)
+    } else if kind == b"ABSORB".as_slice() {
+        read_absorb(words)
+    } else {
+        Err(LineFault::Grammar)
+    }
+}
+
+fn read_numbered(alloc: Global, kind: &[u8], words: &mut Words<'_>) -> Result<Call, LineFault>
+    requires { IsOtherKind kind.now }
+    ensures { Finds result (IsCallOf (kind.now ∷ words.old)) }
+{
+    let process = take_name(words)?;
+    let number = take_number(words)?;
+    let stamp = take_stamp(alloc, words)?;
+    let action = read_action(alloc, kind, words)?;
+    Ok(Call::Report(Report::Numbered {
         process,
         number,
         stamp,
+        action,
     }))
 }
 
-fn read_line_call(alloc: Global, fields: &[u8]) -> Result<Call, LineFault>
-    ensures { Reads result (codes "LINE" ++ 32 ∷ fields.now) }
+fn read_begin(words: &mut Words<'_>) -> Result<Call, LineFault>
+    ensures { Finds result (IsCallOf (codes "BEGIN" ∷ words.old)) }
 {
-    let names = read_names(alloc, fields)?;
-    Ok(Call::Line(names))
+    let process = last_name(words)?;
+    Ok(Call::Report(Report::Begin { process }))
 }
 
-fn read_call(alloc: Global, bytes: &[u8]) -> Result<Call, LineFault>
-    ensures { Reads result bytes.now }
+fn read_failed(alloc: Global, words: &mut Words<'_>) -> Result<Call, LineFault>
+    ensures { Finds result (IsCallOf (codes "LINE" ∷ words.old)) }
 {
-    let Some((kind, fields)) = cut_once(b' ', bytes) else {
+    let Some(word) = words.next() else {
+        return Err(LineFault::Grammar);
+    };
+    let names = read_names(alloc, word)?;
+    if words.is_empty() {
+        Ok(Call::Line(names))
+    } else {
+        Err(LineFault::Grammar)
+    }
+}
+
+fn read_state(words: &mut Words<'_>) -> Result<Call, LineFault>
+    ensures { Finds result (IsCallOf (codes "STATE" ∷ words.old)) }
+{
+    let process = last_name(words)?;
+    Ok(Call::State(process))
+}
+
+fn read_bye(words: &Words<'_>) -> Result<Call, LineFault>
+    ensures { Finds result (IsCallOf (codes "BYE" ∷ words.now)) }
+{
+    if words.is_empty() {
+        Ok(Call::Bye)
+    } else {
+        Err(LineFault::Grammar)
+    }
+}
+
+fn read_call(alloc: Global, line: &[u8]) -> Result<Call, LineFault>
+    ensures { Finds result (IsCallOf (words_in line.now)) }
+{
+    let mut words = Words::of(line);
+    let Some(kind) = words.next() else {
         return Err(LineFault::Grammar);
     };
     if kind == b"BEGIN".as_slice() {
-        read_begin(fields)
-    } else if kind == b"CHECK".as_slice() {
-        read_check(alloc, fields)
+        read_begin(&mut words)
     } else if kind == b"LINE".as_slice() {
-        read_line_call(alloc, fields)
+        read_failed(alloc, &mut words)
+    } else if kind == b"STATE".as_slice() {
+        read_state(&mut words)
+    } else if kind == b"BYE".as_slice() {
+        read_bye(&words)
     } else {
-        Err(LineFault::Grammar)
+        read_numbered(alloc, kind, &mut words)
     }
 }
 

@@ -4,6 +4,17 @@ use crate::code::Code;
 use crate::name::Name;
 use crate::text::Text;
 
+/// Whether a report whose writing failed is in the file.
+#[derive(Clone, Copy, Debug, PartialEq, Eq)]
+pub enum Outcome {
+    /// It is not.
+    Before,
+    /// It may be.
+    Unknown,
+    /// It is not, for writing was stopped by an earlier failure.
+    Stopped,
+}
+
 /// The answer to one call.
 #[derive(Drop)]
 pub enum Reply {
@@ -19,8 +30,21 @@ pub enum Reply {
     },
     /// The line was no call.
     Bad(u8),
+    /// The device failed.
+    Fail(Outcome),
     /// The certificate that was asked for.
     Line(Text),
+    /// What is kept of a process: how many reports with a number are accepted of it, how many elements it has, whether it
+    /// lives, and the text of its registered id (`0` once it retired).
+    State {
+        name: Name,
+        reports: u32,
+        elements: u32,
+        live: bool,
+        id: Text,
+    },
+    /// The client is done.
+    Bye,
     /// A certificate was asked for at this front. What is shown is found later, so this reply is never written.
     Taken(u32),
 }

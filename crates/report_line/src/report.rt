@@ -4,8 +4,24 @@ ghost use Rattle.std.specs.Prelude.{◌≡◌, ◌↔◌, IsTrue, IfOk};
 ghost use Rattle.report_line.specs.Reports.{process_of};
 
 use crate::name::Name;
+use id_tree::Id;
 use stamp::Stamp;
 use std::alloc::{AllocError, Global};
+
+/// What a process did, of which it reports.
+#[derive(Drop)]
+pub enum Action {
+    /// It took a checkpoint.
+    Check,
+    /// It is in this state, and stays in it until its next report.
+    Present,
+    /// It made a child. Of its id it keeps one part, and the child begins with the other one and the same events.
+    Fork { kept: Id, child: Name, given: Id },
+    /// It ended, and its stamp goes to the target.
+    Retire { target: Name },
+    /// It took up the stamp of a process that retired into it.
+    Absorb { retired: Name },
+}
 
 /// What a process reports of itself.
 #[derive(Drop)]
@@ -14,12 +30,66 @@ pub enum Report {
     Begin {
         process: Name,
     },
-    /// The process took the checkpoint of this number, counted from 1, under this stamp.
-    Check {
+    /// The process did this, in its report of this number, counted from 1. The stamp is the one after the event: for a
+    /// fork before the id is split, for an absorb behind the join.
+    Numbered {
         process: Name,
         number: u32,
         stamp: Stamp,
+        action: Action,
     },
+}
+
+impl Action {
+    /// The same action once more.
+    pub fn copy(&self, alloc: Global) -> Result<Action, AllocError>
+        ensures { IfOk result (λ a. a ≡ self.now) }
+    {
+        match self {
+            Action::Check => Ok(Action::Check),
+            Action::Present => Ok(Action::Present),
+            Action::Fork { kept, child, given } => Ok(Action::Fork {
+                kept: kept.copy(alloc)?,
+                child: child.copy(),
+                given: given.copy(alloc)?,
+            }),
+            Action::Retire { target } => Ok(Action::Retire {
+                target: target.copy(),
+            }),
+            Action::Absorb { retired } => Ok(Action::Absorb {
+                retired: retired.copy(),
+            }),
+        }
+    }
+
+    /// Whether the two are one action.
+    pub fn equal(&self, other: &Action) -> bool
+        ensures { IsTrue result ↔ (self.now ≡ other.now) }
+    {
+        match (self, other) {
+            (Action::Check, Action::Check) => true,
+            (Action::Present, Action::Present) => true,
+            (
+                Action::Fork {
+                    kept: i,
+                    child: c,
+                    given: j,
+                },
+                Action::Fork {
+                    kept: k,
+                    child: d,
+                    given: l,
+                },
+            ) => i.equal(k) && c.as_bytes() == d.as_bytes() && j.equal(l),
+            (Action::Retire { target: p }, Action::Retire { target: q }) => {
+                p.as_bytes() == q.as_bytes()
+            }
+            (Action::Absorb { retired: p }, Action::Absorb { retired: q }) => {
+                p.as_bytes() == q.as_bytes()
+            }
+            _ => false,
+        }
+    }
 }
 
 impl Report {
@@ -29,7 +99,7 @@ impl Report {
     {
         match self {
             Report::Begin { process } => process,
-            Report::Check { process, .. } => process,
+            Report::Numbered { process, .. } => process,
         }
     }
 
@@ -41,14 +111,16 @@ impl Report {
             Report::Begin { process } => Ok(Report::Begin {
                 process: process.copy(),
             }),
-            Report::Check {
+            Report::Numbered {
                 process,
                 number,
                 stamp,
-            } => Ok(Report::Check {
+                action,
+            } => Ok(Report::Numbered {
                 process: process.copy(),
                 number: *number,
                 stamp: stamp.copy(alloc)?,
+                action: action.copy(alloc)?,
             }),
         }
     }
@@ -62,17 +134,19 @@ impl Report {
                 p.as_bytes() == q.as_bytes()
             }
             (
-                Report::Check {
+                Report::Numbered {
                     process: p,
                     number: m,
                     stamp: s,
+                    action: a,
                 },
-                Report::Check {
+                Report::Numbered {
                     process: q,
                     number: n,
                     stamp: t,
+                    action: b,
                 },
-            ) => p.as_bytes() == q.as_bytes() && *m == *n && s.equal(t),
+            ) => p.as_bytes() == q.as_bytes() && *m == *n && s.equal(t) && a.equal(b),
             _ => false,
         }
     }

@@ -1,10 +1,11 @@
-ghost use Rattle.std.specs.Prelude.{◌≡◌, Some, nat_eq, OnOk};
+ghost use Rattle.std.specs.Prelude.{◌≡◌, Some, nat_eq, OnOk, IfOk, IfSome};
 ghost use Rattle.std.specs.Cmp.Lexicographic.{pointwise};
 ghost use Rattle.indexmap.specs.IndexMap.{get};
+ghost use Rattle.report_line.specs.Replies.{IsWritten};
 
 use super::*;
 use indexmap::IndexMap;
-use std::alloc::{AllocFailed, Global};
+use std::alloc::{AllocError, AllocFailed, Global};
 use std::process::Abort;
 use std::test::Fail;
 
@@ -52,6 +53,13 @@ fn lines(rt: HostRuntime) -> Result<(), Fail> {
         ("LINE ,a", false),
         ("LINE a,-", false),
         ("LINE a b", false),
+        ("STATE a", true),
+        ("STATE", false),
+        ("STATE a b", false),
+        ("BYE", true),
+        ("BYE ", false),
+        ("BYE now", false),
+        ("GARBAGE", false),
         ("", false),
     ] {
         assert_eq!(rt; is_call(&rt, rt.alloc(), text)?, is, "{text}");
@@ -71,9 +79,93 @@ fn stamped_lines(rt: HostRuntime) -> Result<(), Fail> {
         ("CHECK a 1 1;1 x", false),
         ("CHECK a 1 1", false),
         ("CHECK a 1 ", false),
+        ("CHECK a 1 1;1 b", false),
+        ("PRESENT a 3 (1,0);(1,3,0)", true),
+        ("FORK a 1 1;1 (1,0) b (0,1)", true),
+        ("FORK a 1 1;1 (1,0) b", false),
+        ("FORK a 1 1;1 (1,0) b (0,1) ", false),
+        ("FORK a 1 1;1 (1,1) b (0,1)", false),
+        ("FORK a 1 1;1 (1,0) 1b (0,1)", false),
+        ("RETIRE b 1 (0,1);(1,0,1) a", true),
+        ("RETIRE b 1 (0,1);(1,0,1)", false),
+        ("ABSORB a 2 1;2 b", true),
+        ("ABSORB a 2 1;2 b c", false),
     ] {
         assert_eq!(rt; is_call(&rt, rt.alloc(), text)?, is, "{text}");
     }
+    Ok(())
+}
+
+#[test]
+fn refusals(rt: HostRuntime) -> Result<(), Fail> {
+    for (code, text) in [
+        (Code::UnknownProcess, "NO 3 - -"),
+        (Code::Ended, "NO 4 - -"),
+        (Code::WrongNumber, "NO 5 - -"),
+        (Code::WrongId, "NO 6 - -"),
+        (Code::NotGrown, "NO 7 - -"),
+        (Code::NameTaken, "NO 8 - -"),
+        (Code::WrongParts, "NO 9 - -"),
+        (Code::WrongTarget, "NO 10 - -"),
+        (Code::NotWaiting, "NO 11 - -"),
+        (Code::NotJoined, "NO 12 - -"),
+        (Code::OtherRoot, "NO 13 - -"),
+        (Code::NothingBegun, "NO 14 - -"),
+        (Code::Full, "NO 15 - -"),
+        (Code::OutOfMemory, "NO 16 - -"),
+    ] {
+        let reply = Reply::No {
+            code,
+            name: None,
+            value: None,
+        };
+        let written = write_reply(rt.alloc(), &reply)?;
+        assert_eq!(rt; written.as_slice(), text.as_bytes(), "{text}");
+    }
+    Ok(())
+}
+
+fn state(
+    alloc: Global,
+    name: &[u8],
+    reports: u32,
+    live: bool,
+    id: &[u8],
+) -> Result<Option<Reply>, AllocError>
+    ensures { IfOk result (λ reply. IfSome reply IsWritten) }
+{
+    let Some(name) = Name::from_bytes(name) else {
+        return Ok(None);
+    };
+    let mut text = Vec::new(alloc);
+    text.extend_from_slice(id)?;
+    Ok(Some(Reply::State {
+        name,
+        reports,
+        elements: reports,
+        live,
+        id: Text::from_vec(text),
+    }))
+}
+
+#[test]
+fn other_replies(rt: HostRuntime) -> Result<(), Fail> {
+    let lives = state(rt.alloc(), b"a", 3, true, b"(1,0)")?.ok_or("no name")?;
+    let lives = write_reply(rt.alloc(), &lives)?;
+    assert_eq!(rt; lives.as_slice(), b"STATE a 3 3 live (1,0)".as_slice());
+    let ended = state(rt.alloc(), b"b", 1, false, b"0")?.ok_or("no name")?;
+    let ended = write_reply(rt.alloc(), &ended)?;
+    assert_eq!(rt; ended.as_slice(), b"STATE b 1 1 retired 0".as_slice());
+    for (outcome, text) in [
+        (Outcome::Before, "FAIL before"),
+        (Outcome::Unknown, "FAIL unknown"),
+        (Outcome::Stopped, "FAIL stopped"),
+    ] {
+        let written = write_reply(rt.alloc(), &Reply::Fail(outcome))?;
+        assert_eq!(rt; written.as_slice(), text.as_bytes(), "{text}");
+    }
+    let bye = write_reply(rt.alloc(), &Reply::Bye)?;
+    assert_eq!(rt; bye.as_slice(), b"BYE".as_slice());
     Ok(())
 }
 
@@ -103,5 +195,47 @@ fn names_are_keys(rt: HostRuntime) -> Result<(), Fail> {
     note(&mut counts, name.copy(), 7)?;
     assert_eq!(rt; noted(&counts, &name), Some(7));
     assert_eq!(rt; noted(&counts, &other), None);
+    Ok(())
+}
+
+// Appends the lines that the piece completes, each with a bar behind it.
+fn take(feed: &mut Feed, piece: &[u8], lines: &mut Vec<u8>) -> Result<(), AllocError> {
+    for line in feed.push(piece)?.as_slice() {
+        lines.extend_from_slice(line.as_bytes())?;
+        lines.push(b'|')?;
+    }
+    Ok(())
+}
+
+#[test]
+fn lines_of_pieces(rt: HostRuntime) -> Result<(), Fail> {
+    let stream = b"BEGIN a\n\nLINE -\nCHECK";
+    let mut whole = Vec::new(rt.alloc());
+    take(&mut Feed::new(rt.alloc()), stream, &mut whole)?;
+    assert_eq!(rt; whole.as_slice(), b"BEGIN a||LINE -|".as_slice());
+    let mut feed = Feed::new(rt.alloc());
+    let mut bytewise = Vec::new(rt.alloc());
+    for piece in stream.chunks(1) {
+        take(&mut feed, piece, &mut bytewise)?;
+    }
+    assert_eq!(rt; bytewise.as_slice(), whole.as_slice());
+    Ok(())
+}
+
+#[test]
+fn longest_line(rt: HostRuntime) -> Result<(), Fail> {
+    let longest = [b'x'; 8192];
+    let mut feed = Feed::new(rt.alloc());
+    let mut lines = Vec::new(rt.alloc());
+    take(&mut feed, &longest, &mut lines)?;
+    take(&mut feed, b"\n", &mut lines)?;
+    assert_eq!(rt; lines.len(), 8193);
+    take(&mut feed, &longest, &mut lines)?;
+    assert!(rt; !feed.too_long());
+    take(&mut feed, b"x", &mut lines)?;
+    assert!(rt; feed.too_long());
+    take(&mut feed, b"\nx\n", &mut lines)?;
+    assert!(rt; feed.too_long());
+    assert_eq!(rt; lines.len(), 8193);
     Ok(())
 }

@@ -1,15 +1,18 @@
 //! Reports and replies as text.
 
-ghost use Rattle.std.specs.Prelude.{◌≡◌, ◌++◌, OnOk, IfOk};
+ghost use Rattle.std.specs.Prelude.{◌≡◌, ◌++◌, ◌∷◌, OnOk, IfOk};
 ghost use Rattle.std.specs.Fmt.{decimal};
-ghost use Rattle.report_line.specs.Spelling.{spelling};
+ghost use Rattle.stamp.specs.Stamps.{stamp_text};
+ghost use Rattle.report_line.specs.Spelling.{spelling, action_word, action_fields};
 ghost use Rattle.report_line.specs.declared.call.Call.TheVariants as calls;
-ghost use Rattle.report_line.specs.Replies.{or_dash, reply_text, IsWritten};
+ghost use Rattle.report_line.specs.Replies.{or_dash, outcome_word, live_word, reply_text, IsWritten};
+ghost use Rattle.report_line.specs.Cuts.{spaced};
 
 use crate::name::Name;
-use crate::reply::Reply;
-use crate::report::Report;
+use crate::reply::{Outcome, Reply};
+use crate::report::{Action, Report};
 use crate::text::Text;
+use stamp::Stamp;
 use std::alloc::{AllocError, Global};
 
 fn push_number(out: &mut Vec<u8>, alloc: Global, n: u32) -> Result<(), AllocError>
@@ -19,8 +22,60 @@ fn push_number(out: &mut Vec<u8>, alloc: Global, n: u32) -> Result<(), AllocErro
     out.extend_from_slice(text.as_bytes())
 }
 
+fn push_kind(out: &mut Vec<u8>, action: &Action) -> Result<(), AllocError>
+    ensures { OnOk result (out.new.items ≡ out.old.items ++ action_word action.now) }
+{
+    match action {
+        Action::Check => out.extend_from_slice(b"CHECK"),
+        Action::Present => out.extend_from_slice(b"PRESENT"),
+        Action::Fork { .. } => out.extend_from_slice(b"FORK"),
+        Action::Retire { .. } => out.extend_from_slice(b"RETIRE"),
+        Action::Absorb { .. } => out.extend_from_slice(b"ABSORB"),
+    }
+}
+
+// The words that each report with a number has behind its kind, each with a space in front of it.
+fn push_head(
+    out: &mut Vec<u8>,
+    alloc: Global,
+    process: &Name,
+    number: u32,
+    stamp: &Stamp,
+) -> Result<(), AllocError>
+    ensures { OnOk result (out.new.items ≡ out.old.items ++ 32 ∷ (process.now ++ 32 ∷ (decimal number ++ 32 ∷ stamp_text stamp.now))) }
+{
+    out.push(b' ')?;
+    out.extend_from_slice(process.as_bytes())?;
+    out.push(b' ')?;
+    push_number(out, alloc, number)?;
+    out.push(b' ')?;
+    stamp.write_to(out)
+}
+
+// The words behind the stamp, each with a space in front of it.
+fn push_fields(out: &mut Vec<u8>, action: &Action) -> Result<(), AllocError>
+    ensures { OnOk result (out.new.items ≡ out.old.items ++ spaced (action_fields action.now)) }
+{
+    match action {
+        Action::Check | Action::Present => {}
+        Action::Fork { kept, child, given } => {
+            out.push(b' ')?;
+            kept.write_to(out)?;
+            out.push(b' ')?;
+            out.extend_from_slice(child.as_bytes())?;
+            out.push(b' ')?;
+            given.write_to(out)?;
+        }
+        Action::Retire { target: name } | Action::Absorb { retired: name } => {
+            out.push(b' ')?;
+            out.extend_from_slice(name.as_bytes())?;
+        }
+    }
+    Ok(())
+}
+
 /// The one spelling of a report.
-#[tactic(auto, unfolding(crate::specs::Spelling::spelling))]
+#[tactic(auto, using(crate::proofs::Parting::joined_spaced), unfolding(crate::specs::Spelling::spelling))]
 pub fn write_line(alloc: Global, report: &Report) -> Result<Vec<u8>, AllocError>
     ensures { IfOk result (λ v. v.items ≡ spelling (calls.Report report.now)) }
 {
@@ -29,21 +84,36 @@ pub fn write_line(alloc: Global, report: &Report) -> Result<Vec<u8>, AllocError>
         Report::Begin { process } => {
             out.extend_from_slice(b"BEGIN ")?;
             out.extend_from_slice(process.as_bytes())?;
+            Ok(out)
         }
-        Report::Check {
+        Report::Numbered {
             process,
             number,
             stamp,
+            action,
         } => {
-            out.extend_from_slice(b"CHECK ")?;
-            out.extend_from_slice(process.as_bytes())?;
-            out.push(b' ')?;
-            push_number(&mut out, alloc, *number)?;
-            out.push(b' ')?;
-            stamp.write_to(&mut out)?;
+            push_kind(&mut out, action)?;
+            push_head(&mut out, alloc, process, *number, stamp)?;
+            push_fields(&mut out, action)?;
+            Ok(out)
         }
     }
-    Ok(out)
+}
+
+fn outcome_word(outcome: Outcome) -> &'static [u8]
+    ensures { result.now ≡ outcome_word outcome }
+{
+    match outcome {
+        Outcome::Before => b"before",
+        Outcome::Unknown => b"unknown",
+        Outcome::Stopped => b"stopped",
+    }
+}
+
+fn live_word(live: bool) -> &'static [u8]
+    ensures { result.now ≡ live_word live }
+{
+    if live { b"live" } else { b"retired" }
 }
 
 fn push_name(out: &mut Vec<u8>, name: &Option<Name>) -> Result<(), AllocError>
@@ -92,10 +162,33 @@ pub fn write_reply(alloc: Global, reply: &Reply) -> Result<Vec<u8>, AllocError>
             out.extend_from_slice(b"BAD ")?;
             push_number(&mut out, alloc, u32::from(*code))?;
         }
+        Reply::Fail(outcome) => {
+            out.extend_from_slice(b"FAIL ")?;
+            out.extend_from_slice(outcome_word(*outcome))?;
+        }
         Reply::Line(text) => {
             out.extend_from_slice(b"LINE ")?;
             out.extend_from_slice(text.as_bytes())?;
         }
+        Reply::State {
+            name,
+            reports,
+            elements,
+            live,
+            id,
+        } => {
+            out.extend_from_slice(b"STATE ")?;
+            out.extend_from_slice(name.as_bytes())?;
+            out.push(b' ')?;
+            push_number(&mut out, alloc, *reports)?;
+            out.push(b' ')?;
+            push_number(&mut out, alloc, *elements)?;
+            out.push(b' ')?;
+            out.extend_from_slice(live_word(*live))?;
+            out.push(b' ')?;
+            out.extend_from_slice(id.as_bytes())?;
+        }
+        Reply::Bye => out.extend_from_slice(b"BYE")?,
         Reply::Taken(_) => unreachable!(),
     }
     Ok(out)

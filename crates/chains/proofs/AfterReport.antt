@@ -1,0 +1,87 @@
+-- Chains are in order again after one more report.
+use Rattle.std.proofs.Common.{◌≡◌, ℕ, ◌+◌, ◌<◌, List, [], ◌∷◌, ◌++◌, length, get_or, map, Some, refl, sym, ap, subst, ◌∙◌, arith}
+use Rattle.std.specs.Prelude.{nat_eq}
+use Rattle.std.specs.Cmp.Lexicographic.{pointwise}
+use Rattle.std.proofs.lemmas.Bool.{true≢false}
+use Rattle.std.proofs.lemmas.List.{get_or-map}
+use Rattle.std.proofs.lemmas.List.Sums.{count_by-le-length}
+use Rattle.std.proofs.lemmas.Option.{slice_get_within}
+use Rattle.indexmap.specs.IndexSet.{insert_key}
+use Rattle.report_line.specs.declared.report.Report.{Report}
+use Rattle.report_line.specs.declared.report.Report.TheVariants.{Begin, Numbered}
+use Rattle.report_line.specs.declared.reply.Reply.TheVariants.{Accepted}
+use Rattle.chains.specs.declared.process.Process.{Process}
+use Rattle.chains.specs.Processes.{Name, known, is_numbered_of}
+use Rattle.chains.specs.Elements.{name_of}
+use Rattle.chains.specs.Admission.{IsReachable, one_more, IsAdmission}
+use Rattle.chains.specs.Kept.{Kept, HasRoomFor}
+use Rattle.chains.specs.Answers.{IsNumberOf}
+use Rattle.chains.specs.Keeping.{KeptProcess, kept_of, view_of}
+use Rattle.chains.specs.Noting.{noted, born, is_check, changed_at, names_after, IsKeptBy, IsKeptByAction}
+use Rattle.chains.specs.Room.{element_room, HasNoteRoom, MayBeKept}
+use Rattle.chains.specs.Inside.{AreInOrder}
+use Rattle.chains.proofs.Keeps.{as_many, kept_there}
+use Rattle.chains.proofs.Stepping.{same_bytes}
+use Rattle.chains.proofs.Passed.{passed_tests, begins}
+use Rattle.chains.proofs.Distinct.{distinct_known}
+use Rattle.chains.proofs.Reaching.{unbegun}
+use Rattle.chains.proofs.InOrder.{few_after, few_known_after, in_order_numbered}
+
+-- ---- before
+
+note_room : (accepted : List Report) (names : List Name) (processes : List Process) (i : ℕ) (p : Name) → AreInOrder accepted names processes → name_of accepted i ≡ Some p → 0 < get_or (map element_room processes) i 0 → HasNoteRoom processes i
+note_room accepted names processes i p h at room =
+    let within : i < length processes = omega (arith, slice_get_within (known accepted) i p at, as_many accepted processes h.kept) in
+    record {
+      within = within;
+      counted = λ k. omega (arith, ap (λ (v : KeptProcess). v.reports) (kept_there accepted processes i p k h.kept at), count_by-le-length (is_numbered_of p) accepted, h.few);
+      room = λ k. omega (arith, room, get_or-map element_room processes i k 0 within);
+    }
+
+pub may_be_kept : (k : Kept) (names : List Name) (processes : List Process) (r : Report) (i : ℕ) → AreInOrder k.accepted names processes → k.rooms ≡ map element_room processes → IsNumberOf k.accepted r i → HasRoomFor k r i → MayBeKept names processes r i
+may_be_kept k names processes (Begin p) i h rooms at room = record { complete = ap length h.named ∙ sym (as_many k.accepted processes h.kept); noted = λ e. absurd (true≢false e) }
+may_be_kept k names processes (Numbered p n s a) i h rooms at room = record {
+  complete = ap length h.named ∙ sym (as_many k.accepted processes h.kept);
+  noted = λ e. note_room k.accepted names processes i p h at (subst (λ (l : List ℕ). 0 < get_or l i 0) rooms room);
+}
+
+-- ---- after
+
+after_numbered : (accepted : List Report) (names names' : List Name) (processes processes' : List Process) (r : Report) (i : ℕ) → AreInOrder accepted names processes
+    → IsAdmission accepted r (Accepted (length accepted + 1)) → IsNumberOf accepted r i
+    → names' ≡ names_after names r → IsKeptBy (map view_of processes) names r i (length accepted) (map view_of processes')
+    → (names' ≡ known (accepted ++ r ∷ [])) × (map view_of processes' ≡ map (kept_of (accepted ++ r ∷ [])) (known (accepted ++ r ∷ [])))
+after_numbered accepted names names' processes processes' (Numbered p n s a) i h admitted at is kept =
+    let pass = passed_tests accepted p n s a (length accepted + 1) admitted in
+    let change = noted (length accepted) (is_check a) in
+    let by : IsKeptByAction (known accepted) (changed_at change i (map (kept_of accepted) (known accepted))) a (length accepted) (map view_of processes') =
+    subst (λ (ns : List Name). IsKeptByAction ns (changed_at change i (map (kept_of accepted) (known accepted))) a (length accepted) (map view_of processes')) h.named
+    (subst (λ (v : List KeptProcess). IsKeptByAction names (changed_at change i v) a (length accepted) (map view_of processes')) h.kept kept) in
+    let both = in_order_numbered accepted p n s a i (map view_of processes') h.reachable h.distinct at pass by in
+    (is ∙ ap (λ (ns : List Name). names_after ns (Numbered p n s a)) h.named ∙ both.0, both.1)
+after_numbered accepted names names' processes processes' (Begin p) i h admitted at is kept =
+    let none : known accepted ≡ [] = begins (known accepted) accepted p (length accepted + 1) admitted in
+    let empty : accepted ≡ [] = unbegun accepted h.reachable none in
+    let start : kept_of (Begin p ∷ []) p ≡ born 0 = rw (same_bytes p) refl in
+    let whole : accepted ++ Begin p ∷ [] ≡ Begin p ∷ [] = ap (λ (xs : List Report). xs ++ Begin p ∷ []) empty in
+    let before : map view_of processes ≡ [] = h.kept ∙ ap (map (kept_of accepted)) none in
+    let n : names ≡ [] = h.named ∙ none in (
+      is ∙ ap (λ (ns : List Name). insert_key (pointwise nat_eq) ns p) n ∙ sym (ap known whole),
+      kept ∙ ap (λ (v : List KeptProcess). v ++ born (length accepted) ∷ []) before ∙ ap (λ (xs : List Report). born (length xs) ∷ []) empty ∙ ap (λ (k : KeptProcess). k ∷ []) (sym start)
+          ∙ sym (ap (λ (xs : List Report). map (kept_of xs) (known xs)) whole),
+    )
+
+pub after_report : (accepted after : List Report) (names names' : List Name) (processes processes' : List Process) (r : Report) (i : ℕ) → AreInOrder accepted names processes
+    → IsAdmission accepted r (Accepted (length accepted + 1)) → IsNumberOf accepted r i → after ≡ accepted ++ r ∷ []
+    → names' ≡ names_after names r → IsKeptBy (map view_of processes) names r i (length accepted) (map view_of processes') → AreInOrder after names' processes'
+after_report accepted after names names' processes processes' r i h admitted at is n kept =
+    let reach : IsReachable (accepted ++ r ∷ []) = one_more accepted r h.reachable admitted in
+    let both = after_numbered accepted names names' processes processes' r i h admitted at n kept in
+    subst (λ (xs : List Report). AreInOrder xs names' processes') (sym is) (record {
+      reachable = reach;
+      few = few_after accepted r admitted;
+      few_known = few_known_after accepted r admitted h.few_known;
+      distinct = distinct_known (accepted ++ r ∷ []) reach;
+      named = both.0;
+      kept = both.1;
+    })

@@ -1,0 +1,156 @@
+-- Sets of failed processes, as they are found.
+use Rattle.std.proofs.Common.{◌≡◌, ◌≢◌, ◌⊎◌, inl, inr, ℕ, ◌+◌, ◌<◌, ◌≤◌, Bool, true, false, List, [], ◌∷◌, ◌++◌, length, get_or, set, take, replicate, Some, All, Contains, IsTrue, ◌↔◌, sym, ap, subst, ◌∙◌, arith}
+use Rattle.std.specs.Prelude.{slice_index_or}
+use Rattle.std.specs.List.Sorted.{IsStrictlyIncreasing}
+use Rattle.std.proofs.lemmas.Bool.{true≢false, cases_lt, cases_eq}
+use Rattle.std.proofs.lemmas.List.{get_or_append_left, get_or_default, get_or_push, length_push, take_more, take_all, length-set, get_or-set_same, get_or-set_other, length-replicate, get_or-replicate}
+use Rattle.std.proofs.lemmas.List.Elements.{Contains-push, Contains-push_cases, Contains-append_left, All-get_or, All-from_get_or}
+use Rattle.std.proofs.lemmas.Option.{same_Some, slice_get_within, get_or_from_slice_get}
+use Rattle.report_line.specs.declared.report.Report.{Report}
+use Rattle.chains.specs.Processes.{Name, known, IsKnown}
+use Rattle.chains.specs.Elements.{name_of}
+use Rattle.chains.specs.Failures.{IsFailedSet, AreMarked, AreNumbersOf}
+use Rattle.chains.specs.Inside.{AreDistinct}
+use Rattle.chains.proofs.LookUps.{known_from}
+
+-- the places below i of set flags
+pub record IsListedTo (flags : List Bool) (i : ℕ) (numbers : List ℕ) : Type 0 where
+  pub in_order : IsStrictlyIncreasing numbers
+  pub just_set : (p : ℕ) → (Contains numbers p ↔ ((p < i) × IsTrue (slice_index_or flags p false)))
+
+-- a flag for each known process, set for just those that are among the first i names
+pub record IsMarkedTo (accepted : List Report) (names : List Name) (i : ℕ) (flags : List Bool) : Type 0 where
+  pub complete : length flags ≡ length (known accepted)
+  pub named : (p : ℕ) (name : Name) → name_of accepted p ≡ Some name → (IsTrue (slice_index_or flags p false) ↔ Contains (take i names) name)
+
+-- ---- the places of set flags
+
+increasing_cases : (xs : List ℕ) (y k : ℕ) → IsStrictlyIncreasing xs → ((q : ℕ) → Contains xs q → q < y) → k + 1 < length (xs ++ y ∷ []) → (k + 1 < length xs) ⊎ (length xs ≤ k + 1) → get_or (xs ++ y ∷ []) k 0 < get_or (xs ++ y ∷ []) (k + 1) 0
+increasing_cases xs y k rises below lt (inl within) =
+    let a = get_or_append_left xs (y ∷ []) 0 k (omega (arith, within)) in
+    let b = get_or_append_left xs (y ∷ []) 0 (k + 1) within in
+    let c = rises k within in
+    omega arith
+increasing_cases xs y k rises below lt (inr past) =
+    let all = length_push xs y in
+    let inside : k < length xs = omega arith in
+    let a = get_or_append_left xs (y ∷ []) 0 k inside in
+    let b = get_or_push xs y 0 (k + 1) (omega arith) in
+    let c = below (get_or xs k 0) (k, inside, get_or_default xs k (get_or xs k 0) 0 inside) in
+    omega arith
+
+increasing_push : (xs : List ℕ) (y : ℕ) → IsStrictlyIncreasing xs → ((q : ℕ) → Contains xs q → q < y) → IsStrictlyIncreasing (xs ++ y ∷ [])
+increasing_push xs y rises below k lt = increasing_cases xs y k rises below lt (cases_lt (k + 1) (length xs))
+
+pub listed_more : (flags : List Bool) (i : ℕ) (numbers : List ℕ) → IsListedTo flags i numbers → IsTrue (slice_index_or flags i false) → IsListedTo flags (i + 1) (numbers ++ i ∷ [])
+listed_more flags i numbers h is = record {
+  in_order = increasing_push numbers i h.in_order (λ q there. ((h.just_set q).0 there).0);
+  just_set = λ p. (
+    λ there. elim (Contains-push_cases numbers i p there) [
+      | inl old ↦ let was = (h.just_set p).0 old in let lt = was.0 in (omega arith, was.1)
+      | inr e ↦ (omega (arith, e), subst (λ (k : ℕ). IsTrue (slice_index_or flags k false)) e is)
+    ],
+    λ holds. let lt = holds.0 in elim (cases_lt p i) [
+      | inl below ↦ Contains-append_left numbers (i ∷ []) p ((h.just_set p).1 (below, holds.1))
+      | inr past ↦ subst (λ (k : ℕ). Contains (numbers ++ i ∷ []) k) (omega arith) (Contains-push numbers i)
+    ],
+  );
+}
+
+pub listed_other : (flags : List Bool) (i : ℕ) (numbers : List ℕ) → IsListedTo flags i numbers → slice_index_or flags i false ≡ false → IsListedTo flags (i + 1) numbers
+listed_other flags i numbers h is = record {
+  in_order = h.in_order;
+  just_set = λ p. (
+    λ there. let was = (h.just_set p).0 there in let lt = was.0 in (omega arith, was.1),
+    λ holds. let lt = holds.0 in elim (cases_lt p i) [
+      | inl below ↦ (h.just_set p).1 (below, holds.1)
+      | inr past ↦ absurd (true≢false (sym (subst (λ (k : ℕ). slice_index_or flags k false ≡ true) (omega arith) holds.1) ∙ is))
+    ],
+  );
+}
+
+pub all_listed : (flags : List Bool) (i : ℕ) (numbers : List ℕ) → i ≡ length flags → IsListedTo flags i numbers → AreNumbersOf flags numbers
+all_listed flags i numbers e h = record { in_order = h.in_order; just_set = λ p. subst (λ (k : ℕ). Contains numbers p ↔ ((p < k) × IsTrue (slice_index_or flags p false))) e (h.just_set p) }
+
+-- ---- flags of named processes
+
+same_number : (accepted : List Report) (i j : ℕ) (p : Name) → AreDistinct (known accepted) → name_of accepted i ≡ Some p → name_of accepted j ≡ Some p → i ≡ j
+same_number accepted i j p distinct a b =
+    distinct i j p (slice_get_within (known accepted) i p a) (slice_get_within (known accepted) j p b)
+    (get_or_from_slice_get (known accepted) i p p a ∙ sym (get_or_from_slice_get (known accepted) j p p b))
+
+-- the names so far hold one more
+more_names : (names : List Name) (i : ℕ) (q name : Name) → i < length names → q ≡ get_or names i q → Contains (take (i + 1) names) name → Contains (take i names) name ⊎ (q ≡ name)
+more_names names i q name lt is there = elim (Contains-push_cases (take i names) (get_or names i q) name (subst (λ (l : List Name). Contains l name) (take_more names i q lt) there)) [
+  | inl old ↦ inl old
+  | inr e ↦ inr (is ∙ e)
+]
+
+new_name : (names : List Name) (i : ℕ) (q : Name) → i < length names → q ≡ get_or names i q → Contains (take (i + 1) names) q
+new_name names i q lt is = subst (λ (l : List Name). Contains l q) (sym (take_more names i q lt)) (subst (λ (p : Name). Contains (take i names ++ get_or names i q ∷ []) p) (sym is) (Contains-push (take i names) (get_or names i q)))
+
+old_name : (names : List Name) (i : ℕ) (q name : Name) → i < length names → Contains (take i names) name → Contains (take (i + 1) names) name
+old_name names i q name lt there = subst (λ (l : List Name). Contains l name) (sym (take_more names i q lt)) (Contains-append_left (take i names) (get_or names i q ∷ []) name there)
+
+marked_at : (accepted : List Report) (names : List Name) (i j p : ℕ) (q name : Name) (flags : List Bool) → IsMarkedTo accepted names i flags → AreDistinct (known accepted) → i < length names → q ≡ get_or names i q → name_of accepted j ≡ Some q → name_of accepted p ≡ Some name
+    → (p ≡ j) ⊎ (p ≢ j) → (IsTrue (slice_index_or (set flags j true) p false) ↔ Contains (take (i + 1) names) name)
+marked_at accepted names i j p q name flags h distinct lt is found named (inl e) =
+    let within = slice_get_within (known accepted) j q found in
+    let there : j < length flags = omega (arith, h.complete) in
+    let same : name ≡ q = same_Some name q (sym named ∙ ap (λ (k : ℕ). name_of accepted k) e ∙ found) in (
+      λ holds. subst (λ (n : Name). Contains (take (i + 1) names) n) (sym same) (new_name names i q lt is),
+      λ there'. ap (λ (k : ℕ). get_or (set flags j true) k false) e ∙ get_or-set_same flags j true false there,
+    )
+marked_at accepted names i j p q name flags h distinct lt is found named (inr other) =
+    let unchanged = get_or-set_other flags j p true false other in (
+      λ holds. old_name names i q name lt ((h.named p name named).0 (sym unchanged ∙ holds)),
+      λ there. elim (more_names names i q name lt is there) [
+        | inl old ↦ unchanged ∙ (h.named p name named).1 old
+        | inr e ↦ absurd (other (same_number accepted p j q distinct (named ∙ ap (λ (n : Name). Some n) (sym e)) found))
+      ],
+    )
+
+pub marked_more : (accepted : List Report) (names : List Name) (i j : ℕ) (q : Name) (flags : List Bool) → IsMarkedTo accepted names i flags → AreDistinct (known accepted) → i < length names → q ≡ get_or names i q → name_of accepted j ≡ Some q → IsMarkedTo accepted names (i + 1) (set flags j true)
+marked_more accepted names i j q flags h distinct lt is found = record {
+  complete = length-set flags j true ∙ h.complete;
+  named = λ p name named. marked_at accepted names i j p q name flags h distinct lt is found named (cases_eq p j);
+}
+
+pub all_marked : (accepted : List Report) (names : List Name) (i : ℕ) (flags : List Bool) → length names ≤ i → IsMarkedTo accepted names i flags → AreMarked accepted names flags
+all_marked accepted names i flags le h = record {
+  complete = h.complete;
+  named = λ p name named. subst (λ (l : List Name). IsTrue (slice_index_or flags p false) ↔ Contains l name) (take_all i names le) (h.named p name named);
+}
+
+pub flag_there : (accepted : List Report) (names : List Name) (i j : ℕ) (q : Name) (flags : List Bool) → IsMarkedTo accepted names i flags → name_of accepted j ≡ Some q → j < length flags
+flag_there accepted names i j q flags h found = omega (arith, slice_get_within (known accepted) j q found, h.complete)
+
+-- a name among known ones is known
+pub known_there : (accepted : List Report) (names : List Name) (i : ℕ) (q : Name) → All (IsKnown accepted) names → i < length names → q ≡ get_or names i q → IsKnown accepted q
+known_there accepted names i q all lt is = subst (IsKnown accepted) (sym is) (All-get_or (IsKnown accepted) names i q lt all)
+
+-- ---- the set
+
+pub failed_set : (accepted : List Report) (names : List Name) (flags : List Bool) (numbers : List ℕ) → All (IsKnown accepted) names → AreMarked accepted names flags → AreNumbersOf flags numbers → IsFailedSet accepted names numbers
+failed_set accepted names flags numbers all marks listed = record {
+  all_known = all;
+  in_order = listed.in_order;
+  within = λ p there. let lt = ((listed.just_set p).0 there).0 in omega (arith, marks.complete);
+  just_named = λ p name named. (
+    λ there. (marks.named p name named).0 ((listed.just_set p).0 there).1,
+    λ there. let lt = slice_get_within (known accepted) p name named in (listed.just_set p).1 (omega (arith, marks.complete), (marks.named p name named).1 there),
+  );
+}
+
+-- all flags are set
+pub all_set : (accepted : List Report) (flags : List Bool) (n : ℕ) → flags ≡ replicate n true → n ≡ length (known accepted) → AreMarked accepted (known accepted) flags
+all_set accepted flags n e is = record {
+  complete = ap (λ (l : List Bool). length l) e ∙ length-replicate n true ∙ is;
+  named = λ p name named. let lt = slice_get_within (known accepted) p name named in (
+    λ holds. known_from accepted p name named,
+    λ there. ap (λ (l : List Bool). get_or l p false) e ∙ get_or-replicate n p true false (omega arith),
+  );
+}
+
+pub all_are_known : (accepted : List Report) → All (IsKnown accepted) (known accepted)
+all_are_known accepted = All-from_get_or (IsKnown accepted) (known accepted) [] (λ i lt. (i, lt, get_or_default (known accepted) i (get_or (known accepted) i []) [] lt))

@@ -1,0 +1,24 @@
+-- A report for which room was made.
+use Rattle.std.proofs.Common.{◌≡◌, ℕ, List, Option, Some, None, sym, subst}
+use Rattle.std.specs.Option.{unwrap_or}
+use Rattle.report_line.specs.declared.report.Report.{Report}
+use Rattle.report_line.specs.declared.report.Report.TheVariants.{Begin, Numbered}
+use Rattle.report_line.specs.declared.reply.Reply.TheVariants.{Accepted}
+use Rattle.chains.specs.Admission.{IsAdmission}
+use Rattle.chains.specs.Kept.{Kept, HasRoomFor}
+use Rattle.chains.specs.Answers.{IsNumberOf}
+use Rattle.chains.specs.Testing.{IsNumberIn}
+use Rattle.chains.specs.Noting.{IsFound, HasPlace}
+use Rattle.chains.proofs.Passed.{passed_tests}
+
+pub readied : (k : Kept) (accepted : List Report) (r : Report) (number : Option ℕ) → k.accepted ≡ accepted → IsNumberIn accepted r number → IsFound r number → HasPlace number k.rooms
+    → IsNumberOf k.accepted r (unwrap_or number 0) × HasRoomFor k r (unwrap_or number 0)
+readied k accepted (Begin p) number same is found room = (tt, tt)
+readied k accepted (Numbered p n s a) None same is found room = absurd found
+readied k accepted (Numbered p n s a) (Some i) same is found room = (subst (λ (xs : List Report). IsNumberOf xs (Numbered p n s a) i) (sym same) is, room)
+
+-- the number of a report that is accepted was found
+pub found : (accepted : List Report) (r : Report) (number : Option ℕ) (front : ℕ) → IsNumberIn accepted r number → IsAdmission accepted r (Accepted front) → IsFound r number
+found accepted (Begin p) number front is admitted = is
+found accepted (Numbered p n s a) None front is admitted = is (passed_tests accepted p n s a front admitted).is_known
+found accepted (Numbered p n s a) (Some i) front is admitted = tt

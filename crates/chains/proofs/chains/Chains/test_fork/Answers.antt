@@ -1,0 +1,28 @@
+use Rattle.std.proofs.Common.{◌≡◌, sym, subst, None, Some, Err}
+use Rattle.std.specs.Prelude.{IfOk}
+use Rattle.std.proofs.lemmas.Bool.{both_ways}
+use Rattle.id_tree.specs.IdTree.{IdTree}
+use Rattle.id_tree.specs.Spelling.{spelling}
+use Rattle.id_tree.specs.Split.{IsSplit}
+use Rattle.report_line.specs.declared.code.Code.TheVariants.{NameTaken, WrongParts}
+use Rattle.report_line.specs.declared.report.Action.TheVariants.{Fork}
+use Rattle.report_line.specs.declared.report.Report.TheVariants.{Numbered}
+use Rattle.report_line.specs.declared.reply.Reply.TheVariants.{No}
+use Rattle.chains.specs.Processes.{IsKnown, registered_id}
+use Rattle.chains.specs.Admission.{Decides, FitsOrNot}
+use Rattle.chains.proofs.Tested.{refuses, passed_on}
+use Rattle.chains.proofs.chains.Chains.test_fork.Goals as goal
+
+pub returns-then-not-is_split : goal.returns-then-not-is_split
+returns-then-not-is_split c =
+    let accepted = c.args.self.now.accepted in
+    let p = c.args.name.now in
+    let kept = c.args.kept.now in
+    let child = c.args.child.now in
+    let given = c.args.given.now in
+    let id = registered_id p accepted in
+    let last = FitsOrNot accepted (Numbered p c.args.number c.args.stamp.now (Fork kept child given)) in
+    passed_on (IsKnown accepted child) (No NameTaken (Some child) None) (λ a. Decides (¬ IsSplit id kept given) (No WrongParts (Some p) (Some (spelling id))) a (last a)) accepted (Err c.refusal_with.result) c.in-None.ensures
+    (refuses (¬ IsSplit id kept given) last accepted c.refusal_with.result WrongParts p (spelling id) c.id_text.result c.refusal_with.ensures
+    (subst (λ (i : IdTree). IfOk c.id_text.result (λ t. t ≡ spelling i)) c.requires.registered c.id_text.ensures)
+    (λ h. both_ways c.is_split.result c.if-not-is_split.true (c.is_split.ensures.1 (subst (λ (i : IdTree). IsSplit i kept given) (sym c.requires.registered) h))))

@@ -1,0 +1,16 @@
+-- What chains are seen as.
+use Rattle.std.specs.Prelude.{ℕ, ◌<◌, List, slice_index_or, ⊤}
+use Rattle.report_line.specs.declared.report.Report.{Report}
+use Rattle.report_line.specs.declared.report.Report.TheVariants.{Begin, Numbered}
+
+-- The accepted list, how many more reports find room without memory, and how many more elements
+-- of each known process, in order of birth.
+pub record Kept : Type 0 where
+  pub accepted : List Report
+  pub room : ℕ
+  pub rooms : List ℕ
+
+-- there is room for one more element of the process of this number, if the report has a number
+abbrev pub HasRoomFor : Kept → Report → ℕ → Type 0
+HasRoomFor k (Begin p) i = ⊤
+HasRoomFor k (Numbered p n s a) i = 0 < slice_index_or k.rooms i 0

@@ -1,0 +1,66 @@
+//! The words of a line, one after the other. They take no memory.
+
+ghost use Rattle.std.specs.Prelude.{◌≡◌, ◌↔◌, ◌++◌, ◌∷◌, [], IsTrue, MatchOption};
+ghost use Rattle.report_line.specs.Cuts.{Lacks, words_in};
+
+use std::marker::Model;
+
+// What stands in front of the first such byte, and what behind it.
+pub(crate) fn cut_once(byte: u8, bytes: &[u8]) -> Option<(&[u8], &[u8])>
+    ensures { MatchOption result (Lacks byte bytes.now) (λ parts. Lacks byte parts.0.now × (bytes.now ≡ parts.0.now ++ byte ∷ parts.1.now)) }
+{
+    let at = bytes.iter().position(|b| *b == byte)?;
+    Some((&bytes[..at], &bytes[at + 1..]))
+}
+
+/// The words that are left of a line.
+#[derive(Drop)]
+pub(crate) struct Words<'a> {
+    rest: Option<&'a [u8]>,
+}
+
+impl<'a> Model for Words<'a> {
+    ghost use Rattle.std.specs.Prelude.{List, ℕ};
+    ghost use Rattle.report_line.specs.Cuts.{words_left};
+
+    ghost Value = { List (List ℕ) };
+
+    ghost view = { λ w. words_left w.rest };
+}
+
+impl<'a> Words<'a> {
+    /// The words of the line, parted by single spaces.
+    pub(crate) fn of(line: &'a [u8]) -> Words<'a>
+        ensures { result ≡ words_in line.now }
+    {
+        Words { rest: Some(line) }
+    }
+
+    /// Whether no word is left.
+    #[tactic(auto, using(crate::proofs::Parting::some_word))]
+    pub(crate) fn is_empty(&self) -> bool
+        ensures { IsTrue result ↔ (self.now ≡ []) }
+    {
+        match self.rest {
+            None => true,
+            Some(_) => false,
+        }
+    }
+
+    /// The next word.
+    pub(crate) fn next(&mut self) -> Option<&'a [u8]>
+        ensures { MatchOption result (self.old ≡ []) (λ word. self.old ≡ word.now ∷ self.new) }
+    {
+        let rest = self.rest?;
+        match cut_once(b' ', rest) {
+            None => {
+                self.rest = None;
+                Some(rest)
+            }
+            Some((word, behind)) => {
+                self.rest = Some(behind);
+                Some(word)
+            }
+        }
+    }
+}

@@ -12,12 +12,14 @@ use id_tree::Id;
 use std::marker::Model;
 
 /// An element: a birth, a checkpoint or a present state.
+#[derive(Drop)]
 pub struct Element<'a> {
     pub id: &'a Id,
     pub events: &'a Events,
 }
 
 /// The elements of a process, seen as their stamps in order: its birth, its checkpoints, and its present state.
+#[derive(Drop)]
 pub struct Elements<'a> {
     chains: &'a Chains,
     process: u32,

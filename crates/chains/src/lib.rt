@@ -20,3 +20,6 @@ pub use position::Position;
 pub use prepared::{Prepared, Ready};
 pub use refusal::{Admitted, No};
 pub use state::State;
+
+#[cfg(test)]
+mod rows;

@@ -3,6 +3,7 @@
 use id_tree::Id;
 
 /// What is kept of a process.
+#[derive(Drop)]
 pub struct State<'a> {
     /// How many reports with a number are accepted of it.
     pub reports: u32,

@@ -2,14 +2,10 @@
 
 ghost use Rattle.std.specs.Prelude.{◌≡◌, ◌++◌, [], ℕ, List, Option};
 ghost use Rattle.report_line.specs.declared.report.Report.{Report};
-ghost use Rattle.recline.specs.Outcome.{IsAnswer, Runs};
-ghost use Rattle.recline.specs.Parts.{Tells};
+ghost use Rattle.recline.specs.Outcome.{IsAnswer, Tells, Runs};
 
-use crate::adapter::{Reader, Writer};
-use crate::kind::Kind;
-use crate::link::put;
-use crate::session::run_lines;
 use chains::Chains;
+use session::{Kind, Reader, Writer, put, run_lines};
 use std::alloc::Global;
 use std::io::{Read, Write};
 
@@ -42,7 +38,7 @@ fn status_of(kind: Kind, handed_on: bool) -> (u8, &'static [u8])
     ensures { IsAnswer kind (result.0, result.1.now) }
 {
     match kind {
-        Kind::End | Kind::TooLong => {
+        Kind::End | Kind::Bye | Kind::TooLong => {
             if handed_on {
                 (0, b"".as_slice())
             } else {

@@ -5,7 +5,7 @@ use clap::Error;
 use clap::error::ErrorKind;
 use recline::{Command, read_args, run_on};
 use std::env;
-use std::io::{self, BufWriter};
+use std::io::{self, LineWriter};
 use std::process::ExitCode;
 
 /// The words of the command line.
@@ -47,9 +47,9 @@ fn show(rt: &HostRuntime, error: &Error) -> u8 {
     }
 }
 
-/// Answers the lines of standard input.
+/// Answers the lines of standard input. Each reply is handed on with its line feed.
 fn run(rt: &HostRuntime) -> u8 {
-    match BufWriter::new(rt.alloc(), rt.stdout()) {
+    match LineWriter::new(rt.alloc(), rt.stdout()) {
         Ok(output) => run_on(rt.alloc(), rt.reader(), output, rt.stderr()),
         Err(_) => fault(rt, "memory"),
     }

@@ -5,8 +5,8 @@
 
 use anyhow::Result;
 use chains::Chains;
-use recline::{Reader, Writer, run_lines};
 use report_line::{Call, Report, read_line};
+use session::{Reader, Writer, run_lines};
 use std::alloc::{AllocError, Global};
 use std::rt::Clock;
 use std::time::Instant;
@@ -48,7 +48,7 @@ fn plain_loop(alloc: Global, input: &[u8]) -> u64 {
 }
 
 /// Serves the lines; how many replies were written.
-fn session(alloc: Global, input: &[u8]) -> u64 {
+fn serve(alloc: Global, input: &[u8]) -> u64 {
     let mut chains = Chains::new(alloc);
     let mut reader = Reader::new(input);
     let mut writer = Writer::new(Vec::new(alloc));
@@ -66,7 +66,7 @@ fn main(rt: HostRuntime) -> Result<()> {
     let plain = start.elapsed(&rt)?.as_micros();
     let start = Instant::now(&rt)?;
     for _ in 0..RUNS {
-        let replies = session(alloc, &input);
+        let replies = serve(alloc, &input);
         anyhow::ensure!(replies == 16_384, "{replies} replies");
     }
     let served = start.elapsed(&rt)?.as_micros();

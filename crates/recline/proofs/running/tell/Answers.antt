@@ -1,4 +1,4 @@
-use Rattle.recline.proofs.EndSteps.{told_all}
+use Rattle.recline.proofs.Runs.{told_all}
 use Rattle.recline.proofs.running.tell.Goals as goal
 
 pub returns-in-Ok : goal.returns-in-Ok

@@ -1,0 +1,6 @@
+pub mod Sent
+pub mod TurnSteps
+pub mod CertificateSteps
+pub mod Served
+pub mod ServeSteps
+pub mod Steps

@@ -1,0 +1,74 @@
+-- Turns of questions.
+use Rattle.std.proofs.Common.{◌≡◌, ℕ, ◌<◌, ◌≤◌, List, [], ◌∷◌, length, Option, Some, None, true, refl, ap, arith, inl, inr, All, rules}
+use Rattle.std.specs.Prelude.{◌⊎◌, option_copied, is_some}
+use denote.Ref.{Bor}
+use Rattle.id_tree.specs.IdTree.{IdTree}
+use Rattle.report_line.specs.declared.code.Code.TheVariants.{NothingBegun, UnknownProcess}
+use Rattle.report_line.specs.declared.report.Report.{Report}
+use Rattle.report_line.specs.declared.call.Call.TheVariants as calls
+use Rattle.report_line.specs.declared.reply.Reply.{Reply}
+use Rattle.report_line.specs.declared.reply.Reply.TheVariants as replies
+use Rattle.chains.specs.Processes.{Name, known, IsKnown, reports_of, target_of}
+use Rattle.chains.specs.Elements.{elements_of}
+use Rattle.chains.specs.States.{live_id, IsStateOf}
+use Rattle.chains.specs.declared.state.State.{State}
+use Rattle.chains.specs.Failures.{IsFirstUnknown}
+use Rattle.chains.specs.Turns.{fine, no_memory, state_by, IsLineText}
+use Rattle.session.specs.Parts.{Shows, id_text}
+
+nothing_of : (accepted : List Report) → length accepted ≡ 0 → accepted ≡ []
+nothing_of [] e = refl
+nothing_of (r ∷ rs) e = absurd (omega arith)
+
+something_of : (accepted : List Report) → 0 < length accepted → ¬ (accepted ≡ [])
+something_of accepted lt e = let none : length accepted ≡ 0 = ap length e in absurd (omega arith)
+
+pub nothing_begun : (accepted : List Report) (names : List Name) → length accepted ≡ 0 → Shows accepted (calls.Line names) accepted (replies.No NothingBegun None None)
+nothing_begun accepted names none = (replies.No NothingBegun None None, (fine, (inl (nothing_of accepted none, refl), refl)), refl)
+
+pub several_known : (accepted : List Report) (names : List Name) → 0 < length accepted → 1 < length (known accepted) → Shows accepted (calls.Line names) accepted (replies.Bad 1)
+several_known accepted names some several = (replies.Bad 1, (fine, (inr (something_of accepted some, inl (several, refl)), refl)), refl)
+
+pub unknown_name : (accepted : List Report) (names : List Name) (name : Name) → 0 < length accepted → length (known accepted) ≤ 1 → IsFirstUnknown accepted names name
+    → Shows accepted (calls.Line names) accepted (replies.No UnknownProcess (Some name) None)
+unknown_name accepted names name some few first =
+    (replies.No UnknownProcess (Some name) None, (fine, (inr (something_of accepted some, inr (λ h. absurd (omega arith), inl (name, first, refl))), refl)), refl)
+
+taken : (accepted : List Report) (names : List Name) (shown : Reply) → 0 < length accepted → length (known accepted) ≤ 1 → All (IsKnown accepted) names
+    → (((text : List ℕ) × (shown ≡ replies.Line text) × IsLineText accepted names text) ⊎ (shown ≡ no_memory)) → Shows accepted (calls.Line names) accepted shown
+taken accepted names shown some few known shows =
+    (replies.Taken (length accepted), (fine, (inr (something_of accepted some, inr (λ h. absurd (omega arith), inr (known, refl))), refl)), shows)
+
+pub shown_text : (accepted : List Report) (names : List Name) (text : List ℕ) → 0 < length accepted → length (known accepted) ≤ 1 → All (IsKnown accepted) names → IsLineText accepted names text
+    → Shows accepted (calls.Line names) accepted (replies.Line text)
+shown_text accepted names text some few known is = taken accepted names (replies.Line text) some few known (inl (text, refl, is))
+
+pub shown_none : (accepted : List Report) (names : List Name) → 0 < length accepted → length (known accepted) ≤ 1 → All (IsKnown accepted) names → Shows accepted (calls.Line names) accepted no_memory
+shown_none accepted names some few known = taken accepted names no_memory some few known (inr refl)
+
+pub bad_line : (accepted after : List Report) (n : ℕ) → after ≡ accepted → Shows accepted (calls.Bad n) after (replies.Bad n)
+bad_line accepted after n same = (replies.Bad n, (fine, (refl, same)), refl)
+
+pub nothing_begun_state : (accepted : List Report) (p : Name) → length accepted ≡ 0 → Shows accepted (calls.State p) accepted (replies.No NothingBegun None None)
+nothing_begun_state accepted p none = (replies.No NothingBegun None None, (fine, (inl (nothing_of accepted none, refl), refl)), refl)
+
+pub unknown_state : (accepted : List Report) (p : Name) → 0 < length accepted → ¬ IsKnown accepted p → Shows accepted (calls.State p) accepted (replies.No UnknownProcess (Some p) None)
+unknown_state accepted p some unknown =
+    (replies.No UnknownProcess (Some p) None, (fine, (inr (something_of accepted some, inl (unknown, refl)), refl)), refl)
+
+-- what is shown for a state, by its registered id
+shown_by : (accepted : List Report) (p : Name) (target : Option Name) (reports elements : ℕ) (id : Option (Bor IdTree)) → reports ≡ reports_of p accepted → elements ≡ length (elements_of p accepted)
+    → option_copied id ≡ live_id target accepted p → replies.State p reports elements (is_some id) (id_text (option_copied id)) ≡ state_by target accepted p
+shown_by accepted p None reports elements (Some i) e f g = rw (e, f) (ap (λ (o : Option IdTree). replies.State p (reports_of p accepted) (length (elements_of p accepted)) true (id_text o)) g)
+shown_by accepted p (Some t) reports elements None e f g = rw (e, f) refl
+shown_by accepted p None reports elements None e f g = absurd (search rules)
+shown_by accepted p (Some t) reports elements (Some i) e f g = absurd (search rules)
+
+pub shown_state : (accepted : List Report) (p : Name) (state : State) → 0 < length accepted → IsKnown accepted p → IsStateOf accepted p state
+    → Shows accepted (calls.State p) accepted (replies.State p state.reports state.elements (is_some state.id) (id_text (option_copied state.id)))
+shown_state accepted p state some known is =
+    let shown = shown_by accepted p (target_of p accepted) state.reports state.elements state.id is.reports is.elements is.id in
+    (replies.State p state.reports state.elements (is_some state.id) (id_text (option_copied state.id)), (fine, (inr (something_of accepted some, inr (λ h. h known, shown)), refl)), refl)
+
+pub bye_said : (accepted : List Report) → Shows accepted calls.Bye accepted replies.Bye
+bye_said accepted = (replies.Bye, (fine, (refl, refl)), refl)

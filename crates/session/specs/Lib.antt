@@ -1,0 +1,4 @@
+pub mod Links
+pub mod SessionText
+pub mod Ends
+pub mod Parts

@@ -1,0 +1,30 @@
+//! Why a session ended.
+
+/// Why a session ended.
+#[derive(Clone, Copy, Debug, PartialEq, Eq)]
+pub enum Kind {
+    /// All input was read, and each line answered.
+    End,
+    /// The client said that it is done. What followed was not handled.
+    Bye,
+    /// More than 8,192 bytes came without LF. The lines before them were answered.
+    TooLong,
+    /// Memory was wanting for the lines of the bytes that were read, or for the reply to a question for a state. That line
+    /// and what followed it was not handled.
+    Memory,
+    /// A read failed. The lines before it were answered.
+    ReadFailed,
+    /// A write failed. What was to follow it was not handled.
+    WriteFailed,
+    /// The input did not end within the reads that a session makes. The lines that were read were answered.
+    Endless,
+}
+
+/// How a session ended.
+#[derive(Clone, Copy, Debug, PartialEq, Eq)]
+pub struct SessionEnd {
+    /// Why it ended.
+    pub kind: Kind,
+    /// How many lines were written whole.
+    pub replies: u64,
+}

@@ -1,0 +1,21 @@
+//! One client: lines in, replies out.
+//!
+//! A session reads some bytes, answers each line that they complete, and only then reads on.
+#![tactic(auto)]
+
+mod adapter;
+mod certificate;
+mod kind;
+mod link;
+mod reply_line;
+mod serving;
+mod session;
+mod turns;
+
+pub use adapter::{Reader, Writer};
+pub use kind::{Kind, SessionEnd};
+pub use link::{LinkFault, Sink, Source, put};
+pub use session::run_lines;
+
+#[cfg(test)]
+mod tests;

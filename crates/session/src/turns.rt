@@ -1,0 +1,153 @@
+//! Turns, which are counted.
+
+ghost use Rattle.std.specs.Prelude.{◌≡◌, IfOk, OnErr, length, option_copied, None};
+ghost use Rattle.report_line.specs.declared.call.Call.TheVariants as calls;
+ghost use Rattle.chains.specs.Processes.{known};
+ghost use Rattle.session.specs.Parts.{Shows, MakesTurn, id_text};
+
+use crate::certificate::line_text;
+use chains::{Admitted, Chains, Failed, FailedFault, State};
+use id_tree::Id;
+use report_line::{Call, Code, Name, Reply, Report, Text};
+use std::alloc::{AllocError, Global};
+use std::marker::Model;
+
+/// A refusal with nothing to name.
+fn refusal(code: Code) -> Reply
+    ensures { result ≡ Reply.No code None None }
+{
+    Reply::No {
+        code,
+        name: None,
+        value: None,
+    }
+}
+
+/// A report's turn.
+fn admit(chains: &mut Chains, report: Report) -> Reply
+    ensures { Shows chains.old.accepted (calls.Report report) chains.new.accepted result }
+{
+    match chains.admit_owned(report) {
+        Ok(Admitted::Accepted(front)) => Reply::Accepted(front),
+        Ok(Admitted::Old(front)) => Reply::Old(front),
+        Err(refused) => Reply::No {
+            code: refused.code,
+            name: refused.name,
+            value: refused.value,
+        },
+    }
+}
+
+/// The turn of a question for a line, and what is shown for it.
+fn line_of(chains: &Chains, names: &[Name]) -> Reply
+    ensures { Shows chains.now.accepted (calls.Line names.now) chains.now.accepted result }
+{
+    if chains.front() == 0 {
+        return refusal(Code::NothingBegun);
+    }
+    if chains.count() > 1 {
+        return Reply::Bad(1);
+    }
+    match Failed::from_names(chains, names) {
+        Ok(failed) => match line_text(chains, &failed) {
+            Ok(text) => Reply::Line(Text::from_vec(text)),
+            Err(_) => refusal(Code::OutOfMemory),
+        },
+        Err(FailedFault::Unknown(name)) => Reply::No {
+            code: Code::UnknownProcess,
+            name: Some(name),
+            value: None,
+        },
+        Err(FailedFault::Memory) => refusal(Code::OutOfMemory),
+    }
+}
+
+/// The text of a registered id, `0` where there is none.
+fn text_of(alloc: Global, id: Option<&Id>) -> Result<Text, AllocError>
+    ensures { IfOk result (λ text. text ≡ id_text (option_copied id.entry)) }
+{
+    let mut text = Vec::new(alloc);
+    match id {
+        Some(id) => id.write_to(&mut text)?,
+        None => text.extend_from_slice(b"0")?,
+    }
+    Ok(Text::from_vec(text))
+}
+
+/// The turn of a question for a state, if memory suffices for it.
+fn state_of(chains: &Chains, name: Name) -> Result<Reply, AllocError>
+    ensures { IfOk result (λ shown. Shows chains.now.accepted (calls.State name) chains.now.accepted shown) }
+{
+    if chains.front() == 0 {
+        return Ok(refusal(Code::NothingBegun));
+    }
+    let Some(
+        State {
+            reports,
+            elements,
+            id,
+        },
+    ) = chains.state(&name)
+    else {
+        return Ok(Reply::No {
+            code: Code::UnknownProcess,
+            name: Some(name),
+            value: None,
+        });
+    };
+    let text = text_of(chains.alloc(), id)?;
+    Ok(Reply::State {
+        name,
+        reports,
+        elements,
+        live: id.is_some(),
+        id: text,
+    })
+}
+
+/// The turn of a call, and what is shown for it. Without memory for the reply to a question for a state there is none.
+fn answer(chains: &mut Chains, call: Call) -> Result<Reply, AllocError>
+    ensures ok { IfOk result (λ shown. Shows chains.old.accepted call chains.new.accepted shown) }
+    ensures err { OnErr result (chains.new.accepted ≡ chains.old.accepted) }
+{
+    match call {
+        Call::Report(report) => Ok(admit(chains, report)),
+        Call::Line(names) => Ok(line_of(chains, names.as_slice())),
+        Call::State(name) => state_of(chains, name),
+        Call::Bye => Ok(Reply::Bye),
+        Call::Bad(number) => Ok(Reply::Bad(number)),
+        Call::Unread => Ok(refusal(Code::OutOfMemory)),
+    }
+}
+
+/// How many turns were made.
+#[derive(Drop)]
+pub(crate) struct Turns {
+    made: u64,
+}
+
+impl Model for Turns {
+    ghost use Rattle.std.specs.Prelude.{ℕ};
+
+    ghost Value = { ℕ };
+
+    ghost view = { λ t. t.made };
+}
+
+impl Turns {
+    /// None was made yet.
+    pub(crate) fn new() -> Turns
+        ensures { result ≡ 0 }
+    {
+        Turns { made: 0 }
+    }
+
+    /// Makes the turn of a call and counts it, and gives what is shown for it; without memory for that no turn is made.
+    pub(crate) fn make(&mut self, chains: &mut Chains, call: Call) -> Result<Reply, AllocError>
+        ensures { MakesTurn chains.old.accepted call chains.new.accepted self.old self.new result }
+    {
+        let shown = answer(chains, call)?;
+        self.made = self.made.saturating_add(1);
+        Ok(shown)
+    }
+}

@@ -10,7 +10,7 @@ use Rattle.std.proofs.lemmas.List.{map_push, take_more, get_or-map, get_or-take,
 use Rattle.std.proofs.lemmas.Slice.Eq.{bytes_eq-Decides}
 use Rattle.chains.specs.declared.process.Process.{Process}
 use Rattle.chains.specs.Processes.{Name}
-use Rattle.chains.specs.Inside.{AreDistinct}
+use Rattle.chains.specs.Inside.{AreDistinctNames}
 use Rattle.chains.specs.Keeping.{KeptProcess, view_of}
 
 pub views_more : (ks copy : List Process) (i : ℕ) (k same : Process) → i < length ks → k ≡ get_or ks i k → view_of same ≡ view_of k → map view_of copy ≡ take i (map view_of ks)
@@ -23,7 +23,7 @@ views_more ks copy i k same lt is as' before =
 -- ---- names
 
 -- a name does not stand before its place
-fresh_by : (names : List Name) (i : ℕ) (q : Name) (b : Bool) → AreDistinct names → i < length names → q ≡ get_or names i q → list_any (bytes_eq q) (take i names) ≡ b → b ≡ false
+fresh_by : (names : List Name) (i : ℕ) (q : Name) (b : Bool) → AreDistinctNames names → i < length names → q ≡ get_or names i q → list_any (bytes_eq q) (take i names) ≡ b → b ≡ false
 fresh_by names i q false distinct lt is e = refl
 fresh_by names i q true distinct lt is e =
     let there = Contains-from_any (λ x y h. (bytes_eq-Decides x y).0 h) q (take i names) e in
@@ -31,7 +31,7 @@ fresh_by names i q true distinct lt is e =
     let same = distinct there.0 i q (omega (arith, before, lt)) lt (sym (get_or-take i names there.0 q before) ∙ there.2 ∙ is) in
     absurd (omega arith)
 
-pub names_more : (names keys : List Name) (i : ℕ) (q copy : Name) → AreDistinct names → i < length names → q ≡ get_or names i q → copy ≡ q → keys ≡ take i names → insert_key (pointwise nat_eq) keys copy ≡ take (i + 1) names
+pub names_more : (names keys : List Name) (i : ℕ) (q copy : Name) → AreDistinctNames names → i < length names → q ≡ get_or names i q → copy ≡ q → keys ≡ take i names → insert_key (pointwise nat_eq) keys copy ≡ take (i + 1) names
 names_more names keys i q copy distinct lt is same before =
     let fresh = fresh_by names i q (list_any (bytes_eq q) (take i names)) distinct lt is refl in
     ap (λ (ks : List Name). insert_key (pointwise nat_eq) ks copy) before ∙ ap (insert_key (pointwise nat_eq) (take i names)) same

@@ -12,7 +12,7 @@ use Rattle.report_line.specs.declared.report.Report.TheVariants.{Begin, Numbered
 use Rattle.report_line.specs.declared.reply.Reply.TheVariants.{Accepted}
 use Rattle.chains.specs.Processes.{Name, newborn, child_of, known, IsKnown}
 use Rattle.chains.specs.Admission.{IsReachable, nothing_accepted, one_more, IsAdmission}
-use Rattle.chains.specs.Inside.{AreDistinct}
+use Rattle.chains.specs.Inside.{AreDistinctNames}
 use Rattle.chains.proofs.Passed.{IsFit, passed_tests, begins}
 use Rattle.chains.proofs.Stepping.{none_some, some_name, known-push}
 
@@ -22,7 +22,7 @@ use Rattle.chains.proofs.Stepping.{none_some, some_name, known-push}
 at_index : (ks : List Name) (q p : Name) (i : ℕ) → i < length ks → get_or (ks ++ q ∷ []) i p ≡ q → Contains ks q
 at_index ks q p i lt e = (i, lt, get_or_default ks i q p lt ∙ sym (get_or_append_left ks (q ∷ []) p i lt) ∙ e)
 
-distinct_cases : (ks : List Name) (q p : Name) (i j : ℕ) → AreDistinct ks → ¬ Contains ks q → (i < length ks) ⊎ (length ks ≤ i) → (j < length ks) ⊎ (length ks ≤ j)
+distinct_cases : (ks : List Name) (q p : Name) (i j : ℕ) → AreDistinctNames ks → ¬ Contains ks q → (i < length ks) ⊎ (length ks ≤ i) → (j < length ks) ⊎ (length ks ≤ j)
     → i < length (ks ++ q ∷ []) → j < length (ks ++ q ∷ []) → get_or (ks ++ q ∷ []) i p ≡ get_or (ks ++ q ∷ []) j p → i ≡ j
 distinct_cases ks q p i j d n (inl a) (inl b) lt lt' e = d i j p a b (sym (get_or_append_left ks (q ∷ []) p i a) ∙ e ∙ get_or_append_left ks (q ∷ []) p j b)
 distinct_cases ks q p i j d n (inl a) (inr b) lt lt' e =
@@ -33,11 +33,11 @@ distinct_cases ks q p i j d n (inr a) (inl b) lt lt' e =
     absurd (n (at_index ks q p j b (sym e ∙ ap (λ (k : ℕ). get_or (ks ++ q ∷ []) k p) last ∙ get_or-append_seam ks q [] p)))
 distinct_cases ks q p i j d n (inr a) (inr b) lt lt' e = omega (arith, length-append ks (q ∷ []))
 
-distinct_push : (ks : List Name) (q : Name) → AreDistinct ks → ¬ Contains ks q → AreDistinct (ks ++ q ∷ [])
+distinct_push : (ks : List Name) (q : Name) → AreDistinctNames ks → ¬ Contains ks q → AreDistinctNames (ks ++ q ∷ [])
 distinct_push ks q d n i j p lt lt' e = distinct_cases ks q p i j d n (cases_lt i (length ks)) (cases_lt j (length ks)) lt lt' e
 
-distinct_with : (ks : List Name) (o : Option Name) → AreDistinct ks → ((q : Name) → o ≡ Some q → ¬ Contains ks q) → AreDistinct (ks ++ cons_option o [])
-distinct_with ks None d n = subst AreDistinct (sym (append-nil ks)) d
+distinct_with : (ks : List Name) (o : Option Name) → AreDistinctNames ks → ((q : Name) → o ≡ Some q → ¬ Contains ks q) → AreDistinctNames (ks ++ cons_option o [])
+distinct_with ks None d n = subst AreDistinctNames (sym (append-nil ks)) d
 distinct_with ks (Some q) d n = distinct_push ks q d (n q refl)
 
 -- ---- names of processes
@@ -58,7 +58,7 @@ unknown_newborn accepted (Begin p) admitted q e = λ is_known.
     omega arith
 unknown_newborn accepted (Numbered p n s a) admitted q e = unknown_child accepted p a (passed_tests accepted p n s a (length accepted + 1) admitted).fit q e
 
-pub distinct_known : (accepted : List Report) → IsReachable accepted → AreDistinct (known accepted)
+pub distinct_known : (accepted : List Report) → IsReachable accepted → AreDistinctNames (known accepted)
 distinct_known _ nothing_accepted = λ i j p lt lt' e. absurd (omega arith)
 distinct_known _ (one_more accepted r reach admitted) =
-    subst AreDistinct (sym (known-push accepted r)) (distinct_with (known accepted) (newborn r) (distinct_known accepted reach) (unknown_newborn accepted r admitted))
+    subst AreDistinctNames (sym (known-push accepted r)) (distinct_with (known accepted) (newborn r) (distinct_known accepted reach) (unknown_newborn accepted r admitted))

@@ -10,7 +10,7 @@ use Rattle.report_line.specs.declared.report.Report.{Report}
 use Rattle.chains.specs.Processes.{Name, known, IsKnown}
 use Rattle.chains.specs.Elements.{name_of}
 use Rattle.chains.specs.Failures.{IsFailedSet, AreMarked, AreNumbersOf}
-use Rattle.chains.specs.Inside.{AreDistinct}
+use Rattle.chains.specs.Inside.{AreDistinctNames}
 use Rattle.chains.proofs.LookUps.{known_from}
 
 -- the places below i of set flags
@@ -74,7 +74,7 @@ all_listed flags i numbers e h = record { in_order = h.in_order; just_set = λ p
 
 -- ---- flags of named processes
 
-same_number : (accepted : List Report) (i j : ℕ) (p : Name) → AreDistinct (known accepted) → name_of accepted i ≡ Some p → name_of accepted j ≡ Some p → i ≡ j
+same_number : (accepted : List Report) (i j : ℕ) (p : Name) → AreDistinctNames (known accepted) → name_of accepted i ≡ Some p → name_of accepted j ≡ Some p → i ≡ j
 same_number accepted i j p distinct a b =
     distinct i j p (slice_get_within (known accepted) i p a) (slice_get_within (known accepted) j p b)
     (get_or_from_slice_get (known accepted) i p p a ∙ sym (get_or_from_slice_get (known accepted) j p p b))
@@ -92,7 +92,7 @@ new_name names i q lt is = subst (λ (l : List Name). Contains l q) (sym (take_m
 old_name : (names : List Name) (i : ℕ) (q name : Name) → i < length names → Contains (take i names) name → Contains (take (i + 1) names) name
 old_name names i q name lt there = subst (λ (l : List Name). Contains l name) (sym (take_more names i q lt)) (Contains-append_left (take i names) (get_or names i q ∷ []) name there)
 
-marked_at : (accepted : List Report) (names : List Name) (i j p : ℕ) (q name : Name) (flags : List Bool) → IsMarkedTo accepted names i flags → AreDistinct (known accepted) → i < length names → q ≡ get_or names i q → name_of accepted j ≡ Some q → name_of accepted p ≡ Some name
+marked_at : (accepted : List Report) (names : List Name) (i j p : ℕ) (q name : Name) (flags : List Bool) → IsMarkedTo accepted names i flags → AreDistinctNames (known accepted) → i < length names → q ≡ get_or names i q → name_of accepted j ≡ Some q → name_of accepted p ≡ Some name
     → (p ≡ j) ⊎ (p ≢ j) → (IsTrue (slice_index_or (set flags j true) p false) ↔ Contains (take (i + 1) names) name)
 marked_at accepted names i j p q name flags h distinct lt is found named (inl e) =
     let within = slice_get_within (known accepted) j q found in
@@ -110,7 +110,7 @@ marked_at accepted names i j p q name flags h distinct lt is found named (inr ot
       ],
     )
 
-pub marked_more : (accepted : List Report) (names : List Name) (i j : ℕ) (q : Name) (flags : List Bool) → IsMarkedTo accepted names i flags → AreDistinct (known accepted) → i < length names → q ≡ get_or names i q → name_of accepted j ≡ Some q → IsMarkedTo accepted names (i + 1) (set flags j true)
+pub marked_more : (accepted : List Report) (names : List Name) (i j : ℕ) (q : Name) (flags : List Bool) → IsMarkedTo accepted names i flags → AreDistinctNames (known accepted) → i < length names → q ≡ get_or names i q → name_of accepted j ≡ Some q → IsMarkedTo accepted names (i + 1) (set flags j true)
 marked_more accepted names i j q flags h distinct lt is found = record {
   complete = length-set flags j true ∙ h.complete;
   named = λ p name named. marked_at accepted names i j p q name flags h distinct lt is found named (cases_eq p j);

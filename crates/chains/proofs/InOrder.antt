@@ -23,7 +23,7 @@ use Rattle.report_line.specs.declared.reply.Reply.TheVariants.{Accepted}
 use Rattle.chains.specs.Admission.{IsReachable, IsAdmission, IsActionReply, IsBeginReply, FitsOrNot, report_limit, process_limit}
 use Rattle.chains.specs.Keeping.{KeptProcess, kept_of, last_index, indexes_from}
 use Rattle.chains.specs.Noting.{noted, taken, born, is_check, changed_at, names_with, TakenAt, IsKeptByAction}
-use Rattle.chains.specs.Inside.{AreDistinct}
+use Rattle.chains.specs.Inside.{AreDistinctNames}
 use Rattle.chains.proofs.Lists.{last_index-push}
 use Rattle.chains.proofs.LookUps.{found_name}
 use Rattle.chains.proofs.Keeps.{any_birth}
@@ -67,7 +67,7 @@ one_changed f g change names i p lt here elsewhere =
 
 -- ---- a known process, beside the one that reports
 
-module _ (accepted : List Report) (p : Name) (n : ℕ) (s : Stamp) (a : Action) (i : ℕ) (passed : Passed accepted p s a) (distinct : AreDistinct (known accepted)) (at : name_of accepted i ≡ Some p) where
+module _ (accepted : List Report) (p : Name) (n : ℕ) (s : Stamp) (a : Action) (i : ℕ) (passed : Passed accepted p s a) (distinct : AreDistinctNames (known accepted)) (at : name_of accepted i ≡ Some p) where
   within : i < length (known accepted)
   within = slice_get_within (known accepted) i p at
 
@@ -181,7 +181,7 @@ new_name accepted q unknown =
 
 -- ---- a retirement that is absorbed
 
-pub kept_taken : (accepted : List Report) (p : Name) (n : ℕ) (s : Stamp) (retired : Name) (i : ℕ) (o : Option ℕ) (after : List KeptProcess) → Passed accepted p s (Absorb retired) → AreDistinct (known accepted) → name_of accepted i ≡ Some p
+pub kept_taken : (accepted : List Report) (p : Name) (n : ℕ) (s : Stamp) (retired : Name) (i : ℕ) (o : Option ℕ) (after : List KeptProcess) → Passed accepted p s (Absorb retired) → AreDistinctNames (known accepted) → name_of accepted i ≡ Some p
     → position (pointwise nat_eq retired) (known accepted) ≡ o → TakenAt (known accepted) retired o (changed_at (noted (length accepted) false) i (map (kept_of accepted) (known accepted))) after
     → after ≡ map (kept_of (accepted ++ Numbered p n s (Absorb retired) ∷ [])) (known accepted)
 kept_taken accepted p n s retired i None after passed distinct at e is =
@@ -251,7 +251,7 @@ plain accepted p n s a i after none is =
     let same : known (accepted ++ Numbered p n s a ∷ []) ≡ known accepted = known-push accepted (Numbered p n s a) ∙ ap (λ (o : Option Name). known accepted ++ cons_option o []) none ∙ append-nil (known accepted) in
     (ap (names_with (known accepted)) none ∙ sym same, is ∙ sym (ap (map (kept_of (accepted ++ Numbered p n s a ∷ []))) same))
 
-pub in_order_numbered : (accepted : List Report) (p : Name) (n : ℕ) (s : Stamp) (a : Action) (i : ℕ) (after : List KeptProcess) → IsReachable accepted → AreDistinct (known accepted) → name_of accepted i ≡ Some p
+pub in_order_numbered : (accepted : List Report) (p : Name) (n : ℕ) (s : Stamp) (a : Action) (i : ℕ) (after : List KeptProcess) → IsReachable accepted → AreDistinctNames (known accepted) → name_of accepted i ≡ Some p
     → Passed accepted p s a → IsKeptByAction (known accepted) (changed_at (noted (length accepted) (is_check a)) i (map (kept_of accepted) (known accepted))) a (length accepted) after
     → (names_with (known accepted) (child_of a) ≡ known (accepted ++ Numbered p n s a ∷ [])) × (after ≡ map (kept_of (accepted ++ Numbered p n s a ∷ [])) (known (accepted ++ Numbered p n s a ∷ [])))
 in_order_numbered accepted p n s Check i after reach distinct at passed is =

@@ -32,13 +32,6 @@ passed_on F reply P accepted (Ok Fits) n h = inr (n, h)
 passed_on F reply P accepted (Err refusal) n (inl h) = inl (inr (n, h))
 passed_on F reply P accepted (Err refusal) n (inr h) = inr (h.0, inr (n, h.1), h.2, h.3, h.4, h.5)
 
--- what is decided so is decided by the whole
-pub weaker : (P Q : Reply → Type 0) (accepted : List Report) (r : Result Verdict No) → ((a : Reply) → P a → Q a) → Tests P accepted r → Tests Q accepted r
-weaker P Q accepted (Ok Old) f h = f _ h
-weaker P Q accepted (Ok Fits) f h = f _ h
-weaker P Q accepted (Err refusal) f (inl h) = inl (f _ h)
-weaker P Q accepted (Err refusal) f (inr h) = inr (h.0, f _ h.1, h.2, h.3, h.4, h.5)
-
 -- memory was wanting in an answer that takes memory
 pub lacking : (P : Reply → Type 0) (accepted : List Report) (refusal : No) (answer : Reply)
     → refusal ≡ record { code = OutOfMemory; name = None; value = None } → P answer → TakesMemory answer → Tests P accepted (Err refusal)

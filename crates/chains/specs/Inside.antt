@@ -22,15 +22,15 @@ kept_in a = record {
 }
 
 -- no name stands twice
-abbrev pub AreDistinct : List Name → Type 0
-AreDistinct names = (i j : ℕ) (p : Name) → i < length names → j < length names → slice_index_or names i p ≡ slice_index_or names j p → i ≡ j
+abbrev pub AreDistinctNames : List Name → Type 0
+AreDistinctNames names = (i j : ℕ) (p : Name) → i < length names → j < length names → slice_index_or names i p ≡ slice_index_or names j p → i ≡ j
 
 -- the names are those of the known processes, and beside each stands what is kept of it
 pub record AreInOrder (accepted : List Report) (names : List Name) (processes : List Process) : Type 0 where
   pub reachable : IsReachable accepted
   pub few : length accepted ≤ report_limit
   pub few_known : length (known accepted) ≤ process_limit
-  pub distinct : AreDistinct (known accepted)
+  pub distinct : AreDistinctNames (known accepted)
   pub named : names ≡ known accepted
   pub kept : map view_of processes ≡ map (kept_of accepted) (known accepted)
 

@@ -2,6 +2,8 @@
 use Rattle.std.specs.Prelude.{◌≡◌, ℕ, ◌+◌, Bool, false, List, [], ◌∷◌, Option, Some, None, count_by, Contains, if◌then◌else◌}
 use Rattle.std.specs.List.{filter_map, list_any}
 use Rattle.std.specs.Option.{option_map_or}
+-- the first of two that is there
+pub use Rattle.std.specs.Option.{option_or as first_of}
 use Rattle.std.specs.Str.{bytes_eq}
 use Rattle.id_tree.specs.IdTree.{IdTree, Zero, One}
 use Rattle.id_tree.specs.Sum.{sum_of}
@@ -50,11 +52,6 @@ reports_of p accepted = count_by (is_numbered_of p) accepted
 -- the number that the next report of p has to have
 abbrev pub next_number : Name → List Report → ℕ
 next_number p accepted = reports_of p accepted + 1
-
--- the first of two that is there
-abbrev pub first_of : {X : Type 0} → Option X → Option X → Option X
-first_of (Some x) o = Some x
-first_of None o = o
 
 -- the last element that passes a test
 abbrev pub last_passing : {X : Type 0} → (X → Bool) → List X → Option X

@@ -1,7 +1,7 @@
 //! Copies of what chains keep.
 
 ghost use Rattle.std.specs.Prelude.{◌≡◌, IfOk, map};
-ghost use Rattle.chains.specs.Inside.{AreDistinct};
+ghost use Rattle.chains.specs.Inside.{AreDistinctNames};
 ghost use Rattle.chains.specs.Keeping.{view_of};
 
 use crate::process::Process;
@@ -24,7 +24,7 @@ pub fn share_all(alloc: Global, reports: &[Shared]) -> Result<Vec<Shared>, Alloc
 
 /// The same names, in order.
 pub fn copy_names(alloc: Global, names: &[Name]) -> Result<IndexSet<Name>, AllocError>
-    requires { AreDistinct names.now }
+    requires { AreDistinctNames names.now }
     ensures { IfOk result (λ copy. copy.keys ≡ names.now) }
 {
     let mut copy = IndexSet::with_capacity(alloc, names.len())?;

@@ -53,7 +53,7 @@ pub enum StampFault {
     /// Some value would be greater than 4,294,967,295.
     #[error("an event that makes a value above 4294967295")]
     ClockFull,
-    /// A half of the id would be deeper than 40.
+    /// A part of the id would be deeper than 40.
     #[error("a fork of an id that is too deep to be split")]
     TooDeep,
     /// Some point is owned by both ids.

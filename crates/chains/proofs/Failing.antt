@@ -9,7 +9,7 @@ use Rattle.std.proofs.lemmas.Option.{same_Some, slice_get_within, get_or_from_sl
 use Rattle.report_line.specs.declared.report.Report.{Report}
 use Rattle.chains.specs.Processes.{Name, known, IsKnown}
 use Rattle.chains.specs.Elements.{name_of}
-use Rattle.chains.specs.Failures.{IsFailedSet, AreMarked, AreNumbersOf}
+use Rattle.chains.specs.Failures.{IsFailedSet, AreMarked, AreNumbersOf, AreFlagged}
 use Rattle.chains.specs.Inside.{AreDistinctNames}
 use Rattle.chains.proofs.LookUps.{known_from}
 
@@ -39,7 +39,7 @@ increasing_cases xs y k rises below lt (inr past) =
     let c = below (get_or xs k 0) (k, inside, get_or_default xs k (get_or xs k 0) 0 inside) in
     omega arith
 
-increasing_push : (xs : List ℕ) (y : ℕ) → IsStrictlyIncreasing xs → ((q : ℕ) → Contains xs q → q < y) → IsStrictlyIncreasing (xs ++ y ∷ [])
+pub increasing_push : (xs : List ℕ) (y : ℕ) → IsStrictlyIncreasing xs → ((q : ℕ) → Contains xs q → q < y) → IsStrictlyIncreasing (xs ++ y ∷ [])
 increasing_push xs y rises below k lt = increasing_cases xs y k rises below lt (cases_lt (k + 1) (length xs))
 
 pub listed_more : (flags : List Bool) (i : ℕ) (numbers : List ℕ) → IsListedTo flags i numbers → IsTrue (slice_index_or flags i false) → IsListedTo flags (i + 1) (numbers ++ i ∷ [])
@@ -79,18 +79,18 @@ same_number accepted i j p distinct a b =
     distinct i j p (slice_get_within (known accepted) i p a) (slice_get_within (known accepted) j p b)
     (get_or_from_slice_get (known accepted) i p p a ∙ sym (get_or_from_slice_get (known accepted) j p p b))
 
--- the names so far hold one more
-more_names : (names : List Name) (i : ℕ) (q name : Name) → i < length names → q ≡ get_or names i q → Contains (take (i + 1) names) name → Contains (take i names) name ⊎ (q ≡ name)
-more_names names i q name lt is there = elim (Contains-push_cases (take i names) (get_or names i q) name (subst (λ (l : List Name). Contains l name) (take_more names i q lt) there)) [
+-- the items so far hold one more
+more_items : {X : Type 0} (xs : List X) (i : ℕ) (x y : X) → i < length xs → x ≡ get_or xs i x → Contains (take (i + 1) xs) y → Contains (take i xs) y ⊎ (x ≡ y)
+more_items xs i x y lt is there = elim (Contains-push_cases (take i xs) (get_or xs i x) y (subst (λ l. Contains l y) (take_more xs i x lt) there)) [
   | inl old ↦ inl old
   | inr e ↦ inr (is ∙ e)
 ]
 
-new_name : (names : List Name) (i : ℕ) (q : Name) → i < length names → q ≡ get_or names i q → Contains (take (i + 1) names) q
-new_name names i q lt is = subst (λ (l : List Name). Contains l q) (sym (take_more names i q lt)) (subst (λ (p : Name). Contains (take i names ++ get_or names i q ∷ []) p) (sym is) (Contains-push (take i names) (get_or names i q)))
+new_item : {X : Type 0} (xs : List X) (i : ℕ) (x : X) → i < length xs → x ≡ get_or xs i x → Contains (take (i + 1) xs) x
+new_item xs i x lt is = subst (λ l. Contains l x) (sym (take_more xs i x lt)) (subst (λ p. Contains (take i xs ++ get_or xs i x ∷ []) p) (sym is) (Contains-push (take i xs) (get_or xs i x)))
 
-old_name : (names : List Name) (i : ℕ) (q name : Name) → i < length names → Contains (take i names) name → Contains (take (i + 1) names) name
-old_name names i q name lt there = subst (λ (l : List Name). Contains l name) (sym (take_more names i q lt)) (Contains-append_left (take i names) (get_or names i q ∷ []) name there)
+old_item : {X : Type 0} (xs : List X) (i : ℕ) (x y : X) → i < length xs → Contains (take i xs) y → Contains (take (i + 1) xs) y
+old_item xs i x y lt there = subst (λ l. Contains l y) (sym (take_more xs i x lt)) (Contains-append_left (take i xs) (get_or xs i x ∷ []) y there)
 
 marked_at : (accepted : List Report) (names : List Name) (i j p : ℕ) (q name : Name) (flags : List Bool) → IsMarkedTo accepted names i flags → AreDistinctNames (known accepted) → i < length names → q ≡ get_or names i q → name_of accepted j ≡ Some q → name_of accepted p ≡ Some name
     → (p ≡ j) ⊎ (p ≢ j) → (IsTrue (slice_index_or (set flags j true) p false) ↔ Contains (take (i + 1) names) name)
@@ -98,13 +98,13 @@ marked_at accepted names i j p q name flags h distinct lt is found named (inl e)
     let within = slice_get_within (known accepted) j q found in
     let there : j < length flags = omega (arith, h.complete) in
     let same : name ≡ q = same_Some name q (sym named ∙ ap (λ (k : ℕ). name_of accepted k) e ∙ found) in (
-      λ holds. subst (λ (n : Name). Contains (take (i + 1) names) n) (sym same) (new_name names i q lt is),
+      λ holds. subst (λ (n : Name). Contains (take (i + 1) names) n) (sym same) (new_item names i q lt is),
       λ there'. ap (λ (k : ℕ). get_or (set flags j true) k false) e ∙ get_or-set_same flags j true false there,
     )
 marked_at accepted names i j p q name flags h distinct lt is found named (inr other) =
     let unchanged = get_or-set_other flags j p true false other in (
-      λ holds. old_name names i q name lt ((h.named p name named).0 (sym unchanged ∙ holds)),
-      λ there. elim (more_names names i q name lt is there) [
+      λ holds. old_item names i q name lt ((h.named p name named).0 (sym unchanged ∙ holds)),
+      λ there. elim (more_items names i q name lt is there) [
         | inl old ↦ unchanged ∙ (h.named p name named).1 old
         | inr e ↦ absurd (other (same_number accepted p j q distinct (named ∙ ap (λ (n : Name). Some n) (sym e)) found))
       ],
@@ -154,3 +154,51 @@ all_set accepted flags n e is = record {
 
 pub all_are_known : (accepted : List Report) → All (IsKnown accepted) (known accepted)
 all_are_known accepted = All-from_get_or (IsKnown accepted) (known accepted) [] (λ i lt. (i, lt, get_or_default (known accepted) i (get_or (known accepted) i []) [] lt))
+
+-- ---- flags of numbers
+
+flagged_at : (numbers : List ℕ) (i n p : ℕ) (flags : List Bool) → AreFlagged (take i numbers) n flags → i < length numbers → get_or numbers i 0 < n → p < n → (p ≡ get_or numbers i 0) ⊎ (p ≢ get_or numbers i 0)
+    → (IsTrue (slice_index_or (set flags (get_or numbers i 0) true) p false) ↔ Contains (take (i + 1) numbers) p)
+flagged_at numbers i n p flags h lt below within (inl e) = (
+  λ holds. subst (λ (k : ℕ). Contains (take (i + 1) numbers) k) (sym e) (new_item numbers i (get_or numbers i 0) lt (get_or_default numbers i 0 (get_or numbers i 0) lt)),
+  λ there. ap (λ (k : ℕ). get_or (set flags (get_or numbers i 0) true) k false) e ∙ get_or-set_same flags (get_or numbers i 0) true false (omega (arith, h.complete)),
+)
+flagged_at numbers i n p flags h lt below within (inr other) =
+    let unchanged = get_or-set_other flags (get_or numbers i 0) p true false other in (
+      λ holds. old_item numbers i (get_or numbers i 0) p lt ((h.just p within).0 (sym unchanged ∙ holds)),
+      λ there. elim (more_items numbers i (get_or numbers i 0) p lt (get_or_default numbers i 0 (get_or numbers i 0) lt) there) [
+        | inl old ↦ unchanged ∙ (h.just p within).1 old
+        | inr e ↦ absurd (other (sym e))
+      ],
+    )
+
+pub flagged_more : (numbers : List ℕ) (i n : ℕ) (flags : List Bool) → AreFlagged (take i numbers) n flags → i < length numbers → get_or numbers i 0 < n → AreFlagged (take (i + 1) numbers) n (set flags (get_or numbers i 0) true)
+flagged_more numbers i n flags h lt below = record {
+  complete = length-set flags (get_or numbers i 0) true ∙ h.complete;
+  just = λ p within. flagged_at numbers i n p flags h lt below within (cases_eq p (get_or numbers i 0));
+}
+
+-- a number that is not below n has no flag
+pub flagged_other : (numbers : List ℕ) (i n : ℕ) (flags : List Bool) → AreFlagged (take i numbers) n flags → i < length numbers → n ≤ get_or numbers i 0 → AreFlagged (take (i + 1) numbers) n flags
+flagged_other numbers i n flags h lt past = record {
+  complete = h.complete;
+  just = λ p within. (
+    λ holds. old_item numbers i (get_or numbers i 0) p lt ((h.just p within).0 holds),
+    λ there. elim (more_items numbers i (get_or numbers i 0) p lt (get_or_default numbers i 0 (get_or numbers i 0) lt) there) [
+      | inl old ↦ (h.just p within).1 old
+      | inr e ↦ absurd (omega (arith, e))
+    ],
+  );
+}
+
+pub all_flagged : (numbers : List ℕ) (i n : ℕ) (flags : List Bool) → length numbers ≤ i → AreFlagged (take i numbers) n flags → AreFlagged numbers n flags
+all_flagged numbers i n flags le h = subst (λ (l : List ℕ). AreFlagged l n flags) (take_all i numbers le) h
+
+-- the numbers whose flags are set are those below n
+pub flagged_numbers : (numbers : List ℕ) (n : ℕ) (flags : List Bool) (found : List ℕ) → AreFlagged numbers n flags → AreNumbersOf flags found → (p : ℕ) → (Contains found p ↔ (Contains numbers p × (p < n)))
+flagged_numbers numbers n flags found h is p = (
+  λ there.
+      let was = (is.just_set p).0 there in
+      let within : p < n = omega (arith, was.0, h.complete) in ((h.just p within).0 was.1, within),
+  λ both. (is.just_set p).1 (omega (arith, both.1, h.complete), (h.just p both.1).1 both.0),
+)

@@ -9,7 +9,8 @@ use Rattle.chains.specs.declared.position.Position.{Position}
 use Rattle.chains.specs.declared.position.Position.TheVariants.{At, Retired}
 use Rattle.chains.specs.Processes.{known, last_events}
 use Rattle.chains.specs.Elements.{name_of, element}
-use Rattle.chains.specs.Positions.{Place, is_retired, position_in}
+use Rattle.chains.specs.declared.position.Place.{Place}
+use Rattle.chains.specs.Positions.{is_retired, position_in}
 
 -- the events of a retired process are those of its retirement, which is its last report
 abbrev pub retired_events : List Report → ℕ → Option EventTree

@@ -3,8 +3,6 @@ pub mod Admission
 pub mod Elements
 pub mod Positions
 pub mod Knowledge
-pub mod Certificates
-pub mod CertificateText
 pub mod Turns
 pub mod Answers
 pub mod Failures

@@ -1,16 +1,13 @@
--- Positions of processes, and cuts. Processes go by their numbers, counted from 0 in order of birth.
-use Rattle.std.specs.Prelude.{◌≡◌, ◌⊎◌, ℕ, ◌+◌, ◌≤◌, ◌<◌, Bool, true, false, List, length, Contains, slice_index_or}
+-- Positions of processes, and cuts. Processes go by their numbers, counted from 0 in order of birth. A position is At 0
+-- (unborn), At an element's number, or Retired; a place is a position of a process.
+use Rattle.std.specs.Prelude.{◌≡◌, ◌⊎◌, ℕ, ◌+◌, ◌≤◌, ◌<◌, Bool, true, false, List, length, Contains, slice_index_or, nat_lt, if◌then◌else◌}
 use Rattle.std.specs.Option.{option_map_or, is_some}
 use Rattle.report_line.specs.declared.report.Report.{Report}
+use Rattle.chains.specs.declared.position.Place.{Place}
 use Rattle.chains.specs.declared.position.Position.{Position}
 use Rattle.chains.specs.declared.position.Position.TheVariants.{At, Retired}
 use Rattle.chains.specs.Processes.{known, target_of}
 use Rattle.chains.specs.Elements.{name_of, elements, lasting}
-
--- A position is At 0 (unborn), At an element's number, or Retired. A place is a position of a process.
-pub record Place : Type 0 where
-  pub process : ℕ
-  pub position : Position
 
 -- whether the process retired
 abbrev pub is_retired : List Report → ℕ → Bool
@@ -26,6 +23,17 @@ IsSurviving accepted failed p Retired = is_retired accepted p ≡ true
 abbrev pub rank : List Report → ℕ → Position → ℕ
 rank accepted p (At k) = k
 rank accepted p Retired = length (elements accepted p) + 1
+
+-- the position of this rank, where the process has one
+abbrev pub position_at : List Report → ℕ → ℕ → Position
+position_at accepted p r = if nat_lt (length (elements accepted p)) r then Retired else At r
+
+abbrev pub place_at : List Report → ℕ → ℕ → Place
+place_at accepted p r = record { process = p; position = position_at accepted p r }
+
+-- the rank of the last position that the process has
+abbrev pub last_rank : List Report → ℕ → ℕ
+last_rank accepted p = if is_retired accepted p then length (elements accepted p) + 1 else length (elements accepted p)
 
 -- the last surviving position
 pub record IsLastSurviving (accepted : List Report) (failed : List ℕ) (p : ℕ) (last : Position) : Type 0 where

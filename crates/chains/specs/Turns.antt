@@ -1,5 +1,5 @@
 -- One turn: the reply to a call over an accepted list, and what is accepted then.
-use Rattle.std.specs.Prelude.{◌≡◌, ◌⊎◌, ◌<◌, ℕ, true, false, codes, List, [], All, Option, Some, None, length}
+use Rattle.std.specs.Prelude.{◌≡◌, ◌⊎◌, true, false, codes, List, [], All, Option, Some, None, length}
 use Rattle.id_tree.specs.Spelling.{spelling}
 use Rattle.report_line.specs.declared.code.Code.TheVariants.{NothingBegun, UnknownProcess, OutOfMemory}
 use Rattle.report_line.specs.declared.report.Report.{Report as AnyReport}
@@ -7,12 +7,10 @@ use Rattle.report_line.specs.declared.call.Call.{Call}
 use Rattle.report_line.specs.declared.call.Call.TheVariants.{Report, Line, State, Bye, Bad, Unread}
 use Rattle.report_line.specs.declared.reply.Reply.{Reply}
 use Rattle.report_line.specs.declared.reply.Reply.TheVariants as replies
-use Rattle.chains.specs.Processes.{Name, known, IsKnown, reports_of, registered_id, target_of}
+use Rattle.chains.specs.Processes.{Name, IsKnown, reports_of, registered_id, target_of}
 use Rattle.chains.specs.Elements.{elements_of}
 use Rattle.chains.specs.Admission.{Decides, IsAdmission, accepted_after, TakesMemory}
 use Rattle.chains.specs.Failures.{IsFirstUnknown}
-use Rattle.chains.specs.Certificates.{Certificate, Certifies, IsForNames}
-use Rattle.chains.specs.CertificateText.{certificate_text}
 
 -- What may happen in a turn: nothing amiss, or a growth that is refused.
 pub data Fate : Type 0 where
@@ -22,14 +20,12 @@ pub data Fate : Type 0 where
 abbrev pub no_memory : Reply
 no_memory = replies.No OutOfMemory None None
 
--- The reply to a question for a line: refused, or taken at this front. While several processes are known no line can be
--- found yet, and the question is answered as one outside the grammar.
+-- The reply to a question for a line: refused, or taken at this front.
 abbrev pub IsLineReply : List AnyReport → List Name → Reply → Type 0
 IsLineReply accepted names reply =
     Decides (accepted ≡ []) (replies.No NothingBegun None None) reply
-    (Decides (1 < length (known accepted)) (replies.Bad 1) reply
     (((name : Name) × IsFirstUnknown accepted names name × (reply ≡ replies.No UnknownProcess (Some name) None))
-    ⊎ (All (IsKnown accepted) names × (reply ≡ replies.Taken (length accepted)))))
+    ⊎ (All (IsKnown accepted) names × (reply ≡ replies.Taken (length accepted))))
 
 -- what is told of a process that lives, or that retired into this target
 abbrev pub state_by : Option Name → List AnyReport → Name → Reply
@@ -60,16 +56,3 @@ IsTurnWith fate accepted Unread reply after = (reply ≡ no_memory) × (after �
 
 abbrev pub IsTurn : List AnyReport → Call → Reply → List AnyReport → Type 0
 IsTurn accepted call reply after = (fate : Fate) × IsTurnWith fate accepted call reply after
-
--- the text of a certificate for these names, which certifies for the accepted list
-pub record IsLineText (accepted : List AnyReport) (names : List Name) (text : List ℕ) : Type 0 where
-  pub certificate : Certificate
-  pub for_names : IsForNames accepted names certificate
-  pub certifies : Certifies accepted certificate
-  pub text_is : text ≡ certificate_text accepted certificate
-
--- the reply that is shown for a turn's: a line for one that was taken, or that memory was wanting; else the reply itself
-abbrev pub IsShown : List AnyReport → Call → Reply → Reply → Type 0
-IsShown accepted (Line names) (replies.Taken front) shown =
-    ((text : List ℕ) × (shown ≡ replies.Line text) × IsLineText accepted names text) ⊎ (shown ≡ no_memory)
-IsShown accepted call reply shown = shown ≡ reply

@@ -6,9 +6,10 @@ ghost use Rattle.report_line.specs.declared.reply.Reply.TheVariants.{Accepted};
 ghost use Rattle.id_tree.specs.IdTree.{One};
 ghost use Rattle.event_tree.specs.EventTree.{Leaf};
 ghost use Rattle.chains.specs.Processes.{Name as AnyName, known, newborn, IsKnown, reports_of, last_report, birth_report, id_after, id_at_birth, events_after, registered_id, last_events, target_of, is_absorbed};
-ghost use Rattle.chains.specs.Elements.{name_of, elements, elements_of, lasting_of, lasting_made, present_in};
+ghost use Rattle.chains.specs.Elements.{name_of, element, elements, elements_of, lasting_of, lasting_made, present_in};
 ghost use Rattle.chains.specs.Stamps.{stamp_of};
 ghost use Rattle.chains.specs.Positions.{IsLastSurviving};
+ghost use Rattle.chains.specs.Knowledge.{events_at, retired_events};
 ghost use Rattle.chains.specs.States.{IsStateOf};
 ghost use Rattle.chains.specs.Admission.{IsReachable, IsAdmission, report_limit, process_limit};
 ghost use Rattle.chains.specs.Kept.{Kept, HasRoomFor};
@@ -27,7 +28,7 @@ ghost use Rattle.std.specs.Cmp.Lexicographic.{pointwise};
 use crate::copies::{copy_names, copy_processes, share_all};
 use crate::elements::{Element, Elements};
 use crate::failed::Failed;
-use crate::position::Position;
+use crate::position::{Place, Position};
 use crate::prepared::{Prepared, Ready};
 use crate::process::Process;
 use crate::refusal::{Admitted, No};
@@ -236,7 +237,8 @@ impl Chains {
     /// How many elements it has.
     pub(crate) fn element_count(&self, process: u32) -> u32
         requires { process < length (known self.now.accepted) }
-        ensures { (p : AnyName) → name_of self.now.accepted process ≡ Some p → result ≡ length (elements_of p self.now.accepted) }
+        ensures count { (p : AnyName) → name_of self.now.accepted process ≡ Some p → result ≡ length (elements_of p self.now.accepted) }
+        ensures few { result ≤ report_limit + 1 }
     {
         self.lasting_count(process) + present_count(self.last_report(process))
     }
@@ -281,6 +283,45 @@ impl Chains {
     {
         let index = self.processes[process as usize].lasting[k as usize];
         self.reports[index as usize].get()
+    }
+
+    /// The events of a place: those of its element, or of the retirement. It takes no memory.
+    pub fn events_at(&self, place: Place) -> Option<&Events>
+        ensures { option_copied result ≡ events_at self.now.accepted place }
+    {
+        let process = place.process;
+        if process >= self.count() {
+            return None;
+        }
+        match place.position {
+            Position::At(k) => self.events_of_element(process, k),
+            Position::Retired => self.events_of_retirement(process),
+        }
+    }
+
+    /// The events of element k of a process, counted from 1.
+    fn events_of_element(&self, process: u32, k: u32) -> Option<&Events>
+        requires { process < length (known self.now.accepted) }
+        ensures { option_copied result ≡ option_map (λ y. y.events) (element self.now.accepted process k) }
+    {
+        if k == 0 {
+            return None;
+        }
+        match self.element(process, k - 1) {
+            None => None,
+            Some(element) => Some(element.events),
+        }
+    }
+
+    /// The events of the retirement of a process, if it retired.
+    fn events_of_retirement(&self, process: u32) -> Option<&Events>
+        requires { process < length (known self.now.accepted) }
+        ensures { option_copied result ≡ retired_events self.now.accepted process }
+    {
+        match self.target_of(process) {
+            None => None,
+            Some(_) => Some(self.last_events(process)),
+        }
     }
 
     /// What is kept of the process of this name, if it is known. It takes no memory.

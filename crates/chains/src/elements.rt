@@ -1,10 +1,11 @@
 //! The elements of a process.
 
-ghost use Rattle.std.specs.Prelude.{◌≡◌, ◌<◌, length, slice_get};
+ghost use Rattle.std.specs.Prelude.{◌≡◌, ◌<◌, ◌≤◌, ◌+◌, length, slice_get};
 ghost use Rattle.std.specs.Option.{option_map};
 ghost use Rattle.chains.specs.Processes.{known};
 ghost use Rattle.chains.specs.Elements.{elements};
 ghost use Rattle.chains.specs.Stamps.{stamp_of};
+ghost use Rattle.chains.specs.Admission.{report_limit};
 
 use crate::chains::Chains;
 use event_tree::Events;
@@ -53,7 +54,8 @@ impl<'a> Elements<'a> {
 
     /// How many they are.
     pub fn len(&self) -> u32
-        ensures { result ≡ length self.now }
+        ensures count { result ≡ length self.now }
+        ensures few { result ≤ report_limit + 1 }
     {
         self.chains.element_count(self.process)
     }

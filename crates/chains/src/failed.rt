@@ -1,8 +1,9 @@
 //! Sets of failed processes.
 
 ghost use Rattle.std.specs.Prelude.{◌≡◌, ◌<◌, ◌^◌, ◌↔◌, List, ℕ, IfOk, IsTrue, MatchOption, All, Contains, length};
+ghost use Rattle.std.specs.List.Sorted.{IsStrictlyIncreasing};
 ghost use Rattle.chains.specs.Processes.{known, IsKnown};
-ghost use Rattle.chains.specs.Failures.{IsFailedSet, IsFirstUnknown, FailsAs, AreMarked, AreNumbersOf};
+ghost use Rattle.chains.specs.Failures.{IsFailedSet, IsFirstUnknown, FailsAs, AreMarked, AreFlagged, AreNumbersOf};
 
 use crate::chains::Chains;
 use report_line::Name;
@@ -16,9 +17,14 @@ pub struct Failed {
 }
 
 impl Model for Failed {
+    ghost use Rattle.std.specs.Prelude.{List, ℕ};
+    ghost use Rattle.std.specs.List.Sorted.{IsStrictlyIncreasing};
+
     ghost Value = { List ℕ };
 
     ghost view = { λ f. f.numbers.items };
+
+    ghost invariant = { λ f. IsStrictlyIncreasing f.numbers.items };
 }
 
 /// Why names make no set of failed processes.
@@ -57,9 +63,28 @@ impl Failed {
 
     /// The numbers of the failed processes, in order of birth.
     pub fn numbers(&self) -> &[u32]
-        ensures { result.now ≡ self.now }
+        ensures numbers { result.now ≡ self.now }
+        ensures in_order { IsStrictlyIncreasing result.now }
     {
         &self.numbers
+    }
+
+    /// The numbers of the failed processes, in order of birth.
+    pub fn into_numbers(self) -> Vec<u32>
+        ensures numbers { result.items ≡ self }
+        ensures in_order { IsStrictlyIncreasing result.items }
+    {
+        self.numbers
+    }
+
+    /// Those of them that are known to these chains, from which the set need not be.
+    pub fn known_to(&self, chains: &Chains) -> Result<Failed, AllocError>
+        ensures { IfOk result (λ f. (p : ℕ) → (Contains f p ↔ (Contains self.now p × (p < length (known chains.now.accepted))))) }
+    {
+        chains.lawful();
+        let flags = flags_below(chains.alloc(), self.numbers(), chains.count() as usize)?;
+        let numbers = marked(chains.alloc(), &flags)?;
+        Ok(Failed { numbers })
     }
 
     /// Whether the process of this number failed. It takes no memory.
@@ -105,6 +130,20 @@ fn flags_of(chains: &Chains, names: &[Name]) -> Result<Vec<bool>, AllocError>
             unreachable!();
         };
         flags[number as usize] = true;
+    }
+    Ok(flags)
+}
+
+/// Which numbers below the count are among these.
+fn flags_below(alloc: Global, numbers: &[u32], count: usize) -> Result<Vec<bool>, AllocError>
+    ensures { IfOk result (λ flags. AreFlagged numbers.now count flags.items) }
+{
+    let mut flags = Vec::from_elem(alloc, false, count)?;
+    for i in 0..numbers.len() {
+        let number = numbers[i] as usize;
+        if number < count {
+            flags[number] = true;
+        }
     }
     Ok(flags)
 }

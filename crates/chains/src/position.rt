@@ -1,4 +1,4 @@
-//! Where a process stands in a recovery line.
+//! Where processes stand in a recovery line.
 
 /// A position of a process.
 #[derive(Clone, Copy, Debug, PartialEq, Eq)]
@@ -7,4 +7,11 @@ pub enum Position {
     At(u32),
     /// It ended, and what it had went to another process.
     Retired,
+}
+
+/// A position of a process by its number, counted from 0 in order of birth.
+#[derive(Clone, Copy, Debug, PartialEq, Eq)]
+pub struct Place {
+    pub process: u32,
+    pub position: Position,
 }

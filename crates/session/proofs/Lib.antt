@@ -1,6 +1,5 @@
 pub mod Sent
 pub mod TurnSteps
-pub mod CertificateSteps
 pub mod Served
 pub mod ServeSteps
 pub mod Steps

@@ -1,6 +1,7 @@
 -- Turns of questions.
-use Rattle.std.proofs.Common.{◌≡◌, ℕ, ◌<◌, ◌≤◌, List, [], ◌∷◌, length, Option, Some, None, true, refl, ap, arith, inl, inr, All, rules}
-use Rattle.std.specs.Prelude.{◌⊎◌, option_copied, is_some}
+use Rattle.std.proofs.Common.{◌≡◌, ℕ, ◌<◌, List, [], ◌∷◌, length, Option, Some, None, true, refl, ap, arith, inl, inr, All, rules}
+use Rattle.std.specs.Prelude.{◌⊎◌, ◌↔◌, Contains, option_copied, is_some}
+use Rattle.std.proofs.lemmas.Option.{slice_get_within}
 use denote.Ref.{Bor}
 use Rattle.id_tree.specs.IdTree.{IdTree}
 use Rattle.report_line.specs.declared.code.Code.TheVariants.{NothingBegun, UnknownProcess}
@@ -12,8 +13,12 @@ use Rattle.chains.specs.Processes.{Name, known, IsKnown, reports_of, target_of}
 use Rattle.chains.specs.Elements.{elements_of}
 use Rattle.chains.specs.States.{live_id, IsStateOf}
 use Rattle.chains.specs.declared.state.State.{State}
-use Rattle.chains.specs.Failures.{IsFirstUnknown}
-use Rattle.chains.specs.Turns.{fine, no_memory, state_by, IsLineText}
+use Rattle.chains.specs.Failures.{IsFirstUnknown, IsFailedSet}
+use Rattle.chains.specs.Turns.{fine, no_memory, state_by}
+use Rattle.reasons.specs.Shown.{IsLineText}
+use Rattle.reasons.specs.declared.certificate.Certificate.{Certificate}
+use Rattle.reasons.specs.Certificates.{Certifies}
+use Rattle.reasons.specs.CertificateText.{certificate_text}
 use Rattle.session.specs.Parts.{Shows, id_text}
 
 nothing_of : (accepted : List Report) → length accepted ≡ 0 → accepted ≡ []
@@ -26,25 +31,22 @@ something_of accepted lt e = let none : length accepted ≡ 0 = ap length e in a
 pub nothing_begun : (accepted : List Report) (names : List Name) → length accepted ≡ 0 → Shows accepted (calls.Line names) accepted (replies.No NothingBegun None None)
 nothing_begun accepted names none = (replies.No NothingBegun None None, (fine, (inl (nothing_of accepted none, refl), refl)), refl)
 
-pub several_known : (accepted : List Report) (names : List Name) → 0 < length accepted → 1 < length (known accepted) → Shows accepted (calls.Line names) accepted (replies.Bad 1)
-several_known accepted names some several = (replies.Bad 1, (fine, (inr (something_of accepted some, inl (several, refl)), refl)), refl)
-
-pub unknown_name : (accepted : List Report) (names : List Name) (name : Name) → 0 < length accepted → length (known accepted) ≤ 1 → IsFirstUnknown accepted names name
+pub unknown_name : (accepted : List Report) (names : List Name) (name : Name) → 0 < length accepted → IsFirstUnknown accepted names name
     → Shows accepted (calls.Line names) accepted (replies.No UnknownProcess (Some name) None)
-unknown_name accepted names name some few first =
-    (replies.No UnknownProcess (Some name) None, (fine, (inr (something_of accepted some, inr (λ h. absurd (omega arith), inl (name, first, refl))), refl)), refl)
+unknown_name accepted names name some first =
+    (replies.No UnknownProcess (Some name) None, (fine, (inr (something_of accepted some, inl (name, first, refl)), refl)), refl)
 
-taken : (accepted : List Report) (names : List Name) (shown : Reply) → 0 < length accepted → length (known accepted) ≤ 1 → All (IsKnown accepted) names
+taken : (accepted : List Report) (names : List Name) (shown : Reply) → 0 < length accepted → All (IsKnown accepted) names
     → (((text : List ℕ) × (shown ≡ replies.Line text) × IsLineText accepted names text) ⊎ (shown ≡ no_memory)) → Shows accepted (calls.Line names) accepted shown
-taken accepted names shown some few known shows =
-    (replies.Taken (length accepted), (fine, (inr (something_of accepted some, inr (λ h. absurd (omega arith), inr (known, refl))), refl)), shows)
+taken accepted names shown some known shows =
+    (replies.Taken (length accepted), (fine, (inr (something_of accepted some, inr (known, refl)), refl)), shows)
 
-pub shown_text : (accepted : List Report) (names : List Name) (text : List ℕ) → 0 < length accepted → length (known accepted) ≤ 1 → All (IsKnown accepted) names → IsLineText accepted names text
+pub shown_text : (accepted : List Report) (names : List Name) (text : List ℕ) → 0 < length accepted → All (IsKnown accepted) names → IsLineText accepted names text
     → Shows accepted (calls.Line names) accepted (replies.Line text)
-shown_text accepted names text some few known is = taken accepted names (replies.Line text) some few known (inl (text, refl, is))
+shown_text accepted names text some known is = taken accepted names (replies.Line text) some known (inl (text, refl, is))
 
-pub shown_none : (accepted : List Report) (names : List Name) → 0 < length accepted → length (known accepted) ≤ 1 → All (IsKnown accepted) names → Shows accepted (calls.Line names) accepted no_memory
-shown_none accepted names some few known = taken accepted names no_memory some few known (inr refl)
+pub shown_none : (accepted : List Report) (names : List Name) → 0 < length accepted → All (IsKnown accepted) names → Shows accepted (calls.Line names) accepted no_memory
+shown_none accepted names some known = taken accepted names no_memory some known (inr refl)
 
 pub bad_line : (accepted after : List Report) (n : ℕ) → after ≡ accepted → Shows accepted (calls.Bad n) after (replies.Bad n)
 bad_line accepted after n same = (replies.Bad n, (fine, (refl, same)), refl)
@@ -72,3 +74,16 @@ shown_state accepted p state some known is =
 
 pub bye_said : (accepted : List Report) → Shows accepted calls.Bye accepted replies.Bye
 bye_said accepted = (replies.Bye, (fine, (refl, refl)), refl)
+
+-- the certificate for a failed set that these names have is one for the names
+pub line_of_names : (accepted : List Report) (names : List Name) (failed text : List ℕ) (c : Certificate) → IsFailedSet accepted names failed
+    → ((p : ℕ) → (Contains c.failed p ↔ (Contains failed p × (p < length (known accepted))))) → Certifies accepted c → text ≡ certificate_text accepted c → IsLineText accepted names text
+line_of_names accepted names failed text c set just certifies is = record {
+  certificate = c;
+  for_names = λ p name at. (
+    λ there. (set.just_named p name at).0 ((just p).0 there).0,
+    λ named. (just p).1 ((set.just_named p name at).1 named, slice_get_within (known accepted) p name at),
+  );
+  certifies = certifies;
+  text_is = is;
+}

@@ -1,5 +1,5 @@
 -- Words of the layers below a session.
-use Rattle.std.specs.Prelude.{◌≡◌, ℕ, zero, suc, ◌+◌, ◌⊎◌, ◌<◌, List, [], ◌∷◌, ◌++◌, length, Contains, Option, Some, None, IsSome, IsNone, Result, Ok, Err, codes}
+use Rattle.std.specs.Prelude.{◌≡◌, ℕ, ◌+◌, ◌⊎◌, List, [], ◌++◌, length, Option, Some, None, IsSome, IsNone, Result, Ok, Err, codes}
 use Rattle.std.specs.Io.KnownBytes.{Appends, Consumes}
 use Rattle.id_tree.specs.IdTree.{IdTree}
 use Rattle.id_tree.specs.Spelling.{spelling}
@@ -7,11 +7,8 @@ use Rattle.report_line.specs.declared.report.Report.{Report}
 use Rattle.report_line.specs.declared.call.Call.{Call}
 use Rattle.report_line.specs.declared.reply.Reply.{Reply}
 use Rattle.report_line.specs.Cutting.{Stand, cut_from}
-use Rattle.chains.specs.declared.position.Position.{Position}
-use Rattle.chains.specs.Processes.{known}
-use Rattle.chains.specs.Positions.{IsLastSurviving, position_in}
-use Rattle.chains.specs.Certificates.{Certificate}
-use Rattle.chains.specs.Turns.{IsTurn, IsShown}
+use Rattle.chains.specs.Turns.{IsTurn}
+use Rattle.reasons.specs.Shown.{IsShown}
 use Rattle.session.specs.declared.kind.Kind.{Kind}
 use Rattle.session.specs.declared.kind.Kind.TheVariants as kinds
 use Rattle.session.specs.declared.serving.LinesEnd.{LinesEnd}
@@ -149,23 +146,3 @@ abbrev pub Closes : Option (List ℕ) → Option (List ℕ) → Kind → ℕ →
 Closes held held_after kind count end total =
     ((end ≡ kind) × (total ≡ count + ending_count kind) × Appends held held_after (ending_line kind))
     ⊎ ((end ≡ kinds.WriteFailed) × (total ≡ count) × ((part : List ℕ) × IsCutShort (ending_line kind) part × Appends held held_after part))
-
--- ---- certificates
-
--- the first n positions of a cut are the last surviving ones of the first n processes
-pub record AreLast (accepted : List Report) (failed : List ℕ) (n : ℕ) (cut : List Position) : Type 0 where
-  pub complete : length cut ≡ n
-  pub last : (p : ℕ) → p < n → IsLastSurviving accepted failed p (position_in cut p)
-
--- each is the number of a known process
-abbrev pub AreNumbers : List Report → List ℕ → Type 0
-AreNumbers accepted numbers = (p : ℕ) → Contains numbers p → p < length (known accepted)
-
--- the certificate of these failed processes with this line, which needs no reasons
-abbrev pub plain_certificate : List Report → List ℕ → List Position → Certificate
-plain_certificate accepted failed line = record { failed = failed; front = length accepted; line = line; reasons = [] }
-
--- what stands before the item of this index
-abbrev pub separator : ℕ → List ℕ
-separator zero = []
-separator (suc n) = 44 ∷ []

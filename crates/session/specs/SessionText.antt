@@ -8,7 +8,8 @@ use Rattle.report_line.specs.declared.reply.Reply.{Reply}
 use Rattle.report_line.specs.Cutting.{Stand, ended, cut_of}
 use Rattle.report_line.specs.Reading.{Spells}
 use Rattle.report_line.specs.Replies.{reply_text}
-use Rattle.chains.specs.Turns.{IsTurn, IsShown}
+use Rattle.chains.specs.Turns.{IsTurn}
+use Rattle.reasons.specs.Shown.{IsShown}
 use Rattle.session.specs.declared.kind.Kind.{Kind}
 use Rattle.session.specs.declared.kind.Kind.TheVariants as kinds
 

@@ -4,7 +4,6 @@
 #![tactic(auto)]
 
 mod adapter;
-mod certificate;
 mod kind;
 mod link;
 mod reply_line;

@@ -142,3 +142,19 @@ fn bye_ends_a_session(rt: HostRuntime) -> Result<(), Fail> {
     }
     Ok(())
 }
+
+/// A line that takes two processes back, out of pieces of one byte.
+#[test]
+fn line_out_of_bytes(rt: HostRuntime) -> Result<(), Fail> {
+    let input =
+        "BEGIN a\nFORK a 1 1;1 (1,0) b (0,1)\nCHECK a 2 (1,0);(1,1,0)\nCHECK a 3 (1,0);(2,2,0)\nCHECK b 1 (0,1);(5,0,1)\nLINE a\n".as_bytes();
+    let mut chains = Chains::new(rt.alloc());
+    let mut reader = source_of(input, 1, 0);
+    let mut writer = empty_sink(rt.alloc(), 999);
+    let _end = run_lines(&mut chains, &mut reader, &mut writer);
+    assert_eq!(rt;
+        writer.bytes.as_slice(),
+        "OK 1\nOK 2\nOK 3\nOK 4\nOK 5\nLINE {\"failed\":[\"a\"],\"front\":5,\"line\":[[\"a\",2],[\"b\",1]],\"reasons\":[[[\"a\",3],[\"b\",2],[\"a\",3]],[[\"a\",3],[\"b\",2]]]}\n".as_bytes()
+    );
+    Ok(())
+}

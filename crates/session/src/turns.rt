@@ -1,13 +1,15 @@
 //! Turns, which are counted.
 
-ghost use Rattle.std.specs.Prelude.{◌≡◌, IfOk, OnErr, length, option_copied, None};
+ghost use Rattle.std.specs.Prelude.{◌≡◌, ℕ, List, IfOk, OnErr, option_copied, None};
 ghost use Rattle.report_line.specs.declared.call.Call.TheVariants as calls;
-ghost use Rattle.chains.specs.Processes.{known};
+ghost use Rattle.chains.specs.Failures.{IsFailedSet};
+ghost use Rattle.reasons.specs.Shown.{IsLineText};
 ghost use Rattle.session.specs.Parts.{Shows, MakesTurn, id_text};
 
-use crate::certificate::line_text;
 use chains::{Admitted, Chains, Failed, FailedFault, State};
 use id_tree::Id;
+use propagate::certificate;
+use reasons::to_json;
 use report_line::{Call, Code, Name, Reply, Report, Text};
 use std::alloc::{AllocError, Global};
 use std::marker::Model;
@@ -38,6 +40,15 @@ fn admit(chains: &mut Chains, report: Report) -> Reply
     }
 }
 
+/// The text of the certificate of these failed processes.
+fn line_text(chains: &Chains, failed: &Failed) -> Result<Text, AllocError>
+    ensures { IfOk result (λ text. (names : List (List ℕ)) → IsFailedSet chains.now.accepted names failed.now → IsLineText chains.now.accepted names text) }
+{
+    let certificate = certificate(chains, failed)?;
+    let text = to_json(chains, &certificate)?;
+    Ok(Text::from_vec(text.into_bytes()))
+}
+
 /// The turn of a question for a line, and what is shown for it.
 fn line_of(chains: &Chains, names: &[Name]) -> Reply
     ensures { Shows chains.now.accepted (calls.Line names.now) chains.now.accepted result }
@@ -45,12 +56,9 @@ fn line_of(chains: &Chains, names: &[Name]) -> Reply
     if chains.front() == 0 {
         return refusal(Code::NothingBegun);
     }
-    if chains.count() > 1 {
-        return Reply::Bad(1);
-    }
     match Failed::from_names(chains, names) {
         Ok(failed) => match line_text(chains, &failed) {
-            Ok(text) => Reply::Line(Text::from_vec(text)),
+            Ok(text) => Reply::Line(text),
             Err(_) => refusal(Code::OutOfMemory),
         },
         Err(FailedFault::Unknown(name)) => Reply::No {

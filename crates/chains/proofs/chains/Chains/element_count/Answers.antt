@@ -6,5 +6,8 @@ use Rattle.chains.proofs.chains.Chains.element_count.Goals as goal
 pub overflow_add-result : goal.overflow_add-result
 overflow_add-result c = omega (arith, c.lasting_count.ensures.few, c.present_count.ensures, one_present (option_copied c.last_report.result))
 
-pub returns : goal.returns
-returns c = λ p at. counted c.args.self.now.accepted p c.lasting_count.result c.present_count.result (option_copied c.last_report.result) (c.lasting_count.ensures.count p at) (c.last_report.ensures p at) c.present_count.ensures
+pub returns-clause-count : goal.returns-clause-count
+returns-clause-count c = λ p at. counted c.args.self.now.accepted p c.lasting_count.result c.present_count.result (option_copied c.last_report.result) (c.lasting_count.ensures.count p at) (c.last_report.ensures p at) c.present_count.ensures
+
+pub returns-clause-few : goal.returns-clause-few
+returns-clause-few c = omega (arith, c.lasting_count.ensures.few, c.present_count.ensures, one_present (option_copied c.last_report.result))

@@ -1,0 +1,4 @@
+pub mod Rising
+pub mod Laws
+pub mod Looking
+pub mod Lawful

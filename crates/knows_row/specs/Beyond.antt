@@ -1,0 +1,26 @@
+-- Which elements of a row some events are beyond. Elements are counted from 1.
+use Rattle.std.specs.Prelude.{◌≡◌, ℕ, zero, suc, ◌-◌, ◌≤◌, ◌<◌, List, Option, Some, None, slice_get}
+use Rattle.event_tree.specs.EventTree.{EventTree}
+use Rattle.event_tree.specs.Values.{ExceedsOn}
+use Rattle.stamp.specs.declared.stamp.Stamp.{Stamp}
+
+-- element k of these stamps
+abbrev pub numbered : List Stamp → ℕ → Option Stamp
+numbered stamps zero = None
+numbered stamps (suc k) = slice_get stamps k
+
+-- the events are greater than those of element k at some point that its id owns
+pub record IsBeyondAt (events : EventTree) (stamps : List Stamp) (k : ℕ) : Type 0 where
+  pub stamp : Stamp
+  pub is_element : numbered stamps k ≡ Some stamp
+  pub exceeds : ExceedsOn stamp.id events stamp.events
+
+-- and so at some element from k on
+abbrev pub IsBeyondFrom : EventTree → List Stamp → ℕ → Type 0
+IsBeyondFrom events stamps k = (later : ℕ) × (k ≤ later) × IsBeyondAt events stamps later
+
+-- of the elements below `to`, beyond none from `found` on; and where `found` is above `from`, beyond the one before
+pub record IsLastBeyond (events : EventTree) (stamps : List Stamp) (from to found : ℕ) : Type 0 where
+  pub within : found ≤ to
+  pub none : (k : ℕ) → found ≤ k → k < to → ¬ IsBeyondAt events stamps k
+  pub last : from < found → IsBeyondAt events stamps (found - 1)

@@ -1,0 +1,110 @@
+//! What places know of processes.
+#![tactic(auto)]
+
+ghost use Rattle.std.specs.Prelude.{◌↔◌, ◌≡◌, ◌≢◌, ◌≤◌, ◌<◌, ℕ, List, IsTrue, MatchOption, Some, length};
+ghost use Rattle.report_line.specs.declared.report.Report.{Report};
+ghost use Rattle.chains.specs.Processes.{known};
+ghost use Rattle.chains.specs.Positions.{last_rank};
+ghost use Rattle.chains.specs.Knowledge.{Knows, events_at};
+ghost use Rattle.chains.specs.Admission.{IsReachable};
+ghost use Rattle.knows_row.specs.Knowing.{KnowsAt, IsLawful, KnowsRank, IsNeed, IsLastKnown};
+ghost use Rattle.knows_row.specs.Beyond.{IsBeyondAt, IsBeyondFrom, IsLastBeyond};
+
+#[cfg(test)]
+mod tests;
+
+use chains::{Chains, Elements, Place, Position};
+use event_tree::Events;
+
+/// Whether the place knows the process after this position: whether it is beyond some element of it, another process than
+/// its own, that is not before the position. It takes no memory.
+pub fn knows(chains: &Chains, place: Place, process: u32, position: Position) -> bool
+    ensures { IsTrue result ↔ Knows chains.now.accepted place process position }
+{
+    let k = match position {
+        Position::At(k) => k,
+        Position::Retired => return false,
+    };
+    match events_beside(chains, place, process) {
+        None => false,
+        Some(events) => is_beyond_from(events, &chains.elements(process), k),
+    }
+}
+
+/// One more than the greatest element of the process that the place is beyond, or 0 where there is none or the process is
+/// its own. It takes no memory.
+pub fn need(chains: &Chains, place: Place, process: u32) -> u32
+    ensures { IsNeed chains.now.accepted place process result }
+{
+    match events_beside(chains, place, process) {
+        None => 0,
+        Some(events) => {
+            let elements = chains.elements(process);
+            last_beyond(events, &elements, 0, elements.len() + 1)
+        }
+    }
+}
+
+/// One more than the greatest element of the process, of those from `from` on and below `to`, that the place is beyond.
+/// Where there is none it is at most `from`, or `to`. It takes no memory, and looks from `to` downward.
+pub fn last_known(chains: &Chains, place: Place, process: u32, from: u32, to: u32) -> u32
+    ensures { IsLastKnown chains.now.accepted place process from to result }
+{
+    match events_beside(chains, place, process) {
+        None => 0,
+        Some(events) => last_beyond(events, &chains.elements(process), from, to),
+    }
+}
+
+/// What holds of the knowledge over accepted reports: among others, that what is known at a place is known at each later
+/// place of its process.
+pub fn knowledge_is_lawful()
+    ensures { (accepted : List Report) → IsReachable accepted → IsLawful accepted }
+{}
+
+/// The events of the place, if it has some and the process is another known one.
+fn events_beside(chains: &Chains, place: Place, process: u32) -> Option<&Events>
+    ensures { MatchOption result ((k : ℕ) → ¬ KnowsAt chains.now.accepted place process k)
+        (λ events. (process ≢ place.process) × (process < length (known chains.now.accepted)) × (events_at chains.now.accepted place ≡ Some events.now)) }
+{
+    if process == place.process || process >= chains.count() {
+        return None;
+    }
+    chains.events_at(place)
+}
+
+/// Whether the events are beyond element k, counted from 1.
+fn is_beyond(events: &Events, elements: &Elements<'_>, k: u32) -> bool
+    ensures { IsTrue result ↔ IsBeyondAt events.now elements.now k }
+{
+    if k == 0 {
+        return false;
+    }
+    match elements.get(k - 1) {
+        None => false,
+        Some(element) => events.exceeds_on(element.events, element.id),
+    }
+}
+
+/// Whether the events are beyond some element from k on.
+fn is_beyond_from(events: &Events, elements: &Elements<'_>, k: u32) -> bool
+    ensures { IsTrue result ↔ IsBeyondFrom events.now elements.now k }
+{
+    for later in k..elements.len() + 1 {
+        if is_beyond(events, elements, later) {
+            return true;
+        }
+    }
+    false
+}
+
+/// Goes down from `to` to the first element that the events are beyond, as far as `from`, and is one more than it.
+fn last_beyond(events: &Events, elements: &Elements<'_>, from: u32, to: u32) -> u32
+    ensures { IsLastBeyond events.now elements.now from to result }
+{
+    let mut found = to.min(elements.len() + 1);
+    while found > from && !is_beyond(events, elements, found - 1) {
+        found -= 1;
+    }
+    found
+}

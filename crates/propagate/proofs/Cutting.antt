@@ -1,0 +1,150 @@
+-- The cut that the rounds end at, its chains, and how many rounds there are.
+use Rattle.std.proofs.Common.{◌≡◌, ◌≢◌, inl, inr, ℕ, suc, ◌+◌, ◌-◌, ◌^◌, ◌≤◌, ◌<◌, cond, List, [], ◌∷◌, ◌++◌, length, map, get_or, refl, sym, ap, ◌∙◌, arith}
+use Rattle.std.specs.Prelude.{slice_index, nat_lt, drop, sum, All}
+use Rattle.std.specs.List.{range_with_len}
+use Rattle.std.proofs.Math.Seq.{drop-cons}
+use Rattle.std.proofs.lemmas.Bool.{cases_lt, lt-ltb, le-ltb, cond-true, cond-false}
+use Rattle.std.proofs.lemmas.List.{ext_get_or, get_or-map, length-map, append_assoc, append-nil, drop_all}
+use Rattle.std.proofs.lemmas.List.Elements.{All-get_or}
+use Rattle.std.proofs.lemmas.List.Sums.{sum_by-le}
+use Rattle.report_line.specs.declared.report.Report.{Report}
+use Rattle.chains.specs.declared.position.Place.{Place}
+use Rattle.chains.specs.Admission.{report_limit, process_limit}
+use Rattle.chains.specs.Processes.{known}
+use Rattle.chains.specs.Positions.{position_at}
+use Rattle.reasons.specs.Certificates.{positions_of}
+use Rattle.propagate.specs.Ranks.{AreTops, AreNextRanks, AreFallen, AreBounds, AreAllBounds, IsStage, positions_from, places_from}
+use Rattle.propagate.specs.Stages.{IsStanding, AreGroundedBy, AreThere, AreRunning, chains_at, chains_due}
+use Rattle.propagate.proofs.Ranked.{rank_at}
+use Rattle.propagate.proofs.Fallen.{member_first}
+use Rattle.propagate.proofs.Rounding.{sum_falls, in_order_from, positions_from_places}
+
+-- ---- bounds of all places
+
+-- a bound of each process's elements, whatever the place
+abbrev pub AreWide : List Report → List ℕ → Type 0
+AreWide accepted row = (length row ≡ length (known accepted)) × ((p x : ℕ) → AreBounds accepted p x row)
+
+pub all_wide : (accepted : List Report) (cut : List ℕ) (rows : List (List ℕ)) → length rows ≡ length (known accepted) → All (AreWide accepted) rows
+    → length cut ≡ length (known accepted) → AreAllBounds accepted cut rows
+all_wide accepted cut rows complete wide same = record {
+  complete = complete ∙ sym same;
+  each = λ p lt.
+      let row = All-get_or (AreWide accepted) rows p [] (omega (arith, lt, complete, same)) wide in
+      (row.0 ∙ sym same, row.1 p (slice_index cut p));
+}
+
+-- ---- the chains that are due
+
+-- those of the processes from the i-th on
+abbrev pub due_from : List ℕ → List ℕ → List (List Place) → ℕ → List (List Place)
+due_from tops cut chains i = chains_due (drop i tops) (drop i cut) (drop i chains)
+
+due_at : (tops cut : List ℕ) (chains : List (List Place)) (i : ℕ) → i < length tops → i < length cut → i < length chains
+    → due_from tops cut chains i ≡ cond (nat_lt (slice_index cut i) (slice_index tops i)) (get_or chains i [] ∷ due_from tops cut chains (suc i)) (due_from tops cut chains (suc i))
+due_at tops cut chains i tin cin hin = rw (drop-cons tops i 0 tin, drop-cons cut i 0 cin, drop-cons chains i [] hin) refl
+
+-- the chains so far, where process i has one that is due
+pub due_more : (tops cut : List ℕ) (chains reasons : List (List Place)) (i : ℕ) (chain : List Place) → i < length tops → i < length cut → i < length chains
+    → slice_index cut i < slice_index tops i → chain ≡ get_or chains i [] → reasons ++ due_from tops cut chains i ≡ chains_due tops cut chains
+    → (reasons ++ chain ∷ []) ++ due_from tops cut chains (i + 1) ≡ chains_due tops cut chains
+due_more tops cut chains reasons i chain tin cin hin below is h =
+    let up : i + 1 ≡ suc i = omega arith in
+    rw (up, is) (append_assoc reasons (get_or chains i [] ∷ []) (due_from tops cut chains (suc i))
+    ∙ ap (λ (xs : List (List Place)). reasons ++ xs) (sym (due_at tops cut chains i tin cin hin ∙ cond-true (nat_lt (slice_index cut i) (slice_index tops i)) _ _ (lt-ltb (slice_index cut i) (slice_index tops i) below)))
+    ∙ h)
+
+-- and where it has none
+pub due_same : (tops cut : List ℕ) (chains reasons : List (List Place)) (i : ℕ) → i < length tops → i < length cut → i < length chains
+    → slice_index tops i ≤ slice_index cut i → reasons ++ due_from tops cut chains i ≡ chains_due tops cut chains
+    → reasons ++ due_from tops cut chains (i + 1) ≡ chains_due tops cut chains
+due_same tops cut chains reasons i tin cin hin above h =
+    let up : i + 1 ≡ suc i = omega arith in
+    rw up (ap (λ (xs : List (List Place)). reasons ++ xs) (sym (due_at tops cut chains i tin cin hin ∙ cond-false (nat_lt (slice_index cut i) (slice_index tops i)) _ _ (le-ltb (slice_index cut i) (slice_index tops i) above)))
+    ∙ h)
+
+-- behind the last process none is
+pub due_done : (tops cut : List ℕ) (chains reasons : List (List Place)) (i : ℕ) → length tops ≤ i → reasons ++ due_from tops cut chains i ≡ chains_due tops cut chains → reasons ≡ chains_due tops cut chains
+due_done tops cut chains reasons i le h = sym (append-nil reasons) ∙ ap (λ (xs : List ℕ). reasons ++ chains_due xs (drop i cut) (drop i chains)) (sym (drop_all i tops le)) ∙ h
+
+pub chain_at : (arena : List (List Place)) (heads : List ℕ) (i : ℕ) → i < length heads → get_or (chains_at arena heads) i [] ≡ get_or arena (slice_index heads i) []
+chain_at arena heads i lt = get_or-map (λ h. get_or arena h []) heads i 0 [] lt
+
+-- ---- the rounds
+
+-- the ranks that a round lowers are those that differ
+pub has_changed : (cut next fell : List ℕ) → AreFallen cut next fell → 0 < length fell → cut ≢ next
+has_changed cut next [] h some e = absurd (omega (arith, some))
+has_changed cut next (q ∷ fell) h some e = absurd (omega (arith, ((h.just_these q).0 (member_first q fell)).1, ap (λ (xs : List ℕ). slice_index xs q) e))
+
+pub has_settled : (accepted : List Report) (cut next fell : List ℕ) → AreNextRanks accepted cut next → AreFallen cut next fell → length fell ≡ 0 → cut ≡ next
+has_settled accepted cut next fell ranks h none = ext_get_or 0 cut next (sym ranks.complete) (λ p lt. elim (cases_lt (slice_index next p) (slice_index cut p)) [
+  | inl below ↦ absurd (omega (arith, none, ((h.just_these p).1 (lt, below)).1))
+  | inr ge ↦ omega (arith, ge, (ranks.each p lt).before)
+])
+
+module _ (accepted : List Report) (tops : List ℕ) where
+  -- before the first round no process is below its last surviving rank
+  pub running_first : (cut heads fell : List ℕ) (arena : List (List Place)) (rows : List (List ℕ)) → cut ≡ tops → IsStanding accepted tops cut heads fell
+      → AreThere tops cut heads arena → AreAllBounds accepted cut rows → AreRunning accepted tops cut heads fell arena rows 1
+  running_first cut heads fell arena rows first standing there bounds = record {
+    standing = standing;
+    grounded = λ failed h p lt below. absurd (omega (arith, below, ap (λ (xs : List ℕ). slice_index xs p) first));
+    there = there;
+    bounds = bounds;
+    rounds = (0, refl, first);
+    few = omega (arith, ap sum first);
+  }
+
+  pub running_more : (cut heads fell : List ℕ) (arena : List (List Place)) (rows : List (List ℕ)) (n : ℕ) → AreRunning accepted tops cut heads fell arena rows n
+      → (next heads2 fell2 : List ℕ) (arena2 : List (List Place)) (rows2 : List (List ℕ)) → AreNextRanks accepted cut next → cut ≢ next
+      → IsStanding accepted tops next heads2 fell2 → AreGroundedBy accepted tops next heads2 arena2 → AreThere tops next heads2 arena2 → AreAllBounds accepted next rows2
+      → AreRunning accepted tops next heads2 fell2 arena2 rows2 (n + 1)
+  running_more cut heads fell arena rows n h next heads2 fell2 arena2 rows2 ranks changed standing grounded there bounds = record {
+    standing = standing;
+    grounded = grounded;
+    there = there;
+    bounds = bounds;
+    rounds = (suc h.rounds.0, omega (arith, h.rounds.1), (cut, h.rounds.2, ranks, changed));
+    few = omega (arith, h.few, sum_falls accepted cut next ranks changed);
+  }
+
+-- ---- the last surviving ranks
+
+module _ (accepted : List Report) (failed a b : List ℕ) (first : AreTops accepted failed a) (second : AreTops accepted failed b) where
+  not_above : (p : ℕ) → p < length a → p < length b → slice_index a p ≤ slice_index b p
+  not_above p pa pb = omega (
+    arith,
+    (second.last p pb).greatest (position_at accepted p (slice_index a p)) (first.last p pa).surviving,
+    rank_at accepted p (slice_index a p) (first.within p pa),
+    rank_at accepted p (slice_index b p) (second.within p pb),
+  )
+
+-- a failed set has one list of them
+pub same_tops : (accepted : List Report) (failed a b : List ℕ) → AreTops accepted failed a → AreTops accepted failed b → a ≡ b
+same_tops accepted failed a b first second =
+    let same : length a ≡ length b = first.complete ∙ sym second.complete in
+    ext_get_or 0 a b same (λ p lt.
+    let pb : p < length b = omega (arith, lt, same) in
+    omega (arith, not_above accepted failed a b first second p lt pb, not_above accepted failed b a second first p pb lt))
+
+pub few_tops : (tops : List ℕ) → length tops ≤ process_limit → All (λ r. r ≤ report_limit + 2) tops → sum tops < 2 ^ 32 - 1
+few_tops tops few each = omega (arith, few, sum_by-le (λ (x : ℕ). x) (report_limit + 2) tops each)
+
+-- ---- the line
+
+pub line_in_order : (accepted : List Report) (cut : List ℕ) (line : List Place) → length cut ≡ length (known accepted) → line ≡ places_from accepted 0 cut
+    → map (λ x. x.process) line ≡ range_with_len 0 (length (known accepted))
+line_in_order accepted cut line complete is = ap (map (λ (x : Place). x.process)) is ∙ in_order_from accepted 0 cut ∙ ap (range_with_len 0) complete
+
+pub line_positions : (accepted : List Report) (cut : List ℕ) (line : List Place) → line ≡ places_from accepted 0 cut → positions_of line ≡ positions_from accepted 0 cut
+line_positions accepted cut line is = ap positions_of is ∙ positions_from_places accepted 0 cut
+
+pub stage_of : (accepted : List Report) (failed tops cut heads fell : List ℕ) (arena : List (List Place)) → AreTops accepted failed tops → IsStanding accepted tops cut heads fell
+    → AreGroundedBy accepted tops cut heads arena → IsStage accepted failed tops cut (chains_at arena heads)
+stage_of accepted failed tops cut heads fell arena h standing grounded = record {
+  complete = sym standing.each;
+  surviving = standing.surviving;
+  kept = length-map heads (λ h. get_or arena h []) ∙ standing.headed;
+  grounded = grounded failed h;
+}

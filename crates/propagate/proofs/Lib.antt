@@ -1,0 +1,13 @@
+pub mod Ranked
+pub mod Chained
+pub mod Fallen
+pub mod Settling
+pub mod Reasoning
+pub mod Certified
+pub mod Rounding
+pub mod Grounding
+pub mod Unwinding
+pub mod Placing
+pub mod Bounding
+pub mod Staging
+pub mod Cutting

@@ -1,0 +1,305 @@
+-- What a round has made of the processes before the i-th, and what it leaves of the others.
+use Rattle.std.proofs.Common.{◌≡◌, ◌≢◌, inl, inr, ℕ, ◌+◌, ◌≤◌, ◌<◌, Some, List, [], ◌∷◌, ◌++◌, length, get_or, set, Contains, ◌↔◌, refl, sym, ap, subst, ◌∙◌, arith}
+use Rattle.std.specs.Prelude.{slice_index, ⊤}
+use Rattle.std.specs.List.Sorted.{IsStrictlyIncreasing}
+use Rattle.std.proofs.lemmas.Bool.{cases_lt, cases_eq}
+use Rattle.std.proofs.lemmas.List.{get_or_append_left, get_or_default, get_or_push, length_push, length-append, get_or-map, length-set, get_or-set_same, get_or-set_other}
+use Rattle.std.proofs.lemmas.List.Elements.{Contains-push, Contains-push_cases, Contains-append_left, All-weaker, All-contains_itself}
+use Rattle.report_line.specs.declared.report.Report.{Report}
+use Rattle.chains.specs.declared.position.Place.{Place}
+use Rattle.chains.specs.Processes.{known}
+use Rattle.chains.specs.Positions.{place_at, last_rank}
+use Rattle.chains.proofs.Failing.{increasing_push}
+use Rattle.knows_row.specs.Knowing.{KnowsRank, IsLawful}
+use Rattle.propagate.specs.Ranks.{AreTops, IsNextRank, AreNextRanks, AreFallen, AreBounds, AreAllBounds, IsGrounded, IsCauseOf}
+use Rattle.propagate.specs.Stages.{IsStanding, AreGroundedBy, AreThere}
+use Rattle.propagate.proofs.Rounding.{clear_but_fallen}
+use Rattle.propagate.proofs.Grounding.{grounded_first, grounded_more, grounded_still, falls_everywhere}
+
+-- ---- numbers in order
+
+-- the numbers below i of which P holds
+pub record AreListedTo (P : ℕ → Type 0) (i : ℕ) (numbers : List ℕ) : Type 0 where
+  pub in_order : IsStrictlyIncreasing numbers
+  pub just_these : (q : ℕ) → (Contains numbers q ↔ ((q < i) × P q))
+
+pub listed_none : (P : ℕ → Type 0) → AreListedTo P 0 []
+listed_none P = record {
+  in_order = λ k lt. absurd (omega arith);
+  just_these = λ q. (λ there. absurd (omega (arith, there.1)), λ h. absurd (omega (arith, h.0)));
+}
+
+pub listed_more : (P : ℕ → Type 0) (i : ℕ) (numbers : List ℕ) → AreListedTo P i numbers → P i → AreListedTo P (i + 1) (numbers ++ i ∷ [])
+listed_more P i numbers h is = record {
+  in_order = increasing_push numbers i h.in_order (λ q there. ((h.just_these q).0 there).0);
+  just_these = λ q. (
+    λ there. elim (Contains-push_cases numbers i q there) [
+      | inl old ↦ let was = (h.just_these q).0 old in (omega (arith, was.0), was.1)
+      | inr e ↦ (omega (arith, e), subst P e is)
+    ],
+    λ holds. elim (cases_lt q i) [
+      | inl below ↦ Contains-append_left numbers (i ∷ []) q ((h.just_these q).1 (below, holds.1))
+      | inr past ↦ subst (Contains (numbers ++ i ∷ [])) (omega (arith, holds.0)) (Contains-push numbers i)
+    ],
+  );
+}
+
+pub listed_other : (P : ℕ → Type 0) (i : ℕ) (numbers : List ℕ) → AreListedTo P i numbers → ¬ P i → AreListedTo P (i + 1) numbers
+listed_other P i numbers h isnt = record {
+  in_order = h.in_order;
+  just_these = λ q. (
+    λ there. let was = (h.just_these q).0 there in (omega (arith, was.0), was.1),
+    λ holds. elim (cases_lt q i) [
+      | inl below ↦ (h.just_these q).1 (below, holds.1)
+      | inr past ↦ let e : q ≡ i = omega (arith, holds.0) in absurd (isnt (subst P e holds.1))
+    ],
+  );
+}
+
+pub listed_same : (P Q : ℕ → Type 0) (i : ℕ) (numbers : List ℕ) → ((q : ℕ) → q < i → P q ↔ Q q) → AreListedTo P i numbers → AreListedTo Q i numbers
+listed_same P Q i numbers same h = record {
+  in_order = h.in_order;
+  just_these = λ q. (
+    λ there. let was = (h.just_these q).0 there in (was.0, (same q was.0).0 was.1),
+    λ holds. (h.just_these q).1 (holds.0, (same q holds.0).1 holds.1),
+  );
+}
+
+-- the first stage: every process may be known too far
+pub first_standing : (accepted : List Report) (tops heads fell : List ℕ) → length tops ≡ length (known accepted)
+    → ((p : ℕ) → p < length tops → slice_index tops p ≤ last_rank accepted p) → length heads ≡ length tops → AreListedTo (λ q. ⊤) (length tops) fell
+    → IsStanding accepted tops tops heads fell
+first_standing accepted tops heads fell complete within headed listed = record {
+  complete = complete;
+  each = refl;
+  within = within;
+  surviving = λ p lt. omega arith;
+  headed = headed;
+  in_order = listed.in_order;
+  fallen = All-weaker (Contains fell) (λ q. q < length tops) (λ q there. ((listed.just_these q).0 there).0) fell (All-contains_itself fell);
+  clear = λ p q pin qin standing. absurd (standing ((listed.just_these q).1 (qin, tt)));
+}
+
+-- ---- lists with one more
+
+-- what holds of each two numbers at one place
+each_push : (P : ℕ → ℕ → ℕ → Type 0) (xs ys : List ℕ) (x y i : ℕ) → length xs ≡ i → length ys ≡ i → ((p : ℕ) → p < i → P p (slice_index xs p) (slice_index ys p)) → P i x y
+    → (p : ℕ) → p < i + 1 → P p (slice_index (xs ++ x ∷ []) p) (slice_index (ys ++ y ∷ []) p)
+each_push P xs ys x y i sx sy each one p lt = elim (cases_lt p i) [
+  | inl below ↦
+      rw (get_or_append_left xs (x ∷ []) 0 p (omega arith), get_or_append_left ys (y ∷ []) 0 p (omega arith)) (each p below)
+  | inr past ↦
+      let e : i ≡ p = omega arith in
+      rw (get_or_push xs x 0 p (omega arith), get_or_push ys y 0 p (omega arith)) (subst (λ (j : ℕ). P j x y) e one)
+]
+
+-- ---- ranks
+
+-- the ranks of the processes before the i-th, and which of them fell
+pub record AreNextTo (accepted : List Report) (cut : List ℕ) (i : ℕ) (next fell : List ℕ) : Type 0 where
+  pub complete : length next ≡ i
+  pub each : (p : ℕ) → p < i → IsNextRank accepted cut p (slice_index next p)
+  pub listed : AreListedTo (λ q. slice_index next q < slice_index cut q) i fell
+
+pub next_none : (accepted : List Report) (cut : List ℕ) → AreNextTo accepted cut 0 [] []
+next_none accepted cut = record {
+  complete = refl;
+  each = λ p lt. absurd (omega arith);
+  listed = listed_none (λ q. slice_index [] q < slice_index cut q);
+}
+
+module _ (accepted : List Report) (cut : List ℕ) (i : ℕ) (next fell : List ℕ) (r : ℕ) (h : AreNextTo accepted cut i next fell) (one : IsNextRank accepted cut i r) where
+  abbrev after : List ℕ
+  after = next ++ r ∷ []
+
+  listed_still : AreListedTo (λ q. slice_index after q < slice_index cut q) i fell
+  listed_still = listed_same (λ q. slice_index next q < slice_index cut q) (λ q. slice_index after q < slice_index cut q) i fell
+      (λ q lt. let e = get_or_append_left next (r ∷ []) 0 q (omega (arith, h.complete)) in (λ below. omega arith, λ below. omega arith)) h.listed
+
+  next_with : (later : List ℕ) → AreListedTo (λ q. slice_index after q < slice_index cut q) (i + 1) later → AreNextTo accepted cut (i + 1) after later
+  next_with later listed = record {
+    complete = omega (arith, length_push next r, h.complete);
+    each = each_push (λ p x y. IsNextRank accepted cut p x) next next r r i h.complete h.complete h.each one;
+    listed = listed;
+  }
+
+  pub next_fallen : r < slice_index cut i → AreNextTo accepted cut (i + 1) (next ++ r ∷ []) (fell ++ i ∷ [])
+  next_fallen below = next_with (fell ++ i ∷ []) (listed_more (λ q. slice_index after q < slice_index cut q) i fell listed_still (omega (arith, below, get_or_push next r 0 i h.complete)))
+
+  pub next_stays : slice_index cut i ≤ r → AreNextTo accepted cut (i + 1) (next ++ r ∷ []) fell
+  next_stays le = next_with fell (listed_other (λ q. slice_index after q < slice_index cut q) i fell listed_still (λ lt. omega (arith, lt, le, get_or_push next r 0 i h.complete)))
+
+module _ (accepted : List Report) (cut : List ℕ) (i : ℕ) (next fell : List ℕ) (to : AreNextTo accepted cut i next fell) (all : i ≡ length cut) where
+  h : AreNextTo accepted cut (length cut) next fell
+  h = subst (λ (j : ℕ). AreNextTo accepted cut j next fell) all to
+
+  pub next_ranks : AreNextRanks accepted cut next
+  next_ranks = record { complete = h.complete; each = h.each }
+
+  pub next_fell : AreFallen cut next fell
+  next_fell = record { in_order = h.listed.in_order; just_these = h.listed.just_these }
+
+  pub next_standing : (tops heads heads_before fell_before : List ℕ) → IsStanding accepted tops cut heads_before fell_before → length heads ≡ length cut → IsStanding accepted tops next heads fell
+  next_standing tops heads heads_before fell_before s headed = record {
+    complete = h.complete ∙ s.complete;
+    each = s.each ∙ sym h.complete;
+    within = λ p lt. s.within p (omega (arith, lt, h.complete));
+    surviving = λ p lt. let in_cut : p < length cut = omega (arith, lt, h.complete) in omega (arith, (h.each p in_cut).before, s.surviving p in_cut);
+    headed = headed ∙ sym h.complete;
+    in_order = h.listed.in_order;
+    fallen = All-weaker (Contains fell) (λ q. q < length next) (λ q there. omega (arith, ((h.listed.just_these q).0 there).0, h.complete)) fell (All-contains_itself fell);
+    clear = clear_but_fallen accepted cut next fell next_ranks (λ q lt standing. elim (cases_lt (slice_index next q) (slice_index cut q)) [
+      | inl below ↦ absurd (standing ((h.listed.just_these q).1 (lt, below)))
+      | inr above ↦ omega (arith, above, (h.each q lt).before)
+    ]);
+  }
+
+-- ---- bounds
+
+-- bounds of the places: of the processes before the i-th at their new ranks
+pub record AreBoundsTo (accepted : List Report) (cut : List ℕ) (i : ℕ) (next : List ℕ) (rows : List (List ℕ)) : Type 0 where
+  pub complete : length rows ≡ length cut
+  pub row : (p : ℕ) → p < length cut → length (get_or rows p []) ≡ length cut
+  pub before : (p : ℕ) → p < i → AreBounds accepted p (slice_index next p) (get_or rows p [])
+  pub after : (p : ℕ) → i ≤ p → p < length cut → AreBounds accepted p (slice_index cut p) (get_or rows p [])
+
+pub bounds_first : (accepted : List Report) (cut : List ℕ) (rows : List (List ℕ)) → AreAllBounds accepted cut rows → AreBoundsTo accepted cut 0 [] rows
+bounds_first accepted cut rows h = record {
+  complete = h.complete;
+  row = λ p lt. (h.each p lt).0;
+  before = λ p lt. absurd (omega arith);
+  after = λ p le lt. (h.each p lt).1;
+}
+
+pub bounds_more : (accepted : List Report) (cut : List ℕ) (i : ℕ) (next : List ℕ) (rows : List (List ℕ)) (r : ℕ) (lower : List ℕ) → AreBoundsTo accepted cut i next rows
+    → length next ≡ i → i < length cut → length lower ≡ length (get_or rows i []) → AreBounds accepted i r lower
+    → AreBoundsTo accepted cut (i + 1) (next ++ r ∷ []) (set rows i lower)
+bounds_more accepted cut i next rows r lower h reached within same bounds = record {
+  complete = length-set rows i lower ∙ h.complete;
+  row = λ p lt. elim (cases_eq p i) [
+    | inl e ↦ subst (λ (j : ℕ). length (get_or (set rows i lower) j []) ≡ length cut) (sym e) (ap (λ (xs : List ℕ). length xs) here ∙ same ∙ h.row i within)
+    | inr other ↦ rw (get_or-set_other rows i p lower [] other) (h.row p lt)
+  ];
+  before = λ p lt. elim (cases_lt p i) [
+    | inl below ↦ rw (get_or_append_left next (r ∷ []) 0 p (omega arith), get_or-set_other rows i p lower [] (λ e. absurd (omega (arith, e, below)))) (h.before p below)
+    | inr past ↦
+        let e : i ≡ p = omega arith in
+        subst (λ (j : ℕ). AreBounds accepted j (slice_index (next ++ r ∷ []) j) (get_or (set rows i lower) j [])) e (rw (get_or_push next r 0 i reached, here) bounds)
+  ];
+  after = λ p le lt. rw (get_or-set_other rows i p lower [] (λ e. absurd (omega (arith, e, le)))) (h.after p (omega arith) lt);
+}
+  where
+    here : get_or (set rows i lower) i [] ≡ lower
+    here = get_or-set_same rows i lower [] (omega (arith, h.complete))
+
+pub bounds_all : (accepted : List Report) (cut : List ℕ) (i : ℕ) (next : List ℕ) (rows : List (List ℕ)) → AreBoundsTo accepted cut i next rows → length next ≡ i → i ≡ length cut
+    → AreAllBounds accepted next rows
+bounds_all accepted cut i next rows h reached all = record {
+  complete = h.complete ∙ sym (reached ∙ all);
+  each = λ p lt. (h.row p (omega arith) ∙ sym (reached ∙ all), h.before p (omega arith));
+}
+
+-- a row as it is taken
+pub row_taken : (rows : List (List ℕ)) (i : ℕ) (row : List ℕ) → row ≡ get_or rows i row → i < length rows → row ≡ get_or rows i []
+row_taken rows i row e lt = e ∙ get_or_default rows i row [] lt
+
+-- ---- chains
+
+-- For each failed set with these last surviving ranks, and for each lower cut that has p at this rank, the chain is grounded.
+abbrev pub IsGroundedBelow : List Report → List ℕ → List ℕ → ℕ → ℕ → List Place → Type 0
+IsGroundedBelow accepted tops cut p r chain =
+    (failed next : List ℕ) → AreTops accepted failed tops → length next ≡ length cut → ((q : ℕ) → q < length next → slice_index next q ≤ slice_index cut q)
+    → slice_index next p ≡ r → r < slice_index tops p → IsGrounded accepted failed next (place_at accepted p (r + 1)) chain
+
+-- the numbers of the chains of the processes before the i-th
+pub record AreHeadsTo (accepted : List Report) (tops cut : List ℕ) (i : ℕ) (next heads : List ℕ) (arena : List (List Place)) : Type 0 where
+  pub complete : length heads ≡ i
+  pub there : (p : ℕ) → p < i → slice_index next p < slice_index tops p → slice_index heads p < length arena
+  pub grounded : (p : ℕ) → p < i → IsGroundedBelow accepted tops cut p (slice_index next p) (get_or arena (slice_index heads p) [])
+
+pub heads_none : (accepted : List Report) (tops cut : List ℕ) (arena : List (List Place)) → AreHeadsTo accepted tops cut 0 [] [] arena
+heads_none accepted tops cut arena = record {
+  complete = refl;
+  there = λ p lt. absurd (omega arith);
+  grounded = λ p lt. absurd (omega arith);
+}
+
+-- the chain of a number that is there stays where more chains come
+chain_stays : (arena more later : List (List Place)) (head : ℕ) → later ≡ arena ++ more → head < length arena → get_or later head [] ≡ get_or arena head []
+chain_stays arena more later head e lt = ap (λ (xs : List (List Place)). get_or xs head []) e ∙ get_or_append_left arena more [] head lt
+
+still_there : (arena more later : List (List Place)) (head : ℕ) → later ≡ arena ++ more → head < length arena → head < length later
+still_there arena more later head e lt = rw e (omega (arith, lt, length-append arena more))
+
+pub heads_more : (accepted : List Report) (tops cut : List ℕ) (i : ℕ) (next heads : List ℕ) (arena more later : List (List Place)) (r head : ℕ)
+    → AreHeadsTo accepted tops cut i next heads arena → length next ≡ i → later ≡ arena ++ more
+    → (r < slice_index tops i → head < length later) → IsGroundedBelow accepted tops cut i r (get_or later head [])
+    → AreHeadsTo accepted tops cut (i + 1) (next ++ r ∷ []) (heads ++ head ∷ []) later
+heads_more accepted tops cut i next heads arena more later r head h reached grown there grounded = record {
+  complete = omega (arith, length_push heads head, h.complete);
+  there = each_push (λ p x y. x < slice_index tops p → y < length later) next heads r head i reached h.complete
+      (λ p lt below. still_there arena more later (slice_index heads p) grown (h.there p lt below)) there;
+  grounded = each_push (λ p x y. IsGroundedBelow accepted tops cut p x (get_or later y [])) next heads r head i reached h.complete
+      (λ p lt failed lower tops_of same falls at below. rw (chain_stays arena more later (slice_index heads p) grown (h.there p lt below)) (h.grounded p lt failed lower tops_of same falls at below)) grounded;
+}
+
+pub heads_there : (accepted : List Report) (tops cut : List ℕ) (i : ℕ) (next heads : List ℕ) (arena : List (List Place)) → AreHeadsTo accepted tops cut i next heads arena
+    → length next ≡ i → AreThere tops next heads arena
+heads_there accepted tops cut i next heads arena h reached p lt below = h.there p (omega arith) below
+
+pub heads_grounded : (accepted : List Report) (tops cut : List ℕ) (i : ℕ) (next heads : List ℕ) (arena : List (List Place)) → AreHeadsTo accepted tops cut i next heads arena
+    → length next ≡ i → AreNextRanks accepted cut next → AreGroundedBy accepted tops next heads arena
+heads_grounded accepted tops cut i next heads arena h reached ranks failed tops_of p lt below =
+    rw (get_or-map (λ (head : ℕ). get_or arena head []) heads p 0 [] (omega (arith, h.complete)))
+    (h.grounded p (omega arith) failed next tops_of ranks.complete (λ q qin. (ranks.each q (omega (arith, ranks.complete))).before) refl below)
+
+-- more chains change nothing of those that are there
+pub there_grown : (tops cut heads : List ℕ) (arena more later : List (List Place)) → later ≡ arena ++ more → AreThere tops cut heads arena → AreThere tops cut heads later
+there_grown tops cut heads arena more later grown there p lt below = still_there arena more later (slice_index heads p) grown (there p lt below)
+
+-- the chain of a process below its last surviving rank
+chain_of : (accepted : List Report) (failed tops cut heads : List ℕ) (arena : List (List Place)) (p : ℕ) → AreGroundedBy accepted tops cut heads arena → AreTops accepted failed tops
+    → length heads ≡ length cut → p < length cut → slice_index cut p < slice_index tops p
+    → IsGrounded accepted failed cut (place_at accepted p (slice_index cut p + 1)) (get_or arena (slice_index heads p) [])
+chain_of accepted failed tops cut heads arena p grounded h headed lt below =
+    rw (sym (get_or-map (λ (head : ℕ). get_or arena head []) heads p 0 [] (omega arith))) (grounded failed h p lt below)
+
+pub grounded_grown : (accepted : List Report) (tops cut heads : List ℕ) (arena more later : List (List Place)) → later ≡ arena ++ more → length heads ≡ length cut
+    → AreThere tops cut heads arena → AreGroundedBy accepted tops cut heads arena → AreGroundedBy accepted tops cut heads later
+grounded_grown accepted tops cut heads arena more later grown headed there grounded failed h p lt below =
+    rw (get_or-map (λ (head : ℕ). get_or later head []) heads p 0 [] (omega arith), chain_stays arena more later (slice_index heads p) grown (there p lt below))
+    (chain_of accepted failed tops cut heads arena p grounded h headed lt below)
+
+-- ---- the chain of a process that a round leaves at rank r
+
+module _ (accepted : List Report) (tops cut heads fell : List ℕ) (arena : List (List Place)) (p r : ℕ) (s : IsStanding accepted tops cut heads fell) (pin : p < length cut) where
+  -- it stays
+  pub head_stays : AreGroundedBy accepted tops cut heads arena → r ≡ slice_index cut p → IsGroundedBelow accepted tops cut p r (get_or arena (slice_index heads p) [])
+  head_stays grounded stays failed next h same falls at below =
+      grounded_still accepted failed cut next (place_at accepted p (r + 1)) (get_or arena (slice_index heads p) [])
+      (falls_everywhere cut next same (λ q lt. falls q (omega arith)))
+      (subst (λ (x : ℕ). IsGrounded accepted failed cut (place_at accepted p (x + 1)) (get_or arena (slice_index heads p) [])) (sym stays)
+      (chain_of accepted failed tops cut heads arena p grounded h s.headed pin (omega arith)))
+
+  -- it falls, for a process at its last surviving rank
+  pub head_starts : (q : ℕ) (chain : List Place) → IsLawful accepted → IsCauseOf accepted cut p r (Some q) → slice_index cut q ≡ slice_index tops q
+      → chain ≡ (place_at accepted q (slice_index cut q) ∷ []) ++ place_at accepted p (r + 1) ∷ [] → IsGroundedBelow accepted tops cut p r chain
+  head_starts q chain laws cause top is failed next h same falls at below =
+      rw (is, top) (grounded_first accepted failed tops cut next p (r + 1) q laws h (omega (arith, s.each, cause.1))
+      (subst (KnowsRank accepted p (r + 1) q) top cause.2) (omega arith) (omega (arith, cause.0, s.surviving p pin, s.within p pin)))
+
+  -- it falls, for a process below it
+  pub head_prolongs : (q : ℕ) (chain : List Place) → IsLawful accepted → AreGroundedBy accepted tops cut heads arena → IsCauseOf accepted cut p r (Some q) → slice_index cut q ≢ slice_index tops q
+      → chain ≡ get_or arena (slice_index heads q) [] ++ place_at accepted p (r + 1) ∷ [] → IsGroundedBelow accepted tops cut p r chain
+  head_prolongs q chain laws grounded cause other is failed next h same falls at below =
+      let lower : slice_index cut q < slice_index tops q = omega (arith, other, s.surviving q cause.1) in
+      rw is (grounded_more accepted failed tops cut next p (r + 1) q (get_or arena (slice_index heads q) []) laws h (sym s.each) s.surviving pin cause.1
+      (chain_of accepted failed tops cut heads arena q grounded h s.headed cause.1 lower) lower cause.2 (omega arith) (omega (arith, cause.0))
+      (λ j lt. falls j (omega arith)) same)
+
+-- the chain that was added last
+pub added : (arena later : List (List Place)) (chain : List Place) (head : ℕ) → head ≡ length arena → later ≡ arena ++ chain ∷ [] → get_or later head [] ≡ chain
+added arena later chain head number grown = rw grown (get_or_push arena chain [] head (sym number))
+
+pub added_there : (arena later : List (List Place)) (chain : List Place) (head : ℕ) → head ≡ length arena → later ≡ arena ++ chain ∷ [] → head < length later
+added_there arena later chain head number grown = rw grown (omega (arith, number, length_push arena chain))

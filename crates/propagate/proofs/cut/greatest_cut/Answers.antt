@@ -1,0 +1,59 @@
+use Rattle.std.proofs.Common.{◌≡◌, ◌+◌, ap, sym, subst, ◌∙◌, arith, List, ℕ, sum}
+use Rattle.chains.specs.declared.position.Place.{Place}
+use Rattle.knows_row.specs.Knowing.{IsLawful}
+use Rattle.knows_row.proofs.Lawful.{lawful}
+use Rattle.reasons.specs.Certificates.{AreReasons, positions_of}
+use Rattle.propagate.specs.Greatest.{IsGreatestCut}
+use Rattle.propagate.specs.Ranks.{AreTops, positions_from, places_from}
+use Rattle.propagate.specs.Rounds.{AreRounds}
+use Rattle.propagate.specs.Stages.{chains_at, chains_due}
+use Rattle.propagate.proofs.Grounding.{are_reasons}
+use Rattle.propagate.proofs.Rounding.{settled_is_greatest, are_rounds}
+use Rattle.propagate.proofs.Cutting.{same_tops, few_tops, line_in_order, line_positions, stage_of}
+use Rattle.propagate.proofs.cut.greatest_cut.Goals as goal
+
+pub settle-requires-clause-few : goal.settle-requires-clause-few
+settle-requires-clause-few c =
+    rw c.deref.ensures.value (few_tops c.in_ok-tops.tops.items (omega (arith, c.in_ok-tops.ensures.tops.complete, c.lawful.ensures.few_known)) c.in_ok-tops.ensures.few)
+
+module _ (c : goal.After-drop-tops-2) where
+  tops : AreTops c.args.chains.now.accepted c.args.failed.now c.deref.result.now
+  tops = subst (AreTops c.args.chains.now.accepted c.args.failed.now) (sym c.deref.ensures.value) c.in_ok-tops.ensures.tops
+
+  laws : IsLawful c.args.chains.now.accepted
+  laws = lawful c.args.chains.now.accepted c.lawful.ensures.reachable
+
+  line : c.in_ok-line.line ≡ places_from c.args.chains.now.accepted 0 c.in_ok-settled.settled.stage.cut.items
+  line = c.in_ok-line.ensures ∙ ap (places_from c.args.chains.now.accepted 0) c.deref-2.ensures.value
+
+  positions : positions_from c.args.chains.now.accepted 0 c.in_ok-settled.settled.stage.cut.items ≡ positions_of c.in_ok-line.line
+  positions = sym (line_positions c.args.chains.now.accepted c.in_ok-settled.settled.stage.cut.items c.in_ok-line.line line)
+
+pub returns-clause-in_order : goal.returns-clause-in_order
+returns-clause-in_order c = line_in_order c.args.chains.now.accepted c.in_ok-settled.settled.stage.cut.items c.in_ok-line.line c.in_ok-settled.ensures.standing.complete (line c)
+
+pub returns-clause-line : goal.returns-clause-line
+returns-clause-line c =
+    let rounds = c.in_ok-settled.ensures.rounds in
+    subst (IsGreatestCut c.args.chains.now.accepted c.args.failed.now) (positions c)
+    (settled_is_greatest c.args.chains.now.accepted c.args.failed.now c.deref.result.now c.in_ok-settled.settled.stage.cut.items rounds.0 (laws c) (tops c) rounds.2 c.in_ok-settled.ensures.settled)
+
+pub returns-clause-reasons : goal.returns-clause-reasons
+returns-clause-reasons c =
+    let s = c.in_ok-settled.settled in
+    let due : c.in_ok-reasons.reasons ≡ chains_due c.deref.result.now s.stage.cut.items (chains_at s.arena s.stage.heads.items)
+    = c.in_ok-reasons.ensures ∙ ap (λ (xs : List ℕ). chains_due xs s.stage.cut.items (chains_at s.arena s.stage.heads.items)) (c.deref-3.ensures.value ∙ sym c.deref.ensures.value) in
+    let stage = stage_of c.args.chains.now.accepted c.args.failed.now c.deref.result.now s.stage.cut.items s.stage.heads.items s.stage.fell.items s.arena (tops c) c.in_ok-settled.ensures.standing c.in_ok-settled.ensures.grounded in
+    subst (λ (reasons : List (List Place)). AreReasons c.args.chains.now.accepted c.args.failed.now (positions_of c.in_ok-line.line) reasons) (sym due)
+    (subst (λ cut. AreReasons c.args.chains.now.accepted c.args.failed.now cut (chains_due c.deref.result.now s.stage.cut.items (chains_at s.arena s.stage.heads.items))) (positions c)
+    (are_reasons c.args.chains.now.accepted c.args.failed.now c.deref.result.now s.stage.cut.items (chains_at s.arena s.stage.heads.items) (tops c) stage))
+
+pub returns-clause-rounds : goal.returns-clause-rounds
+returns-clause-rounds c =
+    let rounds = c.in_ok-settled.ensures.rounds in
+    subst (λ (n : ℕ). AreRounds c.args.chains.now.accepted c.args.failed.now n (positions_of c.in_ok-line.line)) (sym rounds.1)
+    (subst (AreRounds c.args.chains.now.accepted c.args.failed.now (rounds.0 + 1)) (positions c)
+    (are_rounds c.args.chains.now.accepted c.args.failed.now c.deref.result.now c.in_ok-settled.settled.stage.cut.items rounds.0 (laws c) (tops c) rounds.2 c.in_ok-settled.ensures.settled))
+
+pub returns-clause-few : goal.returns-clause-few
+returns-clause-few c = λ ts h. omega (arith, c.in_ok-settled.ensures.few, ap sum (same_tops c.args.chains.now.accepted c.args.failed.now ts c.deref.result.now h (tops c)))

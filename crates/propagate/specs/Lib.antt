@@ -1,0 +1,5 @@
+pub mod Greatest
+pub mod Rounds
+pub mod Ranks
+pub mod Stages
+pub mod Nodes

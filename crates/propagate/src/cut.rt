@@ -1,0 +1,145 @@
+//! The greatest stamp-consistent cut, and its certificate.
+
+ghost use Rattle.std.specs.Prelude.{◌≡◌, ◌<◌, ◌≤◌, ◌+◌, ◌-◌, ◌^◌, ◌↔◌, ℕ, List, IfOk, Contains, length, map, slice_index, sum};
+ghost use Rattle.std.specs.List.{range_with_len};
+ghost use Rattle.chains.specs.Processes.{known};
+ghost use Rattle.report_line.specs.declared.report.Report.{Report};
+ghost use Rattle.chains.specs.Positions.{last_rank};
+ghost use Rattle.chains.specs.Admission.{IsReachable};
+ghost use Rattle.chains.specs.declared.position.Place.{Place as AnyPlace};
+ghost use Rattle.reasons.specs.declared.certificate.Certificate.{Certificate as AnyCertificate};
+ghost use Rattle.reasons.specs.Certificates.{AreReasons, Certifies, positions_of};
+ghost use Rattle.propagate.specs.Greatest.{IsGreatestCut};
+ghost use Rattle.propagate.specs.Rounds.{AreRounds};
+ghost use Rattle.propagate.specs.Ranks.{AreTops, AreNextRanks, RanksAfter, AreAllBounds};
+ghost use Rattle.propagate.specs.Stages.{IsStanding, AreGroundedBy, AreThere, chains_at, chains_due};
+
+use crate::arena::Arena;
+use crate::bounds::Bounds;
+use crate::places::{last_surviving_ranks, line_at};
+use crate::rounds::{Stage, first_stage, round};
+use chains::{Chains, Failed, Line};
+use reasons::{Certificate, Numbers, Reasons};
+use std::alloc::AllocError;
+
+/// The greatest stamp-consistent cut, a reason chain for each process below its last surviving position, and the number of
+/// rounds up to the first that changes nothing, that one counted.
+#[derive(Drop)]
+pub struct Cut {
+    pub line: Line,
+    pub reasons: Reasons,
+    pub rounds: u32,
+}
+
+/// Bounds of all places, for each process.
+fn all_bounds(chains: &Chains) -> Result<Vec<Bounds>, AllocError>
+    ensures { IfOk result (λ rows. (cut : List ℕ) → length cut ≡ length (known chains.now.accepted) → AreAllBounds chains.now.accepted cut rows.items) }
+{
+    let widest = Bounds::widest(chains)?;
+    let mut rows = Vec::with_capacity(chains.alloc(), chains.count() as usize)?;
+    for _ in 0..chains.count() {
+        rows.push(widest.copy()?)?;
+    }
+    Ok(rows)
+}
+
+/// The chains of the processes below their last surviving ranks, in order of birth.
+fn reasons_due(
+    chains: &Chains,
+    arena: &Arena,
+    tops: &[u32],
+    stage: &Stage,
+) -> Result<Reasons, AllocError>
+    requires tops { length tops.now ≡ length stage.now.cut.items }
+    requires heads { length stage.now.heads.items ≡ length stage.now.cut.items }
+    requires there { AreThere tops.now stage.now.cut.items stage.now.heads.items arena.now }
+    ensures { IfOk result (λ r. r ≡ chains_due tops.now stage.now.cut.items (chains_at arena.now stage.now.heads.items)) }
+{
+    let mut reasons = Reasons::new(chains.alloc());
+    for i in 0..tops.len() {
+        if stage.cut[i] < tops[i] {
+            let chain = arena.chain(stage.heads[i])?;
+            reasons.push(chain)?;
+        }
+    }
+    Ok(reasons)
+}
+
+/// The cut that the rounds end at, with how many they are.
+#[derive(Drop)]
+struct Settled {
+    stage: Stage,
+    arena: Arena,
+    rounds: u32,
+}
+
+/// Makes rounds up to the first that changes nothing.
+fn settle(chains: &Chains, tops: &[u32]) -> Result<Settled, AllocError>
+    requires complete { length tops.now ≡ length (known chains.now.accepted) }
+    requires within { (p : ℕ) → p < length tops.now → slice_index tops.now p ≤ last_rank chains.now.accepted p }
+    requires few { sum tops.now < 2 ^ 32 - 1 }
+    ensures standing { IfOk result (λ s. IsStanding chains.now.accepted tops.now s.stage.cut.items s.stage.heads.items s.stage.fell.items) }
+    ensures grounded { IfOk result (λ s. AreGroundedBy chains.now.accepted tops.now s.stage.cut.items s.stage.heads.items s.arena) }
+    ensures there { IfOk result (λ s. AreThere tops.now s.stage.cut.items s.stage.heads.items s.arena) }
+    ensures rounds { IfOk result (λ s. (t : ℕ) × (s.rounds ≡ t + 1) × RanksAfter chains.now.accepted tops.now t s.stage.cut.items) }
+    ensures settled { IfOk result (λ s. AreNextRanks chains.now.accepted s.stage.cut.items s.stage.cut.items) }
+    ensures few { IfOk result (λ s. s.rounds ≤ sum tops.now + 1) }
+{
+    let mut rows = all_bounds(chains)?;
+    let mut arena = Arena::new(chains.alloc());
+    let mut stage = first_stage(chains, tops)?;
+    let mut rounds = 1;
+    loop {
+        let next = round(chains, &mut rows, &mut arena, tops, &stage)?;
+        if next.fell.is_empty() {
+            return Ok(Settled {
+                stage: next,
+                arena,
+                rounds,
+            });
+        }
+        stage = next;
+        rounds += 1;
+    }
+}
+
+/// The greatest stamp-consistent cut over these chains for a failed set.
+pub fn greatest_cut(chains: &Chains, failed: &Failed) -> Result<Cut, AllocError>
+    ensures in_order { IfOk result (λ cut. map (λ (x : AnyPlace). x.process) cut.line ≡ range_with_len 0 (length (known chains.now.accepted))) }
+    ensures line { IfOk result (λ cut. IsGreatestCut chains.now.accepted failed.now (positions_of cut.line)) }
+    ensures reasons { IfOk result (λ cut. AreReasons chains.now.accepted failed.now (positions_of cut.line) cut.reasons) }
+    ensures rounds { IfOk result (λ cut. AreRounds chains.now.accepted failed.now cut.rounds (positions_of cut.line)) }
+    // The sum counts the surviving positions above 0.
+    ensures few { IfOk result (λ cut. (tops : List ℕ) → AreTops chains.now.accepted failed.now tops → cut.rounds ≤ sum tops + 1) }
+{
+    chains.lawful();
+    let tops = last_surviving_ranks(chains, failed)?;
+    let settled = settle(chains, &tops)?;
+    let line = line_at(chains, &settled.stage.cut)?;
+    let reasons = reasons_due(chains, &settled.arena, &tops, &settled.stage)?;
+    Ok(Cut {
+        line,
+        reasons,
+        rounds: settled.rounds,
+    })
+}
+
+/// The certificate of the greatest cut over these chains for those of the failed set that are known.
+pub fn certificate(chains: &Chains, failed: &Failed) -> Result<Certificate, AllocError>
+    ensures certifies { IfOk result (λ c. Certifies chains.now.accepted c) }
+    ensures failed { IfOk result (λ c. (p : ℕ) → (Contains c.failed p ↔ (Contains failed.now p × (p < length (known chains.now.accepted))))) }
+{
+    let failed = failed.known_to(chains)?;
+    let cut = greatest_cut(chains, &failed)?;
+    Ok(Certificate {
+        failed: Numbers::from_vec(failed.into_numbers()),
+        front: chains.front() as u64,
+        line: cut.line,
+        reasons: cut.reasons,
+    })
+}
+
+/// What certifies is the greatest stamp-consistent cut.
+pub fn certified_lines_are_the_greatest()
+    ensures { (accepted : List Report) (c : AnyCertificate) → IsReachable accepted → Certifies accepted c → IsGreatestCut accepted c.failed (positions_of c.line) }
+{}

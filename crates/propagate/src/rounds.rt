@@ -1,0 +1,109 @@
+//! The rounds of rollback propagation.
+
+ghost use Rattle.std.specs.Prelude.{◌≡◌, ◌<◌, ◌≤◌, ◌+◌, ◌++◌, ℕ, List, [], IfOk, length, get_or, slice_index};
+ghost use Rattle.chains.specs.Processes.{known};
+ghost use Rattle.chains.specs.Positions.{place_at as place_of_rank, last_rank};
+ghost use Rattle.chains.specs.declared.position.Place.{Place as AnyPlace};
+ghost use Rattle.propagate.specs.Ranks.{AreTops, AreNextRanks, IsGrounded, IsCauseOf, AreFallen, AreAllBounds};
+ghost use Rattle.propagate.specs.Stages.{IsStanding, AreGroundedBy, AreThere};
+
+use crate::arena::Arena;
+use crate::bounds::{Bounds, Lowered};
+use crate::places::place_at;
+use chains::Chains;
+use std::alloc::AllocError;
+
+/// A cut after some rounds: the rank of each process, for those below their last surviving ranks the number of the chain
+/// that ends at the next position, and the processes that the last round lowered.
+#[derive(Drop)]
+pub(crate) struct Stage {
+    pub(crate) cut: Vec<u32>,
+    pub(crate) heads: Vec<usize>,
+    pub(crate) fell: Vec<u32>,
+}
+
+/// The first cut, of all last surviving ranks, from which any process may be known too far.
+pub(crate) fn first_stage(chains: &Chains, tops: &[u32]) -> Result<Stage, AllocError>
+    requires complete { length tops.now ≡ length (known chains.now.accepted) }
+    requires within { (p : ℕ) → p < length tops.now → slice_index tops.now p ≤ last_rank chains.now.accepted p }
+    ensures cut { IfOk result (λ s. s.cut.items ≡ tops.now) }
+    ensures standing { IfOk result (λ s. IsStanding chains.now.accepted tops.now s.cut.items s.heads.items s.fell.items) }
+    ensures there { IfOk result (λ s. (arena : List (List AnyPlace)) → AreThere tops.now s.cut.items s.heads.items arena) }
+{
+    let cut = Vec::from_slice(chains.alloc(), tops)?;
+    let heads = Vec::from_elem(chains.alloc(), 0, tops.len())?;
+    let mut fell = Vec::with_capacity(chains.alloc(), tops.len())?;
+    for process in 0..chains.count() {
+        fell.push(process)?;
+    }
+    Ok(Stage { cut, heads, fell })
+}
+
+/// The number of the chain of a process after a round that brings it there.
+fn next_head(
+    chains: &Chains,
+    arena: &mut Arena,
+    tops: &[u32],
+    stage: &Stage,
+    process: u32,
+    low: &Lowered,
+) -> Result<usize, AllocError>
+    requires standing { IsStanding chains.now.accepted tops.now stage.now.cut.items stage.now.heads.items stage.now.fell.items }
+    requires grounded { AreGroundedBy chains.now.accepted tops.now stage.now.cut.items stage.now.heads.items arena.old }
+    requires there { AreThere tops.now stage.now.cut.items stage.now.heads.items arena.old }
+    requires process { process < length stage.now.cut.items }
+    requires cause { IsCauseOf chains.now.accepted stage.now.cut.items process low.now.rank low.now.cause }
+    ensures more { IfOk result (λ _. (more : List (List AnyPlace)) × (arena.new ≡ arena.old ++ more)) }
+    ensures there { IfOk result (λ head. low.now.rank < slice_index tops.now process → head < length arena.new) }
+    ensures grounded { IfOk result (λ head. (failed next : List ℕ) → AreTops chains.now.accepted failed tops.now → length next ≡ length stage.now.cut.items
+        → ((p : ℕ) → p < length next → slice_index next p ≤ slice_index stage.now.cut.items p)
+        → slice_index next process ≡ low.now.rank → low.now.rank < slice_index tops.now process
+        → IsGrounded chains.now.accepted failed next (place_of_rank chains.now.accepted process (low.now.rank + 1)) (get_or arena.new head [])) }
+{
+    chains.lawful();
+    let Some(cause) = low.cause else {
+        return Ok(stage.heads[process as usize]);
+    };
+    let place = place_at(chains, process, low.rank + 1);
+    let after = stage.cut[cause as usize];
+    let before = if after == tops[cause as usize] {
+        arena.start(place_at(chains, cause, after))?
+    } else {
+        stage.heads[cause as usize]
+    };
+    arena.prolong(before, place)
+}
+
+/// One round, in which every process is looked at against the same cut.
+pub(crate) fn round(
+    chains: &Chains,
+    rows: &mut Vec<Bounds>,
+    arena: &mut Arena,
+    tops: &[u32],
+    stage: &Stage,
+) -> Result<Stage, AllocError>
+    requires standing { IsStanding chains.now.accepted tops.now stage.now.cut.items stage.now.heads.items stage.now.fell.items }
+    requires grounded { AreGroundedBy chains.now.accepted tops.now stage.now.cut.items stage.now.heads.items arena.old }
+    requires there { AreThere tops.now stage.now.cut.items stage.now.heads.items arena.old }
+    requires bounds { AreAllBounds chains.now.accepted stage.now.cut.items rows.old.items }
+    ensures ranks { IfOk result (λ next. AreNextRanks chains.now.accepted stage.now.cut.items next.cut.items) }
+    ensures fallen { IfOk result (λ next. AreFallen stage.now.cut.items next.cut.items next.fell.items) }
+    ensures standing { IfOk result (λ next. IsStanding chains.now.accepted tops.now next.cut.items next.heads.items next.fell.items) }
+    ensures grounded { IfOk result (λ next. AreGroundedBy chains.now.accepted tops.now next.cut.items next.heads.items arena.new) }
+    ensures there { IfOk result (λ next. AreThere tops.now next.cut.items next.heads.items arena.new) }
+    ensures bounds { IfOk result (λ next. AreAllBounds chains.now.accepted next.cut.items rows.new.items) }
+{
+    let mut cut = Vec::with_capacity(chains.alloc(), stage.cut.len())?;
+    let mut heads = Vec::with_capacity(chains.alloc(), stage.cut.len())?;
+    let mut fell = Vec::new(chains.alloc());
+    for process in 0..chains.count() {
+        let low = rows[process as usize].lower(chains, &stage.cut, &stage.fell, process);
+        let head = next_head(chains, arena, tops, stage, process, &low)?;
+        if low.rank < stage.cut[process as usize] {
+            fell.push(process)?;
+        }
+        cut.push(low.rank)?;
+        heads.push(head)?;
+    }
+    Ok(Stage { cut, heads, fell })
+}

@@ -1,0 +1,5 @@
+pub mod Certificates
+pub mod CertificateText
+pub mod Json
+pub mod Shown
+pub mod Codes

@@ -1,0 +1,25 @@
+-- What is shown for the reply of a turn.
+use Rattle.std.specs.Prelude.{◌≡◌, ◌⊎◌, ℕ, List}
+use Rattle.report_line.specs.declared.report.Report.{Report}
+use Rattle.report_line.specs.declared.call.Call.{Call}
+use Rattle.report_line.specs.declared.call.Call.TheVariants.{Line}
+use Rattle.report_line.specs.declared.reply.Reply.{Reply}
+use Rattle.report_line.specs.declared.reply.Reply.TheVariants as replies
+use Rattle.chains.specs.Processes.{Name}
+use Rattle.chains.specs.Turns.{no_memory}
+use Rattle.reasons.specs.declared.certificate.Certificate.{Certificate}
+use Rattle.reasons.specs.Certificates.{Certifies, IsForNames}
+use Rattle.reasons.specs.CertificateText.{certificate_text}
+
+-- the text of a certificate for these names, which certifies for the accepted list
+pub record IsLineText (accepted : List Report) (names : List Name) (text : List ℕ) : Type 0 where
+  pub certificate : Certificate
+  pub for_names : IsForNames accepted names certificate
+  pub certifies : Certifies accepted certificate
+  pub text_is : text ≡ certificate_text accepted certificate
+
+-- the reply that is shown for a turn's: a line for one that was taken, or that memory was wanting; else the reply itself
+abbrev pub IsShown : List Report → Call → Reply → Reply → Type 0
+IsShown accepted (Line names) (replies.Taken front) shown =
+    ((text : List ℕ) × (shown ≡ replies.Line text) × IsLineText accepted names text) ⊎ (shown ≡ no_memory)
+IsShown accepted call reply shown = shown ≡ reply

@@ -13,7 +13,8 @@ use Rattle.chains.specs.Admission.{report_limit, process_limit}
 use Rattle.chains.specs.Processes.{known}
 use Rattle.chains.specs.Positions.{position_at}
 use Rattle.reasons.specs.Certificates.{positions_of}
-use Rattle.propagate.specs.Ranks.{AreTops, AreNextRanks, AreFallen, AreBounds, AreAllBounds, IsStage, positions_from, places_from}
+use Rattle.propagate.specs.Ranks.{AreNextRanks, AreFallen, AreBounds, AreAllBounds, IsStage, positions_from, places_from}
+use Rattle.propagate.specs.Rounds.{AreTops}
 use Rattle.propagate.specs.Stages.{IsStanding, AreGroundedBy, AreThere, AreRunning, chains_at, chains_due}
 use Rattle.propagate.proofs.Ranked.{rank_at}
 use Rattle.propagate.proofs.Fallen.{member_first}

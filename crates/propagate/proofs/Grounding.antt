@@ -13,7 +13,8 @@ use Rattle.chains.specs.Elements.{elements}
 use Rattle.chains.specs.Knowledge.{Knows}
 use Rattle.knows_row.specs.Knowing.{KnowsRank, IsLawful}
 use Rattle.reasons.specs.Certificates.{IsReasonChain, AreReasons, HaveReasons, EndsAfter, Falls, position_below}
-use Rattle.propagate.specs.Ranks.{AreTops, IsGrounded, IsStage, positions_from}
+use Rattle.propagate.specs.Ranks.{IsGrounded, IsStage, positions_from}
+use Rattle.propagate.specs.Rounds.{AreTops}
 use Rattle.propagate.specs.Stages.{chains_due}
 use Rattle.propagate.proofs.Ranked.{rank_at, rank_at_below, position_in_positions}
 use Rattle.propagate.proofs.Chained.{below_next, reason_more}

@@ -13,8 +13,8 @@ use Rattle.chains.specs.Knowledge.{Knows, IsStampConsistent}
 use Rattle.knows_row.specs.Knowing.{KnowsRank, IsLawful}
 use Rattle.reasons.specs.Certificates.{positions_of}
 use Rattle.propagate.specs.Greatest.{IsGreatestCut}
-use Rattle.propagate.specs.Rounds.{AreRounds, AfterRounds, IsRound, IsLowered}
-use Rattle.propagate.specs.Ranks.{AreTops, IsClearRank, IsNextRank, AreNextRanks, RanksAfter, IsClearBut, AreBounds, positions_from, places_from}
+use Rattle.propagate.specs.Rounds.{AreTops, AreRounds, AfterRounds, IsRound, IsLowered}
+use Rattle.propagate.specs.Ranks.{IsClearRank, IsNextRank, AreNextRanks, RanksAfter, IsClearBut, AreBounds, positions_from, places_from}
 use Rattle.std.specs.Prelude.{sum}
 use Rattle.propagate.proofs.Ranked.{rank_at, has_position, chosen_position, position_in_positions, length_positions}
 use Rattle.propagate.proofs.Settling.{after_complete, after_within, after_chosen, stays_below, same_ranks}

@@ -15,7 +15,8 @@ use Rattle.chains.specs.Elements.{elements, lasting, elements_of, lasting_of, pr
 use Rattle.chains.specs.Positions.{is_retired, rank, position_at, last_rank, position_in, IsSurviving, IsChosen}
 use Rattle.knows_row.specs.Knowing.{KnowsRank, IsLawful}
 use Rattle.propagate.specs.Greatest.{IsConsistentCut}
-use Rattle.propagate.specs.Ranks.{AreTops, IsClearRank, RanksAfter, positions_from}
+use Rattle.propagate.specs.Ranks.{IsClearRank, RanksAfter, positions_from}
+use Rattle.propagate.specs.Rounds.{AreTops}
 use Rattle.propagate.proofs.Ranked.{at_element, at_retired, rank_at, rank_at_below, chosen_position, position_in_positions}
 
 -- ---- a retired process has no present state

@@ -11,7 +11,8 @@ use Rattle.chains.specs.Processes.{known}
 use Rattle.chains.specs.Positions.{place_at, last_rank}
 use Rattle.chains.proofs.Failing.{increasing_push}
 use Rattle.knows_row.specs.Knowing.{KnowsRank, IsLawful}
-use Rattle.propagate.specs.Ranks.{AreTops, IsNextRank, AreNextRanks, AreFallen, AreBounds, AreAllBounds, IsGrounded, IsCauseOf}
+use Rattle.propagate.specs.Ranks.{IsNextRank, AreNextRanks, AreFallen, AreBounds, AreAllBounds, IsGrounded, IsCauseOf}
+use Rattle.propagate.specs.Rounds.{AreTops}
 use Rattle.propagate.specs.Stages.{IsStanding, AreGroundedBy, AreThere}
 use Rattle.propagate.proofs.Rounding.{clear_but_fallen}
 use Rattle.propagate.proofs.Grounding.{grounded_first, grounded_more, grounded_still, falls_everywhere}

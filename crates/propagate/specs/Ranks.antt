@@ -5,8 +5,7 @@ use Rattle.std.specs.List.Sorted.{IsStrictlyIncreasing}
 use Rattle.report_line.specs.declared.report.Report.{Report}
 use Rattle.chains.specs.declared.position.Place.{Place}
 use Rattle.chains.specs.declared.position.Position.{Position}
-use Rattle.chains.specs.Processes.{known}
-use Rattle.chains.specs.Positions.{rank, position_at, place_at, last_rank, IsLastSurviving}
+use Rattle.chains.specs.Positions.{rank, position_at, place_at}
 use Rattle.knows_row.specs.Knowing.{KnowsAt, KnowsRank}
 use Rattle.reasons.specs.Certificates.{IsReasonChain}
 
@@ -18,12 +17,6 @@ positions_from accepted i (r ∷ rs) = position_at accepted i r ∷ positions_fr
 abbrev pub places_from : List Report → ℕ → List ℕ → List Place
 places_from accepted i [] = []
 places_from accepted i (r ∷ rs) = place_at accepted i r ∷ places_from accepted (suc i) rs
-
--- the last surviving position of each process
-pub record AreTops (accepted : List Report) (failed : List ℕ) (tops : List ℕ) : Type 0 where
-  pub complete : length tops ≡ length (known accepted)
-  pub within : (p : ℕ) → p < length tops → slice_index tops p ≤ last_rank accepted p
-  pub last : (p : ℕ) → p < length tops → IsLastSurviving accepted failed p (position_at accepted p (slice_index tops p))
 
 -- rank x of p knows no process after its rank in the cut
 abbrev pub IsClearRank : List Report → List ℕ → ℕ → ℕ → Type 0

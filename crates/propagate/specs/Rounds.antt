@@ -1,9 +1,9 @@
 -- The rounds of rollback propagation.
-use Rattle.std.specs.Prelude.{◌≡◌, ◌≢◌, ℕ, zero, suc, ◌+◌, ◌≤◌, ◌<◌, List, [], length}
+use Rattle.std.specs.Prelude.{◌≡◌, ◌≢◌, ℕ, zero, suc, ◌+◌, ◌≤◌, ◌<◌, List, [], length, slice_index}
 use Rattle.report_line.specs.declared.report.Report.{Report}
 use Rattle.chains.specs.declared.position.Position.{Position}
 use Rattle.chains.specs.Processes.{known}
-use Rattle.chains.specs.Positions.{rank, position_in, IsChosen, IsLastSurviving}
+use Rattle.chains.specs.Positions.{rank, position_in, position_at, last_rank, IsChosen, IsLastSurviving}
 use Rattle.chains.specs.Knowledge.{Knows}
 
 -- the position of p knows no process after that process's position in the cut
@@ -35,3 +35,9 @@ AfterRounds accepted failed (suc t) cut = (before : List Position) × AfterRound
 -- so many rounds lead to the cut up to the first that changes nothing, that one counted
 abbrev pub AreRounds : List Report → List ℕ → ℕ → List Position → Type 0
 AreRounds accepted failed n cut = (t : ℕ) × (n ≡ t + 1) × AfterRounds accepted failed t cut × IsRound accepted cut cut
+
+-- the ranks of the last surviving positions: how many surviving positions above 0 each process has
+pub record AreTops (accepted : List Report) (failed : List ℕ) (tops : List ℕ) : Type 0 where
+  pub complete : length tops ≡ length (known accepted)
+  pub within : (p : ℕ) → p < length tops → slice_index tops p ≤ last_rank accepted p
+  pub last : (p : ℕ) → p < length tops → IsLastSurviving accepted failed p (position_at accepted p (slice_index tops p))

@@ -5,7 +5,8 @@ use Rattle.report_line.specs.declared.report.Report.{Report}
 use Rattle.chains.specs.declared.position.Place.{Place}
 use Rattle.chains.specs.Processes.{known}
 use Rattle.chains.specs.Positions.{last_rank}
-use Rattle.propagate.specs.Ranks.{AreTops, AreGrounded, RanksAfter, IsClearBut, AreAllBounds}
+use Rattle.propagate.specs.Ranks.{AreGrounded, RanksAfter, IsClearBut, AreAllBounds}
+use Rattle.propagate.specs.Rounds.{AreTops}
 
 -- the chains of these numbers
 abbrev pub chains_at : List (List Place) → List ℕ → List (List Place)

@@ -10,8 +10,8 @@ ghost use Rattle.chains.specs.declared.position.Place.{Place as AnyPlace};
 ghost use Rattle.reasons.specs.declared.certificate.Certificate.{Certificate as AnyCertificate};
 ghost use Rattle.reasons.specs.Certificates.{AreReasons, Certifies, positions_of};
 ghost use Rattle.propagate.specs.Greatest.{IsGreatestCut};
-ghost use Rattle.propagate.specs.Rounds.{AreRounds};
-ghost use Rattle.propagate.specs.Ranks.{AreTops, AreNextRanks, RanksAfter, AreAllBounds};
+ghost use Rattle.propagate.specs.Rounds.{AreTops, AreRounds};
+ghost use Rattle.propagate.specs.Ranks.{AreNextRanks, RanksAfter, AreAllBounds};
 ghost use Rattle.propagate.specs.Stages.{IsStanding, AreGroundedBy, AreThere, chains_at, chains_due};
 
 use crate::arena::Arena;

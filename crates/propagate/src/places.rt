@@ -4,7 +4,8 @@ ghost use Rattle.std.specs.Prelude.{◌≡◌, ◌<◌, ◌≤◌, ◌+◌, All,
 ghost use Rattle.chains.specs.Processes.{known};
 ghost use Rattle.chains.specs.Positions.{place_at, position_at, last_rank, IsLastSurviving};
 ghost use Rattle.chains.specs.Admission.{report_limit};
-ghost use Rattle.propagate.specs.Ranks.{AreTops, places_from};
+ghost use Rattle.propagate.specs.Ranks.{places_from};
+ghost use Rattle.propagate.specs.Rounds.{AreTops};
 
 use chains::{Chains, Failed, Line, Place, Position};
 use std::alloc::AllocError;

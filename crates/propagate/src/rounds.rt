@@ -4,7 +4,8 @@ ghost use Rattle.std.specs.Prelude.{◌≡◌, ◌<◌, ◌≤◌, ◌+◌, ◌+
 ghost use Rattle.chains.specs.Processes.{known};
 ghost use Rattle.chains.specs.Positions.{place_at as place_of_rank, last_rank};
 ghost use Rattle.chains.specs.declared.position.Place.{Place as AnyPlace};
-ghost use Rattle.propagate.specs.Ranks.{AreTops, AreNextRanks, IsGrounded, IsCauseOf, AreFallen, AreAllBounds};
+ghost use Rattle.propagate.specs.Ranks.{AreNextRanks, IsGrounded, IsCauseOf, AreFallen, AreAllBounds};
+ghost use Rattle.propagate.specs.Rounds.{AreTops};
 ghost use Rattle.propagate.specs.Stages.{IsStanding, AreGroundedBy, AreThere};
 
 use crate::arena::Arena;

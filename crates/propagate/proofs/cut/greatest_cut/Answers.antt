@@ -4,8 +4,8 @@ use Rattle.knows_row.specs.Knowing.{IsLawful}
 use Rattle.knows_row.proofs.Lawful.{lawful}
 use Rattle.reasons.specs.Certificates.{AreReasons, positions_of}
 use Rattle.propagate.specs.Greatest.{IsGreatestCut}
-use Rattle.propagate.specs.Ranks.{AreTops, positions_from, places_from}
-use Rattle.propagate.specs.Rounds.{AreRounds}
+use Rattle.propagate.specs.Ranks.{positions_from, places_from}
+use Rattle.propagate.specs.Rounds.{AreTops, AreRounds}
 use Rattle.propagate.specs.Stages.{chains_at, chains_due}
 use Rattle.propagate.proofs.Grounding.{are_reasons}
 use Rattle.propagate.proofs.Rounding.{settled_is_greatest, are_rounds}

@@ -3,7 +3,7 @@ use Rattle.std.proofs.Common.{◌≡◌, ◌≢◌, inl, inr, ℕ, zero, suc, �
 use Rattle.std.specs.Prelude.{slice_get}
 use Rattle.std.specs.Option.{option_map, option_map_or, is_some}
 use Rattle.std.proofs.lemmas.Bool.{true≢false, cases_lt, lt-ltb, le-ltb}
-use Rattle.std.proofs.lemmas.Option.{slice_get_within, slice_get-get_or}
+use Rattle.std.proofs.lemmas.Option.{same_Some, slice_get_within, slice_get-get_or}
 use Rattle.id_tree.specs.IdTree.{IdTree}
 use Rattle.event_tree.specs.EventTree.{EventTree, Leaf}
 use Rattle.event_tree.specs.Values.{IsAtOrBelow, ExceedsOn}
@@ -27,13 +27,15 @@ knows_from_at accepted x q j (suc k) le h = (h.other, record { later = suc k; st
 pub at_from_knows : (accepted : List Report) (x : Place) (q j : ℕ) → Knows accepted x q (At j) → (k : ℕ) × (j ≤ k) × KnowsAt accepted x q k
 at_from_knows accepted x q j h = (h.1.later, h.1.from, record { other = h.0; stamp = h.1.stamp; is_element = h.1.is_element; beyond = h.1.beyond })
 
--- ---- the events of a rank
+-- ---- the position of a rank
 
-at_element : (accepted : List Report) (p x : ℕ) → x ≤ length (elements accepted p) → position_at accepted p x ≡ At x
+pub at_element : (accepted : List Report) (p x : ℕ) → x ≤ length (elements accepted p) → position_at accepted p x ≡ At x
 at_element accepted p x le = ap (λ (b : Bool). cond b Retired (At x)) (le-ltb (length (elements accepted p)) x le)
 
-at_end : (accepted : List Report) (p x : ℕ) → length (elements accepted p) < x → position_at accepted p x ≡ Retired
+pub at_end : (accepted : List Report) (p x : ℕ) → length (elements accepted p) < x → position_at accepted p x ≡ Retired
 at_end accepted p x lt = ap (λ (b : Bool). cond b Retired (At x)) (lt-ltb (length (elements accepted p)) x lt)
+
+-- ---- the events of a rank
 
 abbrev pub events_of_rank : List Report → ℕ → ℕ → Option EventTree
 events_of_rank accepted p x = events_at accepted (place_at accepted p x)
@@ -68,9 +70,6 @@ read_events : (o : Option Stamp) (e : EventTree) → option_map (λ (y : Stamp).
 read_events None e h = absurd cc
 read_events (Some s) e h = (s, refl, cc)
 
-some_events : (e f : EventTree) → Some e ≡ Some f → e ≡ f
-some_events e f h = cc
-
 -- the events of an element are at or below the last ones
 element_below : (accepted : List Report) (p x : ℕ) (e : EventTree) → IsReachable accepted → option_map (λ (y : Stamp). y.events) (element accepted p x) ≡ Some e → IsAtOrBelow e (top accepted (name_of accepted p))
 element_below accepted p zero e reach h = absurd cc
@@ -99,7 +98,7 @@ later_events accepted p x y e reach le within h = elim (cases_lt (length (elemen
       let is_last = retired_top accepted p (retired_rank (is_retired accepted p) (length (elements accepted p)) y within past) in
       let end = of_end accepted p y past ∙ is_last in
       elim (cases_lt (length (elements accepted p)) x) [
-        | inl also ↦ (top accepted (name_of accepted p), end, below_same e (top accepted (name_of accepted p)) (some_events e _ (sym h ∙ of_end accepted p x also ∙ is_last)))
+        | inl also ↦ (top accepted (name_of accepted p), end, below_same e (top accepted (name_of accepted p)) (same_Some e _ (sym h ∙ of_end accepted p x also ∙ is_last)))
         | inr before ↦ (top accepted (name_of accepted p), end, element_below accepted p x e reach (sym (of_element accepted p x before) ∙ h))
       ]
   | inr before ↦

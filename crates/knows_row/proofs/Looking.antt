@@ -1,6 +1,7 @@
 -- Looking through the elements of a process, upward and downward.
 use Rattle.std.proofs.Common.{◌≡◌, ◌≢◌, inl, inr, ℕ, zero, suc, ◌+◌, ◌-◌, ◌≤◌, ◌<◌, ◌↔◌, false, IsTrue, List, length, Some, refl, sym, ap, subst, ◌∙◌, arith}
 use Rattle.std.proofs.lemmas.Bool.{true≢false, cases_lt}
+use Rattle.std.proofs.lemmas.Option.{same_Some}
 use Rattle.event_tree.specs.EventTree.{EventTree}
 use Rattle.event_tree.specs.Values.{ExceedsOn}
 use Rattle.stamp.specs.declared.stamp.Stamp.{Stamp}
@@ -23,9 +24,6 @@ same_element : (accepted : List Report) (q k : ℕ) → element accepted q k ≡
 same_element accepted q zero = refl
 same_element accepted q (suc k) = refl
 
-some_events : (e f : EventTree) → Some e ≡ Some f → e ≡ f
-some_events e f h = cc
-
 pub at_from_beyond : (accepted : List Report) (x : Place) (q k : ℕ) (events : EventTree) → q ≢ x.process → events_at accepted x ≡ Some events → IsBeyondAt events (elements accepted q) k → KnowsAt accepted x q k
 at_from_beyond accepted x q k events other there h = record {
   other = other;
@@ -38,7 +36,7 @@ pub beyond_from_at : (accepted : List Report) (x : Place) (q k : ℕ) (events : 
 beyond_from_at accepted x q k events there h = record {
   stamp = h.stamp;
   is_element = sym (same_element accepted q k) ∙ h.is_element;
-  exceeds = subst (λ (e : EventTree). ExceedsOn h.stamp.id e h.stamp.events) (some_events h.beyond.events events (sym h.beyond.there ∙ there)) h.beyond.exceeds;
+  exceeds = subst (λ (e : EventTree). ExceedsOn h.stamp.id e h.stamp.events) (same_Some h.beyond.events events (sym h.beyond.there ∙ there)) h.beyond.exceeds;
 }
 
 pub knows_none : (accepted : List Report) (x : Place) (q j : ℕ) → ((k : ℕ) → ¬ KnowsAt accepted x q k) → IsTrue false ↔ Knows accepted x q (At j)

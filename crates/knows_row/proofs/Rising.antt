@@ -6,6 +6,7 @@ use Rattle.std.specs.Str.{bytes_eq}
 use Rattle.std.proofs.lemmas.Bool.{true≢false, cases_Bool, or_parts}
 use Rattle.std.proofs.lemmas.List.Elements.{filter_map-append}
 use Rattle.std.proofs.lemmas.Slice.Eq.{bytes_eq-Decides}
+use Rattle.std.proofs.lemmas.Option.{same_Some}
 use Rattle.id_tree.specs.IdTree.{One}
 use Rattle.event_tree.specs.EventTree.{EventTree, Leaf}
 use Rattle.event_tree.specs.Values.{value_at, IsAtOrBelow}
@@ -51,26 +52,23 @@ rise_all : (low : EventTree) (ss : List Stamp) (top : EventTree) → Rise low ss
 rise_all low [] top h = h
 rise_all low (s ∷ ss) top h = below_trans low s.events top h.0 (rise_all s.events ss top h.1)
 
-some_stamp : (s t : Stamp) → Some s ≡ Some t → s ≡ t
-some_stamp s t e = cc
-
 -- ---- what is read of them
 
 pub below_top : (low : EventTree) (ss : List Stamp) (top : EventTree) (i : ℕ) (s : Stamp) → Rise low ss top → slice_get ss i ≡ Some s → IsAtOrBelow s.events top
 below_top low [] top i s h at = absurd cc
-below_top low (t ∷ ss) top zero s h at = below_trans s.events t.events top (below_same s.events t.events (ap (λ (u : Stamp). u.events) (sym (some_stamp t s at)))) (rise_all t.events ss top h.1)
+below_top low (t ∷ ss) top zero s h at = below_trans s.events t.events top (below_same s.events t.events (ap (λ (u : Stamp). u.events) (sym (same_Some t s at)))) (rise_all t.events ss top h.1)
 below_top low (t ∷ ss) top (suc i) s h at = below_top t.events ss top i s h.1 at
 
 above_low : (low : EventTree) (ss : List Stamp) (top : EventTree) (j : ℕ) (t : Stamp) → Rise low ss top → slice_get ss j ≡ Some t → IsAtOrBelow low t.events
 above_low low [] top j t h at = absurd cc
-above_low low (s ∷ ss) top zero t h at = below_trans low s.events t.events h.0 (below_same s.events t.events (ap (λ (u : Stamp). u.events) (some_stamp s t at)))
+above_low low (s ∷ ss) top zero t h at = below_trans low s.events t.events h.0 (below_same s.events t.events (ap (λ (u : Stamp). u.events) (same_Some s t at)))
 above_low low (s ∷ ss) top (suc j) t h at = below_trans low s.events t.events h.0 (above_low s.events ss top j t h.1 at)
 
 pub below_later : (low : EventTree) (ss : List Stamp) (top : EventTree) (i j : ℕ) (s t : Stamp) → Rise low ss top → i ≤ j → slice_get ss i ≡ Some s → slice_get ss j ≡ Some t → IsAtOrBelow s.events t.events
 below_later low [] top i j s t h le at at' = absurd cc
-below_later low (u ∷ ss) top zero zero s t h le at at' = below_same s.events t.events (ap (λ (v : Stamp). v.events) (sym (some_stamp u s at) ∙ some_stamp u t at'))
+below_later low (u ∷ ss) top zero zero s t h le at at' = below_same s.events t.events (ap (λ (v : Stamp). v.events) (sym (same_Some u s at) ∙ same_Some u t at'))
 below_later low (u ∷ ss) top zero (suc j) s t h le at at' =
-    below_trans s.events u.events t.events (below_same s.events u.events (ap (λ (v : Stamp). v.events) (sym (some_stamp u s at)))) (above_low u.events ss top j t h.1 at')
+    below_trans s.events u.events t.events (below_same s.events u.events (ap (λ (v : Stamp). v.events) (sym (same_Some u s at)))) (above_low u.events ss top j t h.1 at')
 below_later low (u ∷ ss) top (suc i) zero s t h le at at' = absurd (omega arith)
 below_later low (u ∷ ss) top (suc i) (suc j) s t h le at at' = below_later u.events ss top i j s t h.1 (omega arith) at at'
 

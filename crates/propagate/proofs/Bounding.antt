@@ -103,9 +103,9 @@ rises : (among : List ℕ) → IsStrictlyIncreasing among → (i j : ℕ) → i 
 rises among h i j le lt = let e : i + (j - i) ≡ j = omega arith in subst (λ (k : ℕ). slice_index among i ≤ slice_index among k) e (rising among h i (j - i) (omega (arith, e, lt)))
 
 -- where none before is known, one that is known is the first
-pub first_of : (accepted : List Report) (cut among : List ℕ) (p x n : ℕ) → IsStrictlyIncreasing among → AreUnknownTo accepted cut among p x n
+pub is_first_known : (accepted : List Report) (cut among : List ℕ) (p x n : ℕ) → IsStrictlyIncreasing among → AreUnknownTo accepted cut among p x n
     → KnowsRank accepted p x (slice_index among n) (slice_index cut (slice_index among n)) → IsFirstKnown accepted among cut p x (slice_index among n)
-first_of accepted cut among p x n sorted none knows = record {
+is_first_known accepted cut among p x n sorted none knows = record {
   known = knows;
   first = λ j contains later.
       let at = there among j contains in

@@ -11,14 +11,15 @@ use Rattle.chains.specs.Elements.{elements}
 use Rattle.chains.specs.Positions.{position_at, place_at, last_rank}
 use Rattle.chains.specs.Knowledge.{Knows}
 use Rattle.reasons.specs.Certificates.{IsReasonChain, AreLinked, AreDistinct, position_below}
-use Rattle.propagate.proofs.Ranked.{at_element, at_retired, last_below}
+use Rattle.knows_row.proofs.Laws.{at_element, at_end}
+use Rattle.propagate.proofs.Ranked.{last_below}
 
 -- the position below the next place
 pub below_next : (accepted : List Report) (q r : ℕ) → r < last_rank accepted q → position_below accepted (place_at accepted q (r + 1)) ≡ position_at accepted q r
 below_next accepted q r lt = elim (cases_lt (length (elements accepted q)) (r + 1)) [
   | inl over ↦
       let e : r ≡ length (elements accepted q) = omega (arith, over, lt, last_below accepted q) in
-      ap (λ (k : Position). position_below accepted (record { process = q; position = k })) (at_retired accepted q (r + 1) over)
+      ap (λ (k : Position). position_below accepted (record { process = q; position = k })) (at_end accepted q (r + 1) over)
       ∙ ap At (sym e) ∙ sym (at_element accepted q r (omega arith))
   | inr le ↦
       let e : (r + 1) - 1 ≡ r = omega arith in

@@ -1,15 +1,16 @@
 -- Positions and their ranks.
 use Rattle.std.proofs.Common.{◌≡◌, inl, inr, ℕ, zero, suc, ◌+◌, ◌≤◌, ◌<◌, Bool, true, false, cond, List, [], ◌∷◌, length, refl, sym, ap, ◌∙◌, subst, arith}
-use Rattle.std.specs.Prelude.{slice_index, nat_lt, Contains, Option, None}
+use Rattle.std.specs.Prelude.{slice_index, Contains, Option, None}
 use Rattle.std.specs.Option.{option_map_or, is_some}
 use Rattle.std.proofs.lemmas.Option.{slice_get_past}
-use Rattle.std.proofs.lemmas.Bool.{cond-true, cond-false, lt-ltb, le-ltb, cases_lt, true≢false}
+use Rattle.std.proofs.lemmas.Bool.{cond-true, cases_lt, true≢false}
 use Rattle.report_line.specs.declared.report.Report.{Report}
 use Rattle.chains.specs.declared.position.Position.{Position}
 use Rattle.chains.specs.declared.position.Position.TheVariants.{At, Retired}
 use Rattle.chains.specs.Processes.{Name, known, target_of}
 use Rattle.chains.specs.Elements.{elements, elements_of, name_of}
 use Rattle.chains.specs.Positions.{is_retired, rank, position_at, last_rank, position_in, IsSurviving, IsChosen}
+use Rattle.knows_row.proofs.Laws.{at_element, at_end}
 use Rattle.propagate.specs.Ranks.{positions_from}
 
 module _ (accepted : List Report) (p : ℕ) where
@@ -29,32 +30,26 @@ module _ (accepted : List Report) (p : ℕ) where
   pub last_retired : is_retired accepted p ≡ true → last_rank accepted p ≡ length (elements accepted p) + 1
   last_retired h = cond-true (is_retired accepted p) (length (elements accepted p) + 1) (length (elements accepted p)) h
 
-  pub at_element : (r : ℕ) → r ≤ length (elements accepted p) → position_at accepted p r ≡ At r
-  at_element r le = cond-false (nat_lt (length (elements accepted p)) r) Retired (At r) (le-ltb (length (elements accepted p)) r le)
-
-  pub at_retired : (r : ℕ) → length (elements accepted p) < r → position_at accepted p r ≡ Retired
-  at_retired r lt = cond-true (nat_lt (length (elements accepted p)) r) Retired (At r) (lt-ltb (length (elements accepted p)) r lt)
-
   -- a rank that the process has is the rank of its position
   pub rank_at : (r : ℕ) → r ≤ last_rank accepted p → rank accepted p (position_at accepted p r) ≡ r
   rank_at r le = elim (cases_lt (length (elements accepted p)) r) [
-    | inl lt ↦ ap (rank accepted p) (at_retired r lt) ∙ omega (arith, lt, le, last_below)
-    | inr ge ↦ ap (rank accepted p) (at_element r ge)
+    | inl lt ↦ ap (rank accepted p) (at_end accepted p r lt) ∙ omega (arith, lt, le, last_below)
+    | inr ge ↦ ap (rank accepted p) (at_element accepted p r ge)
   ]
 
   pub rank_at_below : (r : ℕ) → rank accepted p (position_at accepted p r) ≤ r
   rank_at_below r = elim (cases_lt (length (elements accepted p)) r) [
-    | inl lt ↦ let e = ap (rank accepted p) (at_retired r lt) in omega (arith, lt, e)
-    | inr ge ↦ let e = ap (rank accepted p) (at_element r ge) in omega (arith, e)
+    | inl lt ↦ let e = ap (rank accepted p) (at_end accepted p r lt) in omega (arith, lt, e)
+    | inr ge ↦ let e = ap (rank accepted p) (at_element accepted p r ge) in omega (arith, e)
   ]
 
   -- a position that the process has is the one of its rank, which is at most the last
   surviving_at : (failed : List ℕ) (k : Position) → IsSurviving accepted failed p k → (rank accepted p k ≤ last_rank accepted p) × (position_at accepted p (rank accepted p k) ≡ k)
-  surviving_at failed (At k) h = (omega (arith, h.1, last_above), at_element k h.1)
-  surviving_at failed Retired h = (omega (arith, last_retired h), at_retired (length (elements accepted p) + 1) (omega arith))
+  surviving_at failed (At k) h = (omega (arith, h.1, last_above), at_element accepted p k h.1)
+  surviving_at failed Retired h = (omega (arith, last_retired h), at_end accepted p (length (elements accepted p) + 1) (omega arith))
 
   chosen_at : (failed : List ℕ) (k : Position) → IsChosen accepted failed p k → (rank accepted p k ≤ last_rank accepted p) × (position_at accepted p (rank accepted p k) ≡ k)
-  chosen_at failed k (inl e) = rw e (omega arith, at_element 0 (omega arith))
+  chosen_at failed k (inl e) = rw e (omega arith, at_element accepted p 0 (omega arith))
   chosen_at failed k (inr h) = surviving_at failed k h
 
   pub chosen_within : (failed : List ℕ) (k : Position) → IsChosen accepted failed p k → rank accepted p k ≤ last_rank accepted p
@@ -65,10 +60,10 @@ module _ (accepted : List Report) (p : ℕ) where
 
   -- a process has the position of each rank up to the last
   pub has_position : (r : ℕ) → r ≤ last_rank accepted p → IsChosen accepted [] p (position_at accepted p r)
-  has_position zero le = inl (at_element 0 (omega arith))
+  has_position zero le = inl (at_element accepted p 0 (omega arith))
   has_position (suc r) le = elim (cases_lt (length (elements accepted p)) (suc r)) [
-    | inl lt ↦ inr (subst (IsSurviving accepted [] p) (sym (at_retired (suc r) lt)) (past_elements (omega arith)))
-    | inr ge ↦ inr (subst (IsSurviving accepted [] p) (sym (at_element (suc r) ge)) (omega arith, ge, λ h. absurd (none p h)))
+    | inl lt ↦ inr (subst (IsSurviving accepted [] p) (sym (at_end accepted p (suc r) lt)) (past_elements (omega arith)))
+    | inr ge ↦ inr (subst (IsSurviving accepted [] p) (sym (at_element accepted p (suc r) ge)) (omega arith, ge, λ h. absurd (none p h)))
   ]
     where
       none : (q : ℕ) → ¬ Contains [] q

@@ -17,7 +17,8 @@ use Rattle.chains.specs.Knowledge.{Knows, events_at}
 use Rattle.knows_row.specs.Knowing.{KnowsRank, IsLawful}
 use Rattle.reasons.specs.Certificates.{IsReasonChain, AreLinked, EndsAfter, HaveReasons, position_below}
 use Rattle.propagate.specs.Greatest.{IsConsistentCut}
-use Rattle.propagate.proofs.Ranked.{at_element, chosen_within, chosen_position, surviving_known}
+use Rattle.knows_row.proofs.Laws.{at_element}
+use Rattle.propagate.proofs.Ranked.{chosen_within, chosen_position, surviving_known}
 use Rattle.propagate.proofs.Fallen.{member_cases}
 
 -- ---- a place that has events is one that its process has

@@ -17,7 +17,8 @@ use Rattle.knows_row.specs.Knowing.{KnowsRank, IsLawful}
 use Rattle.propagate.specs.Greatest.{IsConsistentCut}
 use Rattle.propagate.specs.Ranks.{IsClearRank, RanksAfter, positions_from}
 use Rattle.propagate.specs.Rounds.{AreTops}
-use Rattle.propagate.proofs.Ranked.{at_element, at_retired, rank_at, rank_at_below, chosen_position, position_in_positions}
+use Rattle.knows_row.proofs.Laws.{at_element, at_end}
+use Rattle.propagate.proofs.Ranked.{rank_at, rank_at_below, chosen_position, position_in_positions}
 
 -- ---- a retired process has no present state
 
@@ -46,7 +47,7 @@ module _ (accepted : List Report) (failed : List ℕ) (p : ℕ) where
 
   below_retired : (r : ℕ) → is_retired accepted p ≡ true → IsChosen accepted failed p (position_at accepted p r)
   below_retired r retired = elim (cases_lt (length (elements accepted p)) r) [
-    | inl lt ↦ inr (subst (IsSurviving accepted failed p) (sym (at_retired accepted p r lt)) retired)
+    | inl lt ↦ inr (subst (IsSurviving accepted failed p) (sym (at_end accepted p r lt)) retired)
     | inr ge ↦ chosen_element r ge (λ one fails. omega (arith, ge, ap (λ (xs : List Stamp). length xs) (retired_lasts accepted p retired)))
   ]
 

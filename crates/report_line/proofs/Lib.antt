@@ -1,6 +1,7 @@
 pub mod DigitSteps
 pub mod Cutting
 pub mod Parting
+pub mod Parts
 pub mod Numerals
 pub mod Plain
 pub mod Rows

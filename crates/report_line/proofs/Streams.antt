@@ -173,12 +173,9 @@ piece_short rest piece lines nothing one short = cut_short rest piece one short 
 pub piece_long : (rest piece bytes more : List ℕ) (lines : List (List ℕ)) → lines ≡ [] → piece ≡ bytes ++ more → NoBreak bytes → length rest ≤ 8192 → 8192 < length rest + length bytes → cut_from (Some rest) piece ≡ (lines, None)
 piece_long rest piece bytes more lines nothing is one fit long = ap (cut_from (Some rest)) is ∙ cut_long rest bytes more one fit long ∙ ap (λ (ls : List (List ℕ)). (ls, None)) (sym nothing)
 
--- a piece with LF
-pub piece_cut : (rest piece end behind line : List ℕ) (none first lines : List (List ℕ)) (stand : Stand) → none ≡ [] → first ≡ none ++ line ∷ [] → line ≡ rest ++ end → piece ≡ end ++ 10 ∷ behind → NoBreak end → length rest + length end ≤ 8192
-    → onto first (cut_of behind) ≡ (lines, stand) → cut_from (Some rest) piece ≡ (lines, stand)
-piece_cut rest piece end behind line none first lines stand nothing pushed joined is one short e =
-    let only : first ≡ (rest ++ end) ∷ [] = pushed ∙ ap (λ (ls : List (List ℕ)). ls ++ line ∷ []) nothing ∙ ap (λ (l : List ℕ). l ∷ []) joined in
-    ap (cut_from (Some rest)) is ∙ cut_front rest end behind one short ∙ ap (λ (ls : List (List ℕ)). onto ls (cut_of behind)) (sym only) ∙ e
+-- a piece behind a rest
+pub joined_cut : (rest piece : List ℕ) → IsLine rest → cut_of (rest ++ piece) ≡ cut_from (Some rest) piece
+joined_cut rest piece line = line_on [] rest piece line.one (let h = line.short in omega arith)
 
 -- ---- what is handed out is lines, and so is the rest
 

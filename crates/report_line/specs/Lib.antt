@@ -6,4 +6,4 @@ pub mod Replies
 pub mod Numbers
 pub mod Cuts
 pub mod Cutting
-pub mod Feeding
+pub mod Parts

@@ -1,11 +1,10 @@
 //! Lines out of a stream that comes in pieces.
 
-ghost use Rattle.std.specs.Prelude.{◌≡◌, ◌≤◌, ◌+◌, ◌↔◌, ℕ, List, [], ◌∷◌, ◌++◌, length, Some, None, IsTrue, IfOk, OnOk, OnErr, MatchOption};
+ghost use Rattle.std.specs.Prelude.{◌≡◌, ◌≤◌, ◌<◌, ◌+◌, ◌↔◌, ℕ, List, [], ◌∷◌, ◌++◌, length, drop, map, slice_get, Some, None, IsTrue, ⊤, IfOk, OnErr, MatchOption};
 ghost use Rattle.std.specs.List.{concat, AllByRecursion};
 ghost use Rattle.report_line.specs.Cutting.{Stand, NoBreak, IsLine, IsCut, onto, cut_from, cut_of, fed};
-ghost use Rattle.report_line.specs.Feeding.{changed};
+ghost use Rattle.report_line.specs.Parts.{part_of, ArePartsOf, stand_from};
 
-use crate::text::Text;
 use memchr::memchr;
 use std::alloc::{AllocError, Global};
 use std::marker::Model;
@@ -16,15 +15,21 @@ const MOST: usize = 8192;
 /// Lines in a row, each without its LF.
 #[derive(Drop)]
 pub struct Lines {
-    lines: Vec<Text>,
+    // What the lines stand in.
+    bytes: Vec<u8>,
+    // From where up to where each of them stands there.
+    parts: Vec<(usize, usize)>,
 }
 
 impl Model for Lines {
-    ghost use Rattle.std.specs.Prelude.{List, ℕ};
+    ghost use Rattle.std.specs.Prelude.{List, ℕ, map};
+    ghost use Rattle.report_line.specs.Parts.{part_of, ArePartsOf};
 
     ghost Value = { List (List ℕ) };
 
-    ghost view = { λ l. l.lines.items };
+    ghost view = { λ l. map (part_of l.bytes.items) l.parts.items };
+
+    ghost invariant = { λ l. ArePartsOf l.bytes.items l.parts.items };
 }
 
 impl Lines {
@@ -33,26 +38,30 @@ impl Lines {
         ensures { result ≡ [] }
     {
         Lines {
-            lines: Vec::new(alloc),
+            bytes: Vec::new(alloc),
+            parts: Vec::new(alloc),
         }
     }
 
-    fn push(&mut self, line: Text) -> Result<(), AllocError>
-        ensures { OnOk result (self.new ≡ self.old ++ line ∷ []) }
+    /// How many lines there are.
+    pub fn len(&self) -> usize
+        ensures { result ≡ length self.now }
     {
-        self.lines.push(line)?;
-        Ok(())
+        self.parts.len()
     }
 
-    /// The lines, in order.
-    pub fn as_slice(&self) -> &[Text]
-        ensures { result.now ≡ self.now }
+    /// Line `i`, counted from 0.
+    pub fn line(&self, i: usize) -> &[u8]
+        requires { i < length self.now }
+        ensures { slice_get self.now i ≡ Some result.now }
     {
-        &self.lines
+        let (from, to) = self.parts[i];
+        &self.bytes[from..to]
     }
 }
 
 // What stands in front of the first LF, and what behind it.
+#[inline(always)]
 fn cut_once(bytes: &[u8]) -> Option<(&[u8], &[u8])>
     ensures { MatchOption result (NoBreak bytes.now) (λ parts. NoBreak parts.0.now × (bytes.now ≡ parts.0.now ++ 10 ∷ parts.1.now)) }
 {
@@ -67,74 +76,51 @@ fn fits(start: &[u8], bytes: &[u8]) -> bool
     start.len() <= MOST && bytes.len() <= MOST - start.len()
 }
 
-// The line of the two parts.
-fn joined(alloc: Global, start: &[u8], end: &[u8]) -> Result<Text, AllocError>
-    ensures { IfOk result (λ line. line ≡ start.now ++ end.now) }
-{
-    let mut line = Vec::with_capacity(alloc, start.len() + end.len())?;
-    line.extend_from_slice(start)?;
-    line.extend_from_slice(end)?;
-    Ok(Text::from_vec(line))
-}
-
-// Appends the lines that the bytes complete where a line begins with them, and gives the rest, unless it is too long.
-fn cut_lines<'a>(
-    lines: &mut Lines,
+// Where the lines of the bytes stand in them, and where the rest begins, unless it is too long.
+fn cut_parts(
     alloc: Global,
-    bytes: &'a [u8],
-) -> Result<Option<&'a [u8]>, AllocError>
-    ensures { IfOk result (λ end. MatchOption end
-        (onto lines.old (cut_of bytes.now) ≡ (lines.new, None))
-        (λ rest. onto lines.old (cut_of bytes.now) ≡ (lines.new, Some rest.now))) }
+    bytes: &[u8],
+) -> Result<(Vec<(usize, usize)>, Option<usize>), AllocError>
+    ensures cut { IfOk result (λ x. cut_of bytes.now ≡ (map (part_of bytes.now) x.0.items, stand_from bytes.now x.1)) }
+    ensures parts { IfOk result (λ x. ArePartsOf bytes.now x.0.items) }
+    ensures within { IfOk result (λ x. MatchOption x.1 ⊤ (λ at. at ≤ length bytes.now)) }
 {
-    let mut rest = bytes;
-    while let Some((line, behind)) = cut_once(rest) {
+    let mut parts = Vec::new(alloc);
+    let mut at = 0;
+    while let Some((line, _)) = cut_once(&bytes[at..]) {
         if line.len() > MOST {
-            return Ok(None);
+            return Ok((parts, None));
         }
-        lines.push(Text::from_vec(Vec::from_slice(alloc, line)?))?;
-        rest = behind;
+        let end = at + line.len();
+        parts.push((at, end))?;
+        at = end + 1;
     }
-    if rest.len() > MOST {
-        return Ok(None);
+    if bytes.len() - at > MOST {
+        return Ok((parts, None));
     }
-    Ok(Some(rest))
+    Ok((parts, Some(at)))
 }
 
-// What a piece changes where the stream stands.
-enum Change<'a> {
-    // The rest goes on with these bytes.
-    Longer(&'a [u8]),
-    // These bytes are the rest.
-    Rest(&'a [u8]),
-    // The line is too long.
-    TooLong,
+// A piece behind the rest: the bytes of both, where the lines stand in them, and where what is left begins, unless it is
+// too long.
+struct Cut {
+    bytes: Vec<u8>,
+    parts: Vec<(usize, usize)>,
+    rest: Option<usize>,
 }
 
-// The lines that the piece completes behind the rest, and what it changes.
-fn cut_piece<'a>(
-    alloc: Global,
-    rest: &[u8],
-    piece: &'a [u8],
-) -> Result<(Lines, Change<'a>), AllocError>
-    requires { length rest.now ≤ 8192 }
-    ensures { IfOk result (λ x. cut_from (Some rest.now) piece.now ≡ (x.0, changed rest.now x.1)) }
+fn cut_piece(alloc: Global, rest: &[u8], piece: &[u8]) -> Result<Cut, AllocError>
+    requires { IsLine rest.now }
+    ensures cut { IfOk result (λ x. cut_from (Some rest.now) piece.now ≡ (map (part_of x.bytes.items) x.parts.items, stand_from x.bytes.items x.rest)) }
+    ensures parts { IfOk result (λ x. ArePartsOf x.bytes.items x.parts.items) }
+    ensures lines { IfOk result (λ x. AllByRecursion IsLine (map (part_of x.bytes.items) x.parts.items)) }
+    ensures rest { IfOk result (λ x. MatchOption x.rest ⊤ (λ at. (at ≤ length x.bytes.items) × IsLine (drop at x.bytes.items))) }
 {
-    let mut lines = Lines::new(alloc);
-    let Some((end, behind)) = cut_once(piece) else {
-        if fits(rest, piece) {
-            return Ok((lines, Change::Longer(piece)));
-        }
-        return Ok((lines, Change::TooLong));
-    };
-    if !fits(rest, end) {
-        return Ok((lines, Change::TooLong));
-    }
-    lines.push(joined(alloc, rest, end)?)?;
-    match cut_lines(&mut lines, alloc, behind)? {
-        Some(bytes) => Ok((lines, Change::Rest(bytes))),
-        None => Ok((lines, Change::TooLong)),
-    }
+    let mut bytes = Vec::with_capacity(alloc, rest.len() + piece.len())?;
+    bytes.extend_from_slice(rest)?;
+    bytes.extend_from_slice(piece)?;
+    let (parts, rest) = cut_parts(alloc, &bytes)?;
+    Ok(Cut { bytes, parts, rest })
 }
 
 /// Cuts a stream into lines, whatever pieces it comes in.
@@ -180,13 +166,20 @@ impl Feed {
         if self.too_long {
             return Ok(Lines::new(self.alloc));
         }
-        let (lines, change) = cut_piece(self.alloc, &self.rest, piece)?;
-        match change {
-            Change::Longer(bytes) => self.rest.extend_from_slice(bytes)?,
-            Change::Rest(bytes) => self.rest = Vec::from_slice(self.alloc, bytes)?,
-            Change::TooLong => self.too_long = true,
+        let Some(_) = cut_once(piece) else {
+            if !fits(&self.rest, piece) {
+                self.too_long = true;
+                return Ok(Lines::new(self.alloc));
+            }
+            self.rest.extend_from_slice(piece)?;
+            return Ok(Lines::new(self.alloc));
+        };
+        let Cut { bytes, parts, rest } = cut_piece(self.alloc, &self.rest, piece)?;
+        match rest {
+            Some(at) => self.rest = Vec::from_slice(self.alloc, &bytes[at..])?,
+            None => self.too_long = true,
         }
-        Ok(lines)
+        Ok(Lines { bytes, parts })
     }
 
     /// Whether 8,193 bytes without LF have come behind the last line. It takes no memory.

@@ -200,8 +200,9 @@ fn names_are_keys(rt: HostRuntime) -> Result<(), Fail> {
 
 // Appends the lines that the piece completes, each with a bar behind it.
 fn take(feed: &mut Feed, piece: &[u8], lines: &mut Vec<u8>) -> Result<(), AllocError> {
-    for line in feed.push(piece)?.as_slice() {
-        lines.extend_from_slice(line.as_bytes())?;
+    let cut = feed.push(piece)?;
+    for i in 0..cut.len() {
+        lines.extend_from_slice(cut.line(i))?;
         lines.push(b'|')?;
     }
     Ok(())

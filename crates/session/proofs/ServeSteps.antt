@@ -1,6 +1,8 @@
 -- Lines that are served, one after the other.
-use Rattle.std.proofs.Common.{◌≡◌, ℕ, ◌+◌, ◌<◌, get_or, take, drop, List, [], ◌∷◌, ◌++◌, length, Option, Err, refl, sym, ap, subst, ◌∙◌, append_assoc, arith}
+use Rattle.std.proofs.Common.{◌≡◌, ℕ, ◌+◌, get_or, take, drop, List, [], ◌∷◌, ◌++◌, length, Option, Some, Err, refl, sym, ap, subst, ◌∙◌, append_assoc, arith}
 use Rattle.std.specs.Io.KnownBytes.{Appends}
+use Rattle.std.specs.List.{slice_get}
+use Rattle.std.proofs.lemmas.Option.{slice_get_within, get_or_from_slice_get}
 use Rattle.std.proofs.lemmas.List.{append-nil, length-append, take-append-drop, drop_more, take_more}
 use Rattle.std.proofs.lemmas.List.Concat.{flat_map-append}
 use Rattle.report_line.specs.declared.report.Report.{Report}
@@ -119,17 +121,18 @@ serves_cut held held_now held_after lines later line accepted now after turns tu
 
 -- ---- a line by its index
 
-at_line : (lines : List (List ℕ)) (i : ℕ) (d line : List ℕ) → i < length lines → line ≡ get_or lines i d → take i lines ++ line ∷ drop (i + 1) lines ≡ lines
-at_line lines i d line lt is =
-    ap (λ (l : List ℕ). take i lines ++ l ∷ drop (i + 1) lines) is ∙ ap (λ (l : List (List ℕ)). take i lines ++ l) (sym (drop_more lines i d lt)) ∙ take-append-drop i lines
-
 -- what is served to a line is served of all
-pub served_to : (end : LinesEnd) (held held_after : Option (List ℕ)) (lines : List (List ℕ)) (i : ℕ) (d line : List ℕ) (accepted after : List Report) (turns turns_after count : ℕ) → i < length lines → line ≡ get_or lines i d
+pub served_to : (end : LinesEnd) (held held_after : Option (List ℕ)) (lines : List (List ℕ)) (i : ℕ) (line : List ℕ) (accepted after : List Report) (turns turns_after count : ℕ) → slice_get lines i ≡ Some line
     → ServesLines end held held_after (take i lines ++ line ∷ drop (i + 1) lines) accepted after turns turns_after count → ServesLines end held held_after lines accepted after turns turns_after count
-served_to end held held_after lines i d line accepted after turns turns_after count lt is s =
-    subst (λ (l : List (List ℕ)). ServesLines end held held_after l accepted after turns turns_after count) (at_line lines i d line lt is) s
+served_to end held held_after lines i line accepted after turns turns_after count at s =
+    let is : line ≡ get_or lines i line = sym (get_or_from_slice_get lines i line line at) in
+    let whole : take i lines ++ line ∷ drop (i + 1) lines ≡ lines =
+    ap (λ (l : List ℕ). take i lines ++ l ∷ drop (i + 1) lines) is ∙ ap (λ (l : List (List ℕ)). take i lines ++ l) (sym (drop_more lines i line (slice_get_within lines i line at))) ∙ take-append-drop i lines in
+    subst (λ (l : List (List ℕ)). ServesLines end held held_after l accepted after turns turns_after count) whole s
 
-pub served_on : (held held_after : Option (List ℕ)) (lines : List (List ℕ)) (i : ℕ) (d line : List ℕ) (accepted after : List Report) (turns turns_after count : ℕ) → i < length lines → line ≡ get_or lines i d
+pub served_on : (held held_after : Option (List ℕ)) (lines : List (List ℕ)) (i : ℕ) (line : List ℕ) (accepted after : List Report) (turns turns_after count : ℕ) → slice_get lines i ≡ Some line
     → ServesLines lines_ends.All held held_after (take i lines ++ line ∷ []) accepted after turns turns_after count → ServesLines lines_ends.All held held_after (take (i + 1) lines) accepted after turns turns_after count
-served_on held held_after lines i d line accepted after turns turns_after count lt is s =
-    subst (λ (l : List (List ℕ)). ServesLines lines_ends.All held held_after l accepted after turns turns_after count) (ap (λ (l : List ℕ). take i lines ++ l ∷ []) is ∙ sym (take_more lines i d lt)) s
+served_on held held_after lines i line accepted after turns turns_after count at s =
+    let is : line ≡ get_or lines i line = sym (get_or_from_slice_get lines i line line at) in
+    let more : take i lines ++ line ∷ [] ≡ take (i + 1) lines = ap (λ (l : List ℕ). take i lines ++ l ∷ []) is ∙ sym (take_more lines i line (slice_get_within lines i line at)) in
+    subst (λ (l : List (List ℕ)). ServesLines lines_ends.All held held_after l accepted after turns turns_after count) more s

@@ -199,10 +199,10 @@ lines_few (Some rest) (b ∷ bs) =
     few_if (b == 10) (onto (rest ∷ []) (cut_from (Some []) bs)) (if nat_lt (length rest) 8192 then cut_from (Some (rest ++ b ∷ [])) bs else ([], None)) (length (b ∷ bs)) (let h = lines_few (Some []) bs in omega arith)
     (few_if (nat_lt (length rest) 8192) (cut_from (Some (rest ++ b ∷ [])) bs) ([], None) (length (b ∷ bs)) (let h = lines_few (Some (rest ++ b ∷ [])) bs in omega arith) (omega arith))
 
-pub few_served : (stand stand_after : Stand) (piece : List ℕ) (lines shown : List (List ℕ)) (count n : ℕ) → cut_from stand piece ≡ (lines, stand_after) → shown ≡ lines → count ≤ length shown → length piece ≤ n → count ≤ n
-few_served stand stand_after piece lines shown count n cut is few short =
+pub few_served : (stand stand_after : Stand) (piece : List ℕ) (lines : List (List ℕ)) (count n : ℕ) → cut_from stand piece ≡ (lines, stand_after) → count ≤ length lines → length piece ≤ n → count ≤ n
+few_served stand stand_after piece lines count n cut few short =
     let lines_are : length (cut_from stand piece).0 ≡ length lines = ap (λ (c : Cut). length c.0) cut in
-    omega (arith, lines_few stand piece, ap (λ (l : List (List ℕ)). length l) is)
+    omega (arith, lines_few stand piece)
 
 -- ---- the end of a session
 

@@ -1,12 +1,16 @@
 -- Turns of questions.
-use Rattle.std.proofs.Common.{◌≡◌, ℕ, ◌<◌, List, [], ◌∷◌, length, Option, Some, None, true, refl, ap, arith, inl, inr, All, rules}
+use Rattle.std.proofs.Common.{◌≡◌, ℕ, ◌<◌, List, [], ◌∷◌, length, Option, Some, None, Result, Ok, Err, true, refl, ap, arith, inl, inr, All, rules}
 use Rattle.std.specs.Prelude.{◌⊎◌, ◌↔◌, Contains, option_copied, is_some}
 use Rattle.std.proofs.lemmas.Option.{slice_get_within}
 use denote.Ref.{Bor}
 use Rattle.id_tree.specs.IdTree.{IdTree}
 use Rattle.report_line.specs.declared.code.Code.TheVariants.{NothingBegun, UnknownProcess}
 use Rattle.report_line.specs.declared.report.Report.{Report}
+use Rattle.report_line.specs.declared.call.Call.{Call}
 use Rattle.report_line.specs.declared.call.Call.TheVariants as calls
+use Rattle.report_line.specs.declared.fault.LineFault.{LineFault}
+use Rattle.report_line.specs.declared.fault.LineFault.TheVariants as faults
+use Rattle.report_line.specs.Reading.{Reads}
 use Rattle.report_line.specs.declared.reply.Reply.{Reply}
 use Rattle.report_line.specs.declared.reply.Reply.TheVariants as replies
 use Rattle.chains.specs.Processes.{Name, known, IsKnown, reports_of, target_of}
@@ -19,7 +23,8 @@ use Rattle.reasons.specs.Shown.{IsLineText}
 use Rattle.reasons.specs.declared.certificate.Certificate.{Certificate}
 use Rattle.reasons.specs.Certificates.{Certifies}
 use Rattle.reasons.specs.CertificateText.{certificate_text}
-use Rattle.session.specs.Parts.{Shows, id_text}
+use Rattle.session.specs.SessionText.{Means}
+use Rattle.session.specs.Parts.{Shows, call_read, id_text}
 
 nothing_of : (accepted : List Report) → length accepted ≡ 0 → accepted ≡ []
 nothing_of [] e = refl
@@ -87,3 +92,19 @@ line_of_names accepted names failed text c set just certifies is = record {
   certifies = certifies;
   text_is = is;
 }
+
+-- ---- what a line is read as
+
+pub means_read : (line : List ℕ) (read : Result Call LineFault) → Reads read line → Means line (call_read read)
+means_read line (Ok call) is = inl is
+means_read line (Err faults.Grammar) is = inr (inl (refl, is))
+means_read line (Err faults.Memory) is = inr (inr refl)
+
+-- a line that is read as a bye, or as another call
+pub read_bye : (read : Result Call LineFault) → read ≡ Ok calls.Bye → call_read read ≡ calls.Bye
+read_bye read is = ap call_read is
+
+pub bye_read : (read : Result Call LineFault) → call_read read ≡ calls.Bye → read ≡ Ok calls.Bye
+bye_read (Ok call) is = ap Ok is
+bye_read (Err faults.Grammar) is = absurd cc
+bye_read (Err faults.Memory) is = absurd cc

@@ -5,6 +5,9 @@ use Rattle.id_tree.specs.IdTree.{IdTree}
 use Rattle.id_tree.specs.Spelling.{spelling}
 use Rattle.report_line.specs.declared.report.Report.{Report}
 use Rattle.report_line.specs.declared.call.Call.{Call}
+use Rattle.report_line.specs.declared.call.Call.TheVariants as calls
+use Rattle.report_line.specs.declared.fault.LineFault.{LineFault}
+use Rattle.report_line.specs.declared.fault.LineFault.TheVariants as faults
 use Rattle.report_line.specs.declared.reply.Reply.{Reply}
 use Rattle.report_line.specs.Cutting.{Stand, cut_from}
 use Rattle.chains.specs.Turns.{IsTurn}
@@ -22,6 +25,12 @@ use Rattle.session.specs.SessionText.{Exchange, exchange_line, session_text, Tak
 -- the call takes a turn, and this reply is shown for it
 abbrev pub Shows : List Report → Call → List Report → Reply → Type 0
 Shows accepted call after shown = (reply : Reply) × IsTurn accepted call reply after × IsShown accepted call reply shown
+
+-- the call that a line is read as
+abbrev pub call_read : Result Call LineFault → Call
+call_read (Ok call) = call
+call_read (Err faults.Grammar) = calls.Bad 1
+call_read (Err faults.Memory) = calls.Unread
 
 -- the call took its turn, or for want of memory none, and the turns are counted
 abbrev pub MakesTurn : {E : Type 0} → List Report → Call → List Report → ℕ → ℕ → Result Reply E → Type 0

@@ -81,7 +81,7 @@ fn step<R: Source, W: Sink>(
     let Ok(lines) = feed.push(&buf[..n]) else {
         return (Some(Kind::Memory), 0);
     };
-    let (end, replies) = serve_lines(chains, turns, writer, lines.as_slice());
+    let (end, replies) = serve_lines(chains, turns, writer, &lines);
     (kind_after(end, feed), replies)
 }
 

@@ -1,16 +1,17 @@
 //! Turns, which are counted.
 
-ghost use Rattle.std.specs.Prelude.{◌≡◌, ℕ, List, IfOk, OnErr, option_copied, None};
+ghost use Rattle.std.specs.Prelude.{◌≡◌, ℕ, List, IfOk, option_copied, None, Err};
+ghost use Rattle.report_line.specs.declared.report.Report.{Report as AnyReport};
 ghost use Rattle.report_line.specs.declared.call.Call.TheVariants as calls;
 ghost use Rattle.chains.specs.Failures.{IsFailedSet};
 ghost use Rattle.reasons.specs.Shown.{IsLineText};
-ghost use Rattle.session.specs.Parts.{Shows, MakesTurn, id_text};
+ghost use Rattle.session.specs.Parts.{Shows, MakesTurn, call_read, id_text};
 
 use chains::{Admitted, Chains, Failed, FailedFault, State};
 use id_tree::Id;
 use propagate::certificate;
 use reasons::to_json;
-use report_line::{Call, Code, Name, Reply, Report, Text};
+use report_line::{Call, Code, LineFault, Name, Reply, Report, Text};
 use std::alloc::{AllocError, Global};
 use std::marker::Model;
 
@@ -50,6 +51,7 @@ fn line_text(chains: &Chains, failed: &Failed) -> Result<Text, AllocError>
 }
 
 /// The turn of a question for a line, and what is shown for it.
+#[cold]
 fn line_of(chains: &Chains, names: &[Name]) -> Reply
     ensures { Shows chains.now.accepted (calls.Line names.now) chains.now.accepted result }
 {
@@ -83,6 +85,7 @@ fn text_of(alloc: Global, id: Option<&Id>) -> Result<Text, AllocError>
 }
 
 /// The turn of a question for a state, if memory suffices for it.
+#[cold]
 fn state_of(chains: &Chains, name: Name) -> Result<Reply, AllocError>
     ensures { IfOk result (λ shown. Shows chains.now.accepted (calls.State name) chains.now.accepted shown) }
 {
@@ -113,18 +116,13 @@ fn state_of(chains: &Chains, name: Name) -> Result<Reply, AllocError>
     })
 }
 
-/// The turn of a call, and what is shown for it. Without memory for the reply to a question for a state there is none.
-fn answer(chains: &mut Chains, call: Call) -> Result<Reply, AllocError>
-    ensures ok { IfOk result (λ shown. Shows chains.old.accepted call chains.new.accepted shown) }
-    ensures err { OnErr result (chains.new.accepted ≡ chains.old.accepted) }
+/// The turn of a line that no call was read off.
+fn not_read(fault: LineFault) -> Reply
+    ensures { (accepted : List AnyReport) → Shows accepted (call_read (Err fault)) accepted result }
 {
-    match call {
-        Call::Report(report) => Ok(admit(chains, report)),
-        Call::Line(names) => Ok(line_of(chains, names.as_slice())),
-        Call::State(name) => state_of(chains, name),
-        Call::Bye => Ok(Reply::Bye),
-        Call::Bad(number) => Ok(Reply::Bad(number)),
-        Call::Unread => Ok(refusal(Code::OutOfMemory)),
+    match fault {
+        LineFault::Grammar => Reply::Bad(1),
+        LineFault::Memory => refusal(Code::OutOfMemory),
     }
 }
 
@@ -150,12 +148,32 @@ impl Turns {
         Turns { made: 0 }
     }
 
-    /// Makes the turn of a call and counts it, and gives what is shown for it; without memory for that no turn is made.
-    pub(crate) fn make(&mut self, chains: &mut Chains, call: Call) -> Result<Reply, AllocError>
-        ensures { MakesTurn chains.old.accepted call chains.new.accepted self.old self.new result }
+    /// Makes the turn of what a line was read as and counts it, and gives what is shown for it. Without memory for the
+    /// reply to a question for a state no turn is made.
+    #[inline(always)]
+    pub(crate) fn make(
+        &mut self,
+        chains: &mut Chains,
+        read: Result<Call, LineFault>,
+    ) -> Result<Reply, AllocError>
+        ensures { MakesTurn chains.old.accepted (call_read read) chains.new.accepted self.old self.new result }
     {
-        let shown = answer(chains, call)?;
-        self.made = self.made.saturating_add(1);
-        Ok(shown)
+        let before = self.made;
+        self.made = before.saturating_add(1);
+        match read {
+            Ok(Call::Report(report)) => Ok(admit(chains, report)),
+            Ok(Call::Line(names)) => Ok(line_of(chains, names.as_slice())),
+            Ok(Call::State(name)) => match state_of(chains, name) {
+                Ok(shown) => Ok(shown),
+                Err(fault) => {
+                    self.made = before;
+                    Err(fault)
+                }
+            },
+            Ok(Call::Bye) => Ok(Reply::Bye),
+            Ok(Call::Bad(number)) => Ok(Reply::Bad(number)),
+            Ok(Call::Unread) => Ok(refusal(Code::OutOfMemory)),
+            Err(fault) => Ok(not_read(fault)),
+        }
     }
 }

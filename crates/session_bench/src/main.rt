@@ -1,6 +1,7 @@
 //! Measures a session of one process against a loop that reads and compares the same lines.
 //!
-//! Standard output has what was done, standard error how long it took.
+//! Standard output has what was done, standard error how long it took: once with memory that each session has fresh from the
+//! system, as a program has that just started, and once with memory that was used before.
 #![tactic(auto)]
 
 use anyhow::Result;
@@ -16,6 +17,9 @@ const LINES: u32 = 16_384;
 
 /// How often each is run.
 const RUNS: u32 = 20;
+
+/// A block of this many bytes is many times what a session keeps.
+const KEPT: usize = 1 << 24;
 
 /// `BEGIN a` and checkpoints of `a`.
 fn lines(alloc: Global) -> Result<Vec<u8>, AllocError> {
@@ -47,31 +51,58 @@ fn plain_loop(alloc: Global, input: &[u8]) -> u64 {
     reports
 }
 
-/// Serves the lines; how many replies were written.
-fn serve(alloc: Global, input: &[u8]) -> u64 {
-    let mut chains = Chains::new(alloc);
+/// How long a run of the plain loop takes, in microseconds.
+fn time_plain_loop(rt: &HostRuntime, input: &[u8]) -> Result<u64> {
+    let start = Instant::now(rt)?;
+    let reports = plain_loop(rt.alloc(), input);
+    let took = start.elapsed(rt)?.as_micros();
+    anyhow::ensure!(reports == 16_384, "{reports} reports");
+    Ok(u64::try_from(took)?)
+}
+
+/// How long a session takes that serves the lines, in microseconds. Making the chains and dropping them is not counted.
+fn time_session(rt: &HostRuntime, input: &[u8]) -> Result<u64> {
+    let mut chains = Chains::new(rt.alloc());
     let mut reader = Reader::new(input);
-    let mut writer = Writer::new(Vec::new(alloc));
-    run_lines(&mut chains, &mut reader, &mut writer).replies
+    let mut writer = Writer::new(Vec::new(rt.alloc()));
+    let start = Instant::now(rt)?;
+    let replies = run_lines(&mut chains, &mut reader, &mut writer).replies;
+    let took = start.elapsed(rt)?.as_micros();
+    anyhow::ensure!(replies == 16_384, "{replies} replies");
+    Ok(u64::try_from(took)?)
+}
+
+/// How long both take in turn, in microseconds for all runs: the plain loop, and the sessions.
+fn time_both(rt: &HostRuntime, input: &[u8]) -> Result<(u64, u64)> {
+    let mut plain = 0u64;
+    let mut served = 0u64;
+    for _ in 0..RUNS {
+        plain = plain.saturating_add(time_plain_loop(rt, input)?);
+        served = served.saturating_add(time_session(rt, input)?);
+    }
+    Ok((plain, served))
+}
+
+/// Has the allocator keep memory that is freed from here on, and gives it as much as a session needs.
+fn keep_memory(rt: &HostRuntime, input: &[u8]) -> Result<()> {
+    // Of glibc: once a block as large as this was freed, freed memory up to twice its size is not handed back.
+    let large: Vec<u8> = Vec::with_capacity(rt.alloc(), KEPT)?;
+    drop(large);
+    let _first = time_session(rt, input)?;
+    Ok(())
 }
 
 fn main(rt: HostRuntime) -> Result<()> {
-    let alloc = rt.alloc();
-    let input = lines(alloc)?;
-    let start = Instant::now(&rt)?;
-    for _ in 0..RUNS {
-        let reports = plain_loop(alloc, &input);
-        anyhow::ensure!(reports == 16_384, "{reports} reports");
-    }
-    let plain = start.elapsed(&rt)?.as_micros();
-    let start = Instant::now(&rt)?;
-    for _ in 0..RUNS {
-        let replies = serve(alloc, &input);
-        anyhow::ensure!(replies == 16_384, "{replies} replies");
-    }
-    let served = start.elapsed(&rt)?.as_micros();
-    eprintln!(rt; "plain loop: {plain} microseconds for {RUNS} runs")?;
-    eprintln!(rt; "session:    {served} microseconds for {RUNS} runs")?;
+    let input = lines(rt.alloc())?;
+    let (plain, served) = time_both(&rt, &input)?;
+    eprintln!(rt;
+        "memory fresh from the system: plain loop {plain}, sessions {served} microseconds"
+    )?;
+    keep_memory(&rt, &input)?;
+    let (plain, served) = time_both(&rt, &input)?;
+    eprintln!(rt;
+        "memory that was used before:  plain loop {plain}, sessions {served} microseconds"
+    )?;
     println!(rt; "{LINES} lines, {RUNS} runs each")?;
     Ok(())
 }

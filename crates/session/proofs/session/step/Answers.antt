@@ -14,12 +14,11 @@ returns-in_default-push-clause-goes g c = goes_refused _ _ _ _ _ _ _ (take c.in-
 
 pub returns-clause-goes : goal.returns-clause-goes
 returns-clause-goes g c =
-    goes_piece c.serve_lines-end.result.0 _ _ _ _ _ c.args.feed.now c.push.new.self _ _ _ _ _ (take c.in-Ok.n c.read.new.buf) c.in-Ok-push.lines c.in-Ok.ensures.bytes.0 c.in-Ok-push.ensures.cut c.kind_after.ensures
-    (rw c.as_slice.ensures at c.serve_lines-end.ensures.served)
+    goes_piece c.serve_lines-end.result.0 _ _ _ _ _ c.args.feed.now c.push.new.self _ _ _ _ _ (take c.in-Ok.n c.read.new.buf) c.in-Ok-push.lines c.in-Ok.ensures.bytes.0 c.in-Ok-push.ensures.cut c.kind_after.ensures c.serve_lines-end.ensures.served
 
 pub returns-clause-few : goal.returns-clause-few
 returns-clause-few g c =
-    few_served c.args.feed.now c.push.new.self (take c.in-Ok.n c.read.new.buf) c.in-Ok-push.lines c.as_slice.result.now _ 8192 c.in-Ok-push.ensures.cut c.as_slice.ensures c.serve_lines-end.ensures.few
+    few_served c.args.feed.now c.push.new.self (take c.in-Ok.n c.read.new.buf) c.in-Ok-push.lines _ 8192 c.in-Ok-push.ensures.cut c.serve_lines-end.ensures.few
     (omega (arith, length-take c.in-Ok.n c.read.new.buf, c.in-Ok.ensures.bound))
 
 pub returns-clause-end : goal.returns-clause-end

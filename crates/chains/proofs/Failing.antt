@@ -1,9 +1,8 @@
 -- Sets of failed processes, as they are found.
 use Rattle.std.proofs.Common.{◌≡◌, ◌≢◌, ◌⊎◌, inl, inr, ℕ, ◌+◌, ◌<◌, ◌≤◌, Bool, true, false, List, [], ◌∷◌, ◌++◌, length, get_or, set, take, replicate, Some, All, Contains, IsTrue, ◌↔◌, sym, ap, subst, ◌∙◌, arith}
 use Rattle.std.specs.Prelude.{slice_index_or}
-use Rattle.std.specs.List.Sorted.{IsStrictlyIncreasing}
-use Rattle.std.proofs.lemmas.Bool.{true≢false, cases_lt, cases_eq}
-use Rattle.std.proofs.lemmas.List.{get_or_append_left, get_or_default, get_or_push, length_push, take_more, take_all, length-set, get_or-set_same, get_or-set_other, length-replicate, get_or-replicate}
+use Rattle.std.proofs.lemmas.Bool.{cases_eq}
+use Rattle.std.proofs.lemmas.List.{get_or_default, take_more, take_all, length-set, get_or-set_same, get_or-set_other, length-replicate, get_or-replicate}
 use Rattle.std.proofs.lemmas.List.Elements.{Contains-push, Contains-push_cases, Contains-append_left, All-get_or, All-from_get_or}
 use Rattle.std.proofs.lemmas.Option.{same_Some, slice_get_within, get_or_from_slice_get}
 use Rattle.report_line.specs.declared.report.Report.{Report}
@@ -12,11 +11,11 @@ use Rattle.chains.specs.Elements.{name_of}
 use Rattle.chains.specs.Failures.{IsFailedSet, AreMarked, AreNumbersOf, AreFlagged}
 use Rattle.chains.specs.Inside.{AreDistinctNames}
 use Rattle.chains.proofs.LookUps.{known_from}
+use Rattle.chains.proofs.Listing.{AreListedTo}
 
--- the places below i of set flags
-pub record IsListedTo (flags : List Bool) (i : ℕ) (numbers : List ℕ) : Type 0 where
-  pub in_order : IsStrictlyIncreasing numbers
-  pub just_set : (p : ℕ) → (Contains numbers p ↔ ((p < i) × IsTrue (slice_index_or flags p false)))
+-- the place of a set flag
+abbrev pub IsSet : List Bool → ℕ → Type 0
+IsSet flags p = IsTrue (slice_index_or flags p false)
 
 -- a flag for each known process, set for just those that are among the first i names
 pub record IsMarkedTo (accepted : List Report) (names : List Name) (i : ℕ) (flags : List Bool) : Type 0 where
@@ -25,52 +24,8 @@ pub record IsMarkedTo (accepted : List Report) (names : List Name) (i : ℕ) (fl
 
 -- ---- the places of set flags
 
-increasing_cases : (xs : List ℕ) (y k : ℕ) → IsStrictlyIncreasing xs → ((q : ℕ) → Contains xs q → q < y) → k + 1 < length (xs ++ y ∷ []) → (k + 1 < length xs) ⊎ (length xs ≤ k + 1) → get_or (xs ++ y ∷ []) k 0 < get_or (xs ++ y ∷ []) (k + 1) 0
-increasing_cases xs y k rises below lt (inl within) =
-    let a = get_or_append_left xs (y ∷ []) 0 k (omega (arith, within)) in
-    let b = get_or_append_left xs (y ∷ []) 0 (k + 1) within in
-    let c = rises k within in
-    omega arith
-increasing_cases xs y k rises below lt (inr past) =
-    let all = length_push xs y in
-    let inside : k < length xs = omega arith in
-    let a = get_or_append_left xs (y ∷ []) 0 k inside in
-    let b = get_or_push xs y 0 (k + 1) (omega arith) in
-    let c = below (get_or xs k 0) (k, inside, get_or_default xs k (get_or xs k 0) 0 inside) in
-    omega arith
-
-pub increasing_push : (xs : List ℕ) (y : ℕ) → IsStrictlyIncreasing xs → ((q : ℕ) → Contains xs q → q < y) → IsStrictlyIncreasing (xs ++ y ∷ [])
-increasing_push xs y rises below k lt = increasing_cases xs y k rises below lt (cases_lt (k + 1) (length xs))
-
-pub listed_more : (flags : List Bool) (i : ℕ) (numbers : List ℕ) → IsListedTo flags i numbers → IsTrue (slice_index_or flags i false) → IsListedTo flags (i + 1) (numbers ++ i ∷ [])
-listed_more flags i numbers h is = record {
-  in_order = increasing_push numbers i h.in_order (λ q there. ((h.just_set q).0 there).0);
-  just_set = λ p. (
-    λ there. elim (Contains-push_cases numbers i p there) [
-      | inl old ↦ let was = (h.just_set p).0 old in let lt = was.0 in (omega arith, was.1)
-      | inr e ↦ (omega (arith, e), subst (λ (k : ℕ). IsTrue (slice_index_or flags k false)) e is)
-    ],
-    λ holds. let lt = holds.0 in elim (cases_lt p i) [
-      | inl below ↦ Contains-append_left numbers (i ∷ []) p ((h.just_set p).1 (below, holds.1))
-      | inr past ↦ subst (λ (k : ℕ). Contains (numbers ++ i ∷ []) k) (omega arith) (Contains-push numbers i)
-    ],
-  );
-}
-
-pub listed_other : (flags : List Bool) (i : ℕ) (numbers : List ℕ) → IsListedTo flags i numbers → slice_index_or flags i false ≡ false → IsListedTo flags (i + 1) numbers
-listed_other flags i numbers h is = record {
-  in_order = h.in_order;
-  just_set = λ p. (
-    λ there. let was = (h.just_set p).0 there in let lt = was.0 in (omega arith, was.1),
-    λ holds. let lt = holds.0 in elim (cases_lt p i) [
-      | inl below ↦ (h.just_set p).1 (below, holds.1)
-      | inr past ↦ absurd (true≢false (sym (subst (λ (k : ℕ). slice_index_or flags k false ≡ true) (omega arith) holds.1) ∙ is))
-    ],
-  );
-}
-
-pub all_listed : (flags : List Bool) (i : ℕ) (numbers : List ℕ) → i ≡ length flags → IsListedTo flags i numbers → AreNumbersOf flags numbers
-all_listed flags i numbers e h = record { in_order = h.in_order; just_set = λ p. subst (λ (k : ℕ). Contains numbers p ↔ ((p < k) × IsTrue (slice_index_or flags p false))) e (h.just_set p) }
+pub all_listed : (flags : List Bool) (i : ℕ) (numbers : List ℕ) → i ≡ length flags → AreListedTo (IsSet flags) i numbers → AreNumbersOf flags numbers
+all_listed flags i numbers e h = record { in_order = h.in_order; just_set = λ p. subst (λ (k : ℕ). Contains numbers p ↔ ((p < k) × IsSet flags p)) e (h.just_these p) }
 
 -- ---- flags of named processes
 

@@ -18,6 +18,7 @@ pub mod AfterReport
 pub mod Reserved
 pub mod Readied
 pub mod Counting
+pub mod Listing
 pub mod Failing
 pub mod Showing
 pub mod Copying

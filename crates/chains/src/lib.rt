@@ -22,6 +22,3 @@ pub use position::{Place, Position};
 pub use prepared::{Prepared, Ready};
 pub use refusal::{Admitted, No};
 pub use state::State;
-
-#[cfg(test)]
-mod rows;

@@ -29,8 +29,6 @@ mod join;
 mod node;
 mod order;
 mod reader;
-#[cfg(test)]
-mod tests;
 
 pub use fault::{EventFault, EventsFault};
 use id_tree::{Id, IdPart};

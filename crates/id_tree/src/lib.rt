@@ -17,8 +17,6 @@ ghost use Rattle.id_tree.specs.Sum.{sum_of};
 mod fault;
 mod node;
 mod reader;
-#[cfg(test)]
-mod tests;
 mod view;
 
 pub use fault::{IdFault, SplitFault, SumFault};

@@ -10,9 +10,6 @@ ghost use Rattle.chains.specs.Admission.{IsReachable};
 ghost use Rattle.knows_row.specs.Knowing.{KnowsAt, IsLawful, KnowsRank, IsNeed, IsLastKnown};
 ghost use Rattle.knows_row.specs.Beyond.{IsBeyondAt, IsBeyondFrom, IsLastBeyond};
 
-#[cfg(test)]
-mod tests;
-
 use chains::{Chains, Elements, Place, Position};
 use event_tree::Events;
 

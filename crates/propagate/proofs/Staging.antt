@@ -1,70 +1,20 @@
 -- What a round has made of the processes before the i-th, and what it leaves of the others.
-use Rattle.std.proofs.Common.{◌≡◌, ◌≢◌, inl, inr, ℕ, ◌+◌, ◌≤◌, ◌<◌, Some, List, [], ◌∷◌, ◌++◌, length, get_or, set, Contains, ◌↔◌, refl, sym, ap, subst, ◌∙◌, arith}
+use Rattle.std.proofs.Common.{◌≡◌, ◌≢◌, inl, inr, ℕ, ◌+◌, ◌≤◌, ◌<◌, Some, List, [], ◌∷◌, ◌++◌, length, get_or, set, Contains, refl, sym, ap, subst, ◌∙◌, arith}
 use Rattle.std.specs.Prelude.{slice_index, ⊤}
-use Rattle.std.specs.List.Sorted.{IsStrictlyIncreasing}
 use Rattle.std.proofs.lemmas.Bool.{cases_lt, cases_eq}
 use Rattle.std.proofs.lemmas.List.{get_or_append_left, get_or_default, get_or_push, length_push, length-append, get_or-map, length-set, get_or-set_same, get_or-set_other}
-use Rattle.std.proofs.lemmas.List.Elements.{Contains-push, Contains-push_cases, Contains-append_left, All-weaker, All-contains_itself}
+use Rattle.std.proofs.lemmas.List.Elements.{All-weaker, All-contains_itself}
 use Rattle.report_line.specs.declared.report.Report.{Report}
 use Rattle.chains.specs.declared.position.Place.{Place}
 use Rattle.chains.specs.Processes.{known}
 use Rattle.chains.specs.Positions.{place_at, last_rank}
-use Rattle.chains.proofs.Failing.{increasing_push}
+use Rattle.chains.proofs.Listing.{AreListedTo, listed_none, listed_more, listed_other, listed_same}
 use Rattle.knows_row.specs.Knowing.{KnowsRank, IsLawful}
 use Rattle.propagate.specs.Ranks.{IsNextRank, AreNextRanks, AreFallen, AreBounds, AreAllBounds, IsGrounded, IsCauseOf}
 use Rattle.propagate.specs.Rounds.{AreTops}
 use Rattle.propagate.specs.Stages.{IsStanding, AreGroundedBy, AreThere}
 use Rattle.propagate.proofs.Rounding.{clear_but_fallen}
 use Rattle.propagate.proofs.Grounding.{grounded_first, grounded_more, grounded_still, falls_everywhere}
-
--- ---- numbers in order
-
--- the numbers below i of which P holds
-pub record AreListedTo (P : ℕ → Type 0) (i : ℕ) (numbers : List ℕ) : Type 0 where
-  pub in_order : IsStrictlyIncreasing numbers
-  pub just_these : (q : ℕ) → (Contains numbers q ↔ ((q < i) × P q))
-
-pub listed_none : (P : ℕ → Type 0) → AreListedTo P 0 []
-listed_none P = record {
-  in_order = λ k lt. absurd (omega arith);
-  just_these = λ q. (λ there. absurd (omega (arith, there.1)), λ h. absurd (omega (arith, h.0)));
-}
-
-pub listed_more : (P : ℕ → Type 0) (i : ℕ) (numbers : List ℕ) → AreListedTo P i numbers → P i → AreListedTo P (i + 1) (numbers ++ i ∷ [])
-listed_more P i numbers h is = record {
-  in_order = increasing_push numbers i h.in_order (λ q there. ((h.just_these q).0 there).0);
-  just_these = λ q. (
-    λ there. elim (Contains-push_cases numbers i q there) [
-      | inl old ↦ let was = (h.just_these q).0 old in (omega (arith, was.0), was.1)
-      | inr e ↦ (omega (arith, e), subst P e is)
-    ],
-    λ holds. elim (cases_lt q i) [
-      | inl below ↦ Contains-append_left numbers (i ∷ []) q ((h.just_these q).1 (below, holds.1))
-      | inr past ↦ subst (Contains (numbers ++ i ∷ [])) (omega (arith, holds.0)) (Contains-push numbers i)
-    ],
-  );
-}
-
-pub listed_other : (P : ℕ → Type 0) (i : ℕ) (numbers : List ℕ) → AreListedTo P i numbers → ¬ P i → AreListedTo P (i + 1) numbers
-listed_other P i numbers h isnt = record {
-  in_order = h.in_order;
-  just_these = λ q. (
-    λ there. let was = (h.just_these q).0 there in (omega (arith, was.0), was.1),
-    λ holds. elim (cases_lt q i) [
-      | inl below ↦ (h.just_these q).1 (below, holds.1)
-      | inr past ↦ let e : q ≡ i = omega (arith, holds.0) in absurd (isnt (subst P e holds.1))
-    ],
-  );
-}
-
-pub listed_same : (P Q : ℕ → Type 0) (i : ℕ) (numbers : List ℕ) → ((q : ℕ) → q < i → P q ↔ Q q) → AreListedTo P i numbers → AreListedTo Q i numbers
-listed_same P Q i numbers same h = record {
-  in_order = h.in_order;
-  just_these = λ q. (
-    λ there. let was = (h.just_these q).0 there in (was.0, (same q was.0).0 was.1),
-    λ holds. (h.just_these q).1 (holds.0, (same q holds.0).1 holds.1),
-  );
-}
 
 -- the first stage: every process may be known too far
 pub first_standing : (accepted : List Report) (tops heads fell : List ℕ) → length tops ≡ length (known accepted)

@@ -8,6 +8,3 @@ mod places;
 mod rounds;
 
 pub use cut::{Cut, certificate, certified_lines_are_the_greatest, greatest_cut};
-
-#[cfg(test)]
-mod tests;

@@ -6,6 +6,3 @@ mod text;
 
 pub use certificate::{Certificate, Numbers, Reasons};
 pub use text::to_json;
-
-#[cfg(test)]
-mod tests;

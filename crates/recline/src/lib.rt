@@ -6,6 +6,3 @@ mod running;
 
 pub use args::{Command, read_args};
 pub use running::{Ran, run_on, run_over};
-
-#[cfg(test)]
-mod tests;

@@ -28,6 +28,3 @@ pub use reply::{Outcome, Reply};
 pub use report::{Action, Report};
 pub use text::Text;
 pub use writing::{write_line, write_reply};
-
-#[cfg(test)]
-mod tests;

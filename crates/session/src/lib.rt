@@ -15,6 +15,3 @@ pub use adapter::{Reader, Writer};
 pub use kind::{Kind, SessionEnd};
 pub use link::{LinkFault, Sink, Source, put};
 pub use session::run_lines;
-
-#[cfg(test)]
-mod tests;

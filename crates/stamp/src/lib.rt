@@ -9,8 +9,6 @@ ghost use Rattle.stamp.specs.Stamps.{IsStamp, stamp_text, is_stamp_byte};
 mod fault;
 mod operations;
 mod stamp;
-#[cfg(test)]
-mod tests;
 
 pub use fault::{StampFault, StampTextFault};
 pub use stamp::Stamp;

@@ -1,6 +1,7 @@
 use Rattle.std.proofs.Common.{◌≡◌, ℕ, length, subst, arith}
 use Rattle.std.specs.Prelude.{⊤}
-use Rattle.propagate.proofs.Staging.{AreListedTo, listed_more, first_standing}
+use Rattle.chains.proofs.Listing.{AreListedTo, listed_more}
+use Rattle.propagate.proofs.Staging.{first_standing}
 use Rattle.propagate.proofs.rounds.first_stage.Goals as goal
 
 pub loop-process-preserved : goal.loop-process-preserved

@@ -1,5 +1,5 @@
 use Rattle.std.specs.Prelude.{⊤}
-use Rattle.propagate.proofs.Staging.{AreListedTo}
+use Rattle.chains.proofs.Listing.{AreListedTo}
 use Rattle.propagate.proofs.rounds.first_stage.Given as goal
 
 abbrev pub invariant-loop-process : goal.invariant-loop-process

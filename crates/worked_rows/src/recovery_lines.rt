@@ -1,20 +1,12 @@
-use super::*;
+//! Recovery lines.
+
+use crate::common::chains_of;
 use chains::{Chains, Failed};
+use propagate::{certificate, greatest_cut};
 use reasons::to_json;
-use report_line::{Call, Name, read_line};
+use report_line::Name;
 use std::alloc::{AllocError, Global};
 use std::test::Fail;
-
-// The chains of the reports of these lines.
-fn chains_of(alloc: Global, lines: &[&str]) -> Chains {
-    let mut chains = Chains::new(alloc);
-    for line in lines {
-        if let Ok(Call::Report(report)) = read_line(alloc, line.as_bytes()) {
-            let _ = chains.admit(&report);
-        }
-    }
-    chains
-}
 
 // The rounds and the text of the certificate, where the processes of these names failed.
 fn line_of(chains: &Chains, names: &[Name]) -> Result<(u32, String), AllocError> {

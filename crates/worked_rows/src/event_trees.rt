@@ -1,4 +1,8 @@
-use super::*;
+//! Event trees.
+
+use event_tree::{EventFault, Events, EventsFault};
+use id_tree::Id;
+use std::alloc::{AllocError, Global};
 use std::test::Fail;
 
 // `depth` times `head`, the leaf, and `depth` times `tail`.

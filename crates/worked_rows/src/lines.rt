@@ -1,10 +1,14 @@
+//! Lines, replies, and lines out of pieces.
+
 ghost use Rattle.std.specs.Prelude.{◌≡◌, Some, nat_eq, OnOk, IfOk, IfSome};
 ghost use Rattle.std.specs.Cmp.Lexicographic.{pointwise};
 ghost use Rattle.indexmap.specs.IndexMap.{get};
 ghost use Rattle.report_line.specs.Replies.{IsWritten};
 
-use super::*;
 use indexmap::IndexMap;
+use report_line::{
+    Call, Code, Feed, LineFault, Name, Outcome, Reply, Text, read_line, write_line, write_reply,
+};
 use std::alloc::{AllocError, AllocFailed, Global};
 use std::process::Abort;
 use std::test::Fail;

@@ -1,7 +1,9 @@
+//! Sessions.
+
 ghost use Rattle.std.specs.Prelude.{◌≡◌, ◌<◌, ℕ, Some};
 
-use super::*;
 use chains::Chains;
+use session::{Kind, LinkFault, SessionEnd, Sink, Source, run_lines};
 use std::alloc::Global;
 use std::test::Fail;
 

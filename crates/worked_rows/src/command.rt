@@ -1,5 +1,7 @@
-use super::*;
+//! The command line, and the command `run`.
+
 use chains::Chains;
+use recline::{Command, read_args, run_on, run_over};
 use std::test::Fail;
 
 const LINE_OF_A: &str =

@@ -1,28 +1,23 @@
-use super::*;
-use report_line::{Call, read_line};
+//! What places know.
+
+use crate::common::{chains_of, place};
+use chains::{Chains, Position};
+use knows_row::{knows, last_known, need};
 use std::alloc::Global;
 use std::test::Fail;
 
 // A root that forks, its child's checkpoint, the root's with the events of the child's birth, and the child's end.
 fn family(alloc: Global) -> Chains {
-    let mut chains = Chains::new(alloc);
-    let lines = [
-        "BEGIN a",
-        "FORK a 1 1;1 (1,0) b (0,1)",
-        "CHECK b 1 (0,1);(1,0,1)",
-        "CHECK a 2 (1,0);2",
-        "RETIRE b 2 (0,1);(1,0,2) a",
-    ];
-    for line in lines {
-        if let Ok(Call::Report(report)) = read_line(alloc, line.as_bytes()) {
-            let _ = chains.admit(&report);
-        }
-    }
-    chains
-}
-
-fn place(process: u32, position: Position) -> Place {
-    Place { process, position }
+    chains_of(
+        alloc,
+        &[
+            "BEGIN a",
+            "FORK a 1 1;1 (1,0) b (0,1)",
+            "CHECK b 1 (0,1);(1,0,1)",
+            "CHECK a 2 (1,0);2",
+            "RETIRE b 2 (0,1);(1,0,2) a",
+        ],
+    )
 }
 
 // Whether the root's checkpoint knows the child after this position.

@@ -1,4 +1,6 @@
-use super::*;
+//! Admission.
+
+use chains::{Chains, Failed, Position};
 use report_line::{Call, read_line};
 use std::alloc::{AllocError, Global};
 use std::test::Fail;

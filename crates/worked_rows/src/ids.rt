@@ -1,4 +1,7 @@
-use super::*;
+//! Ids.
+
+use id_tree::{Id, IdFault, SplitFault, SumFault};
+use std::alloc::{AllocError, Global};
 use std::test::Fail;
 
 fn id(alloc: Global, text: &str) -> Result<Id, IdFault> {

@@ -1,23 +1,10 @@
-use super::*;
-use chains::{Chains, Place, Places, Position};
-use report_line::{Call, read_line};
+//! Certificates.
+
+use crate::common::{chains_of, place};
+use chains::{Places, Position};
+use reasons::{Certificate, Numbers, Reasons, to_json};
 use std::alloc::{AllocError, Global};
 use std::test::Fail;
-
-// The chains of a root and its one child.
-fn family(alloc: Global) -> Chains {
-    let mut chains = Chains::new(alloc);
-    for line in ["BEGIN a", "FORK a 1 1;1 (1,0) b (0,1)"] {
-        if let Ok(Call::Report(report)) = read_line(alloc, line.as_bytes()) {
-            let _ = chains.admit(&report);
-        }
-    }
-    chains
-}
-
-fn place(process: u32, position: Position) -> Place {
-    Place { process, position }
-}
 
 fn certificate(alloc: Global) -> Result<Certificate, AllocError> {
     let failed = Vec::from_array(alloc, [0])?;
@@ -41,7 +28,8 @@ fn certificate(alloc: Global) -> Result<Certificate, AllocError> {
 
 #[test]
 fn text_of_a_certificate(rt: HostRuntime) -> Result<(), Fail> {
-    let text = to_json(&family(rt.alloc()), &certificate(rt.alloc())?)?;
+    let family = chains_of(rt.alloc(), &["BEGIN a", "FORK a 1 1;1 (1,0) b (0,1)"]);
+    let text = to_json(&family, &certificate(rt.alloc())?)?;
     assert_eq!(rt;
         text.as_str(),
         "{\"failed\":[\"a\"],\"front\":2,\"line\":[[\"a\",1],[\"b\",\"retired\"]],\"reasons\":[[[\"a\",1],[\"b\",1]]]}"

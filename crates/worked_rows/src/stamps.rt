@@ -1,4 +1,6 @@
-use super::*;
+//! Stamps.
+
+use stamp::{Stamp, StampFault, StampTextFault};
 use std::alloc::{AllocError, Global};
 use std::test::Fail;
 

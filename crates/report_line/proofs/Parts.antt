@@ -1,12 +1,11 @@
 -- Lines as parts of the bytes that they stand in.
 use Rattle.std.proofs.Common.{◌≡◌, ℕ, ◌+◌, ◌-◌, ◌≤◌, ◌<◌, take, drop, map, List, [], ◌∷◌, ◌++◌, length, Option, Some, None, sym, ap, subst, ◌∙◌, append_assoc, arith}
 use Rattle.std.specs.Prelude.{MatchOption, ⊤}
-use Rattle.std.specs.List.{AllByRecursion}
 use Rattle.std.proofs.Math.Seq.{take-append_seam, drop-append_seam}
 use Rattle.std.proofs.lemmas.List.{map-append, length-append, length-drop, drop-drop, take_rest, append-nil}
 use Rattle.report_line.specs.Cutting.{onto, cut_from, cut_of, NoBreak, IsLine}
 use Rattle.report_line.specs.Parts.{part_of, ArePartsOf, stand_from}
-use Rattle.report_line.proofs.Streams.{lines_step, lines_long, lines_rest, lines_fit, rest_fits}
+use Rattle.report_line.proofs.Streams.{lines_step, lines_long, lines_rest, rest_fits}
 
 -- the line at the front of the bytes from here on
 part_is : (bytes line behind : List ℕ) (at : ℕ) → drop at bytes ≡ line ++ behind → part_of bytes (at, at + length line) ≡ line
@@ -55,7 +54,7 @@ parts_long bytes front more parts at is one long e = lines_long (cut_of bytes) (
 pub parts_over : (bytes : List ℕ) (parts : List (ℕ × ℕ)) (at : ℕ) → NoBreak (take (length bytes - at) (drop at bytes)) → 8192 < length bytes - at
     → cut_of bytes ≡ onto (map (part_of bytes) parts) (cut_of (drop at bytes)) → cut_of bytes ≡ (map (part_of bytes) parts, None)
 parts_over bytes parts at one long e =
-    lines_long (cut_of bytes) (map (part_of bytes) parts) (drop at bytes) (drop at bytes) [] (sym (append-nil (drop at bytes))) (subst NoBreak (take_rest bytes at) one) (omega (arith, length-drop at bytes)) e
+    parts_long bytes (take (length bytes - at) (drop at bytes)) [] parts at (sym (append-nil (take (length bytes - at) (drop at bytes)))) one (omega (arith, length-drop at bytes, ap (λ (l : List ℕ). length l) (take_rest bytes at))) e
 
 pub parts_rest : (bytes : List ℕ) (parts : List (ℕ × ℕ)) (at : ℕ) → NoBreak (take (length bytes - at) (drop at bytes)) → length bytes - at ≤ 8192
     → cut_of bytes ≡ onto (map (part_of bytes) parts) (cut_of (drop at bytes)) → cut_of bytes ≡ (map (part_of bytes) parts, Some (drop at bytes))
@@ -63,9 +62,6 @@ parts_rest bytes parts at one short e =
     lines_rest (cut_of bytes) (map (part_of bytes) parts) (drop at bytes) (subst NoBreak (take_rest bytes at) one) (omega (arith, length-drop at bytes)) e
 
 -- ---- a piece behind a rest
-
-pub lines_of_parts : (rest piece bytes : List ℕ) (lines : List (List ℕ)) (from : Option ℕ) → IsLine rest → cut_from (Some rest) piece ≡ (lines, stand_from bytes from) → AllByRecursion IsLine lines
-lines_of_parts rest piece bytes lines from line e = lines_fit rest piece lines (stand_from bytes from) line e
 
 pub rest_of_parts : (rest piece bytes : List ℕ) (lines : List (List ℕ)) (from : Option ℕ) → IsLine rest → cut_from (Some rest) piece ≡ (lines, stand_from bytes from) → MatchOption from ⊤ (λ at. at ≤ length bytes)
     → MatchOption from ⊤ (λ at. (at ≤ length bytes) × IsLine (drop at bytes))

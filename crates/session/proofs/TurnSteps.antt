@@ -100,10 +100,7 @@ means_read line (Ok call) is = inl is
 means_read line (Err faults.Grammar) is = inr (inl (refl, is))
 means_read line (Err faults.Memory) is = inr (inr refl)
 
--- a line that is read as a bye, or as another call
-pub read_bye : (read : Result Call LineFault) → read ≡ Ok calls.Bye → call_read read ≡ calls.Bye
-read_bye read is = ap call_read is
-
+-- what stands for a bye was read as one
 pub bye_read : (read : Result Call LineFault) → call_read read ≡ calls.Bye → read ≡ Ok calls.Bye
 bye_read (Ok call) is = ap Ok is
 bye_read (Err faults.Grammar) is = absurd cc

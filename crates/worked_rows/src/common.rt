@@ -5,7 +5,7 @@ use report_line::{Call, read_line};
 use std::alloc::Global;
 
 /// The chains of the reports of these lines, as far as they are accepted.
-pub fn chains_of(alloc: Global, lines: &[&str]) -> Chains {
+pub(crate) fn chains_of(alloc: Global, lines: &[&str]) -> Chains {
     let mut chains = Chains::new(alloc);
     for line in lines {
         if let Ok(Call::Report(report)) = read_line(alloc, line.as_bytes()) {
@@ -15,6 +15,6 @@ pub fn chains_of(alloc: Global, lines: &[&str]) -> Chains {
     chains
 }
 
-pub fn place(process: u32, position: Position) -> Place {
+pub(crate) fn place(process: u32, position: Position) -> Place {
     Place { process, position }
 }

@@ -32,13 +32,12 @@ use crate::position::{Place, Position};
 use crate::prepared::{Prepared, Ready};
 use crate::process::Process;
 use crate::refusal::{Admitted, No};
-use crate::shared::Shared;
 use crate::state::State;
 use crate::tests::{Verdict, is_birth, out_of_memory};
 use event_tree::Events;
 use id_tree::Id;
 use indexmap::IndexSet;
-use report_line::{Action, Name, Report};
+use report_line::{Action, Name, Report, Shared};
 use stamp::Stamp;
 use std::alloc::{AllocError, Global};
 use std::marker::Model;
@@ -49,11 +48,13 @@ pub struct Chains {
     alloc: Global,
     /// The stamp of a root at its birth.
     first: Stamp,
-    reports: Vec<Shared>,
+    reports: Vec<Shared<Report>>,
     /// The known processes, in order of birth.
     names: IndexSet<Name>,
     /// What is kept of each of them.
     processes: Vec<Process>,
+    /// The number of the process that reported last: a look-up by name tries it first.
+    recent: u32,
 }
 
 impl Model for Chains {
@@ -82,6 +83,7 @@ impl Chains {
             reports: Vec::new(alloc),
             names: IndexSet::new(alloc),
             processes: Vec::new(alloc),
+            recent: 0,
         }
     }
 
@@ -98,6 +100,7 @@ impl Chains {
             reports,
             names,
             processes,
+            recent: self.recent,
         })
     }
 
@@ -152,6 +155,9 @@ impl Chains {
     pub(crate) fn number_of(&self, name: &Name) -> Option<u32>
         ensures { MatchOption result (¬ IsKnown self.now.accepted name.now) (λ p. name_of self.now.accepted p ≡ Some name.now) }
     {
+        if is_at(&self.names, self.recent, name) {
+            return Some(self.recent);
+        }
         match self.names.get_index_of(name) {
             None => None,
             Some(place) => Some(place as u32),
@@ -175,7 +181,7 @@ impl Chains {
     {
         match self.processes[process as usize].last {
             None => None,
-            Some(index) => Some(self.reports[index as usize].get()),
+            Some(index) => Some(&self.reports[index as usize]),
         }
     }
 
@@ -185,7 +191,7 @@ impl Chains {
         ensures { (p : AnyName) → name_of self.now.accepted process ≡ Some p → birth_report p self.now.accepted ≡ Some result.now }
     {
         let birth = self.processes[process as usize].birth;
-        self.reports[birth as usize].get()
+        &self.reports[birth as usize]
     }
 
     /// Whether its retirement was absorbed.
@@ -282,7 +288,7 @@ impl Chains {
         ensures { (p : AnyName) → name_of self.now.accepted process ≡ Some p → lasting_made p result.now ≡ slice_get (lasting_of p self.now.accepted) k }
     {
         let index = self.processes[process as usize].lasting[k as usize];
-        self.reports[index as usize].get()
+        &self.reports[index as usize]
     }
 
     /// The events of a place: those of its element, or of the retirement. It takes no memory.
@@ -371,7 +377,7 @@ impl Chains {
     }
 
     /// Makes every growth that accepting a report needs.
-    fn ready(&mut self, report: Report, number: Option<u32>) -> Result<Ready, AllocError>
+    fn ready(&mut self, report: Shared<Report>, number: Option<u32>) -> Result<Ready, AllocError>
         requires number { IsNumberIn self.old.accepted report number }
         requires known { IsFound report number }
         ensures same { self.new.accepted ≡ self.old.accepted }
@@ -384,7 +390,6 @@ impl Chains {
         } else {
             Vec::new(self.alloc)
         };
-        let report = Shared::new(self.alloc, report)?;
         Ok(Ready {
             report,
             process: number.unwrap_or(0),
@@ -403,7 +408,7 @@ impl Chains {
         match self.test(report, number)? {
             Verdict::Old => Ok(Prepared::Old(self.front())),
             Verdict::Fits => {
-                let Ok(copy) = report.copy(self.alloc) else {
+                let Ok(copy) = shared_copy(self.alloc, report) else {
                     return Err(out_of_memory());
                 };
                 match self.ready(copy, number) {
@@ -428,12 +433,13 @@ impl Chains {
         keep(
             &mut self.names,
             &mut self.processes,
-            report.get(),
+            &report,
             process as usize,
             front,
             lasting,
         );
         self.reports.push_reserved(report);
+        self.recent = process;
     }
 
     /// Accepts a report that was prepared on these chains at this front. It takes no memory and cannot fail.
@@ -458,8 +464,8 @@ impl Chains {
         Ok(self.commit(prepared))
     }
 
-    /// Tests a report and accepts it where it passes, without a copy of it. A refusal changes nothing.
-    pub fn admit_owned(&mut self, report: Report) -> Result<Admitted, No>
+    /// Tests a report and accepts it where it passes: it is then shared, and not copied. A refusal changes nothing.
+    pub fn admit_shared(&mut self, report: Shared<Report>) -> Result<Admitted, No>
         ensures turn { (fate : Fate) × IsReportTurn fate self.old.accepted report (reply_of result) self.new.accepted }
     {
         let number = self.number_in(&report);
@@ -471,6 +477,24 @@ impl Chains {
                 Err(_) => Err(out_of_memory()),
             },
         }
+    }
+}
+
+/// A copy of a report, in a block that chains can share.
+fn shared_copy(alloc: Global, report: &Report) -> Result<Shared<Report>, AllocError>
+    ensures { IfOk result (λ copy. copy ≡ report.now) }
+{
+    let copy = report.copy(alloc)?;
+    Shared::new(alloc, copy)
+}
+
+/// Whether the process at this place has this name.
+fn is_at(names: &IndexSet<Name>, place: u32, name: &Name) -> bool
+    ensures { IsTrue result → slice_get names.now.keys place ≡ Some name.now }
+{
+    match names.get_index(place as usize) {
+        Some(there) => there.as_bytes() == name.as_bytes(),
+        None => false,
     }
 }
 

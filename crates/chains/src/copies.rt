@@ -5,13 +5,15 @@ ghost use Rattle.chains.specs.Inside.{AreDistinctNames};
 ghost use Rattle.chains.specs.Keeping.{view_of};
 
 use crate::process::Process;
-use crate::shared::Shared;
 use indexmap::IndexSet;
-use report_line::Name;
+use report_line::{Name, Report, Shared};
 use std::alloc::{AllocError, Global};
 
 /// The same reports, in order.
-pub fn share_all(alloc: Global, reports: &[Shared]) -> Result<Vec<Shared>, AllocError>
+pub fn share_all(
+    alloc: Global,
+    reports: &[Shared<Report>],
+) -> Result<Vec<Shared<Report>>, AllocError>
     ensures { IfOk result (λ copy. copy.items ≡ reports.now) }
 {
     let mut copy = Vec::with_capacity(alloc, reports.len())?;

@@ -10,7 +10,6 @@ mod position;
 mod prepared;
 mod process;
 mod refusal;
-mod shared;
 mod state;
 mod tests;
 

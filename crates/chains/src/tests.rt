@@ -96,6 +96,7 @@ fn refusal_with(code: Code, name: &Name, value: Result<Text, AllocError>) -> No
 }
 
 /// A refusal since no more fit than this limit.
+#[cold]
 fn full(alloc: Global, limit: u32) -> No
     ensures { IsFull result limit }
 {
@@ -402,6 +403,7 @@ impl Chains {
     }
 
     /// Whether one more report fits, and one more process where one is born by it.
+    #[inline(always)]
     fn test_room(&self, report: &Report) -> Result<Verdict, No>
         ensures { Tests (FitsOrNot self.now.accepted report.now) self.now.accepted result }
     {

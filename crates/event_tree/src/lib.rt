@@ -26,6 +26,7 @@ ghost use Rattle.event_tree.specs.Tests.{is_at_or_below, exceeds_on};
 mod event;
 mod fault;
 mod join;
+mod measured;
 mod node;
 mod order;
 mod reader;
@@ -146,7 +147,9 @@ impl Events {
         ensures only { (t : EventTree) → IsEvents t → bytes.now ≡ spelling t → MatchResult result (λ e. e ≡ t) (λ fault. fault ≡ EventsFault.Memory) }
     {
         match reader::read(alloc, bytes)? {
-            Part::Normal(_, _, Some(node)) => Ok(Events { node }),
+            Part::Normal(_, _, Some(tree)) => Ok(Events {
+                node: tree.into_node(),
+            }),
             Part::Normal(_, depth, None) => {
                 if depth > 40 {
                     Err(EventsFault::TooDeep)

@@ -31,16 +31,6 @@ impl Node {
         }
     }
 
-    // Whether no value is above `room`.
-    pub fn is_within(&self, room: u32) -> bool
-        ensures { IsTrue result ↔ (greatest (tree_of self.now) ≤ room) }
-    {
-        match self {
-            Node::Leaf(n) => *n <= room,
-            Node::Branch(n, a, b) => *n <= room && a.is_within(room - *n) && b.is_within(room - *n),
-        }
-    }
-
     // The least value.
     #[tactic(auto, using(crate::proofs::Trees::least_le_greatest))]
     pub fn least(&self) -> u32

@@ -9,8 +9,21 @@ use crate::node::Node;
 use id_tree::{IdPart, IdView};
 
 // Whether `e` above the base `x` is nowhere greater than `f` above the base `y`.
-#[tactic(auto, using(crate::proofs::Trees::least_le_greatest))]
+#[inline(always)]
 pub fn is_below_from(x: u32, e: &Node, y: u32, f: &Node) -> bool
+    requires e_fits { x + greatest (tree_of e.now) < 2 ^ 32 }
+    requires f_fits { y + greatest (tree_of f.now) < 2 ^ 32 }
+    ensures { result ≡ order_tests.is_below_from x (tree_of e.now) y (tree_of f.now) }
+{
+    match (e, f) {
+        (Node::Leaf(m), Node::Leaf(n)) => x + *m <= y + *n,
+        _ => is_below_walk(x, e, y, f),
+    }
+}
+
+// The same, by a walk of both.
+#[tactic(auto, using(crate::proofs::Trees::least_le_greatest))]
+fn is_below_walk(x: u32, e: &Node, y: u32, f: &Node) -> bool
     requires e_fits { x + greatest (tree_of e.now) < 2 ^ 32 }
     requires f_fits { y + greatest (tree_of f.now) < 2 ^ 32 }
     ensures { result ≡ order_tests.is_below_from x (tree_of e.now) y (tree_of f.now) }
@@ -21,11 +34,11 @@ pub fn is_below_from(x: u32, e: &Node, y: u32, f: &Node) -> bool
             let zero = Node::Leaf(0);
             match f {
                 Node::Leaf(n) => {
-                    is_below_from(x + *m, a, y + *n, &zero)
-                        && is_below_from(x + *m, b, y + *n, &zero)
+                    is_below_walk(x + *m, a, y + *n, &zero)
+                        && is_below_walk(x + *m, b, y + *n, &zero)
                 }
                 Node::Branch(n, c, d) => {
-                    is_below_from(x + *m, a, y + *n, c) && is_below_from(x + *m, b, y + *n, d)
+                    is_below_walk(x + *m, a, y + *n, c) && is_below_walk(x + *m, b, y + *n, d)
                 }
             }
         }

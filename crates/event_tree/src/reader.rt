@@ -1,13 +1,14 @@
 //! Reads a text of any depth in a loop. A tree that is no event tree within the limits is not kept, only what is told of
 //! the nodes around it.
 
-ghost use Rattle.std.specs.Prelude.{◌≡◌, ◌≤◌, ◌+◌, ◌-◌, ◌*◌, Some, None, IfOk, IfErr, option_map};
-ghost use Rattle.event_tree.specs.Nodes.{tree_of};
+ghost use Rattle.std.specs.Prelude.{◌≡◌, ◌≤◌, ◌+◌, ◌-◌, ◌*◌, Some, None, IsTrue, false, IfOk, IfErr, OnOk, option_map};
+ghost use Rattle.std.specs.Char.{is_ascii_digit};
 ghost use Rattle.event_tree.specs.Reading.{IsReadFault, capped, leaf_verdict, node_verdict, node_kept, ended, digit_read, opened, halved, parted, joined, step_of, reading, verdict_shown, last_shown, opens_shown, state_shown};
 
 use crate::fault::EventsFault;
-use crate::node::Node;
+use crate::measured::Measured;
 use std::alloc::{AllocError, Global};
+use std::mem;
 
 // What a number may be.
 #[derive(Clone, Copy)]
@@ -20,7 +21,7 @@ pub enum Role {
 // that is deeper, and the tree itself if it is within both limits.
 #[derive(Drop)]
 pub enum Part {
-    Normal(bool, u8, Option<Node>),
+    Normal(bool, u8, Option<Measured>),
     NotNormal,
 }
 
@@ -53,17 +54,27 @@ fn with_digit(n: u32, digit: u8) -> Option<u32>
     }
 }
 
-fn after_digit(last: Last, digit: u8) -> Option<Last>
+// What was read last after one more digit, in its place; or no digit may stand there.
+fn take_digit(last: &mut Last, digit: u8) -> bool
     requires low { 48 ≤ digit }
     requires high { digit ≤ 57 }
-    ensures { option_map last_shown result ≡ digit_read (last_shown last) digit }
+    ensures taken { IsTrue result → digit_read (last_shown last.old) digit ≡ Some (last_shown last.new) }
+    ensures none { result ≡ false → digit_read (last_shown last.old) digit ≡ None }
 {
     match last {
-        Last::Awaited(role) => Some(Last::Number(role, Some(u32::from(digit - b'0')))),
-        Last::Number(role, None) => Some(Last::Number(role, None)),
-        Last::Number(_, Some(0)) => None,
-        Last::Number(role, Some(n)) => Some(Last::Number(role, with_digit(n, digit))),
-        Last::Tree(_) => None,
+        Last::Awaited(role) => {
+            *last = Last::Number(*role, Some(u32::from(digit - b'0')));
+            true
+        }
+        Last::Number(_, n) => match *n {
+            None => true,
+            Some(0) => false,
+            Some(before) => {
+                *n = with_digit(before, digit);
+                true
+            }
+        },
+        Last::Tree(_) => false,
     }
 }
 
@@ -81,7 +92,7 @@ fn leaf_of(n: Option<u32>) -> Part
 {
     match n {
         None => Part::Normal(false, 0, None),
-        Some(n) => Part::Normal(n == 0, 0, Some(Node::Leaf(n))),
+        Some(n) => Part::Normal(n == 0, 0, Some(Measured::leaf(n))),
     }
 }
 
@@ -118,16 +129,16 @@ fn kept_node(
     alloc: Global,
     depth: u8,
     n: Option<u32>,
-    l: Option<Node>,
-    r: Option<Node>,
-) -> Result<Option<Node>, AllocError>
-    ensures { IfOk result (λ node. option_map tree_of node ≡ node_kept depth n (option_map tree_of l) (option_map tree_of r)) }
+    l: Option<Measured>,
+    r: Option<Measured>,
+) -> Result<Option<Measured>, AllocError>
+    ensures { IfOk result (λ node. node ≡ node_kept depth n l r) }
 {
     match (n, l, r) {
         (Some(n), Some(a), Some(b)) => {
             let room = u32::MAX - n;
-            if depth <= 40 && a.is_within(room) && b.is_within(room) {
-                Ok(Some(Node::branch(alloc, n, a, b)?))
+            if depth <= 40 && a.greatest() <= room && b.greatest() <= room {
+                Ok(Some(Measured::branch(alloc, n, a, b)?))
             } else {
                 Ok(None)
             }
@@ -174,13 +185,13 @@ fn after_closing(alloc: Global, stack: &mut Vec<Pending>, half: Part) -> Result<
     }
 }
 
-// What was read last after one more byte.
+// What was read last after one more byte that is no digit.
 fn step(alloc: Global, stack: &mut Vec<Pending>, last: Last, byte: u8) -> Result<Last, EventsFault>
+    requires { is_ascii_digit byte ≡ false }
     ensures ok { IfOk result (λ next. step_of (state_shown stack.old.items last) byte ≡ Some (state_shown stack.new.items next)) }
     ensures err { IfErr result (λ fault. IsReadFault fault (step_of (state_shown stack.old.items last) byte)) }
 {
     match byte {
-        b'0'..=b'9' => after_digit(last, byte).ok_or(EventsFault::Syntax),
         b'(' => after_opening(last).ok_or(EventsFault::Syntax),
         b',' => after_comma(stack, last),
         b')' => match part_of(last) {
@@ -191,6 +202,28 @@ fn step(alloc: Global, stack: &mut Vec<Pending>, last: Last, byte: u8) -> Result
     }
 }
 
+// What was read last after one more byte, in its place.
+fn take(
+    alloc: Global,
+    stack: &mut Vec<Pending>,
+    last: &mut Last,
+    byte: u8,
+) -> Result<(), EventsFault>
+    ensures ok { OnOk result (step_of (state_shown stack.old.items last.old) byte ≡ Some (state_shown stack.new.items last.new)) }
+    ensures err { IfErr result (λ fault. IsReadFault fault (step_of (state_shown stack.old.items last.old) byte)) }
+{
+    if byte.is_ascii_digit() {
+        return if take_digit(last, byte) {
+            Ok(())
+        } else {
+            Err(EventsFault::Syntax)
+        };
+    }
+    let before = mem::replace(last, Last::Awaited(Role::Whole));
+    *last = step(alloc, stack, before, byte)?;
+    Ok(())
+}
+
 // What is known of the tree that the bytes spell.
 pub fn read(alloc: Global, bytes: &[u8]) -> Result<Part, EventsFault>
     ensures ok { IfOk result (λ part. reading bytes.now ≡ Some (verdict_shown part)) }
@@ -199,7 +232,7 @@ pub fn read(alloc: Global, bytes: &[u8]) -> Result<Part, EventsFault>
     let mut stack = Vec::new(alloc);
     let mut last = Last::Awaited(Role::Whole);
     for byte in bytes {
-        last = step(alloc, &mut stack, last, *byte)?;
+        take(alloc, &mut stack, &mut last, *byte)?;
     }
     if !stack.is_empty() {
         return Err(EventsFault::Syntax);

@@ -2,12 +2,13 @@
 
 use crate::name::{Name, Names};
 use crate::report::Report;
+use crate::shared::Shared;
 
 /// What a line asks for.
 #[derive(Drop)]
 pub enum Call {
     /// A process reports an event.
-    Report(Report),
+    Report(Shared<Report>),
     /// Where do all processes recover from, once these have failed?
     Line(Names),
     /// What is kept of this process?

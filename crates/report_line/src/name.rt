@@ -58,7 +58,7 @@ fn padded(bytes: &[u8]) -> [u8; 32]
 #[derive(Drop)]
 pub struct Name {
     text: [u8; 32],
-    length: usize,
+    length: u32,
 }
 
 impl Model for Name {
@@ -83,7 +83,7 @@ impl Name {
         let text = padded(bytes);
         Some(Name {
             text,
-            length: bytes.len(),
+            length: bytes.len() as u32,
         })
     }
 
@@ -92,7 +92,7 @@ impl Name {
         ensures value { result.now ≡ self.now }
         ensures name { IsTrue (is_name self.now) }
     {
-        &self.text[..self.length]
+        &self.text[..self.length as usize]
     }
 
     /// The same name once more.

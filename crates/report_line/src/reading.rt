@@ -16,6 +16,7 @@ use crate::fault::LineFault;
 use crate::name::{Name, Names};
 use crate::number::number_of;
 use crate::report::{Action, Report};
+use crate::shared::Shared;
 use crate::words::{Words, cut_once};
 use id_tree::{Id, IdFault};
 use stamp::{Stamp, StampTextFault};
@@ -130,24 +131,28 @@ fn read_fork(alloc: Global, words: &mut Words<'_>) -> Result<Action, LineFault>
     let child = take_name(words)?;
     let given = take_id(alloc, words)?;
     if words.is_empty() {
-        Ok(Action::Fork { kept, child, given })
+        Ok(Action::fork(alloc, kept, child, given)?)
     } else {
         Err(LineFault::Grammar)
     }
 }
 
-fn read_retire(words: &mut Words<'_>) -> Result<Action, LineFault>
+fn read_retire(alloc: Global, words: &mut Words<'_>) -> Result<Action, LineFault>
     ensures { Finds result (IsActionOf (codes "RETIRE") words.old) }
 {
     let target = last_name(words)?;
-    Ok(Action::Retire { target })
+    Ok(Action::Retire {
+        target: Shared::new(alloc, target)?,
+    })
 }
 
-fn read_absorb(words: &mut Words<'_>) -> Result<Action, LineFault>
+fn read_absorb(alloc: Global, words: &mut Words<'_>) -> Result<Action, LineFault>
     ensures { Finds result (IsActionOf (codes "ABSORB") words.old) }
 {
     let retired = last_name(words)?;
-    Ok(Action::Absorb { retired })
+    Ok(Action::Absorb {
+        retired: Shared::new(alloc, retired)?,
+    })
 }
 
 // The action of this word and of the fields behind the stamp.
@@ -161,9 +166,9 @@ fn read_action(alloc: Global, kind: &[u8], words: &mut Words<'_>) -> Result<Acti
     } else if kind == b"FORK".as_slice() {
         read_fork(alloc, words)
     } else if kind == b"RETIRE".as_slice() {
-        read_retire(words)
+        read_retire(alloc, words)
     } else if kind == b"ABSORB".as_slice() {
-        read_absorb(words)
+        read_absorb(alloc, words)
     } else {
         Err(LineFault::Grammar)
     }
@@ -177,19 +182,20 @@ fn read_numbered(alloc: Global, kind: &[u8], words: &mut Words<'_>) -> Result<Ca
     let number = take_number(words)?;
     let stamp = take_stamp(alloc, words)?;
     let action = read_action(alloc, kind, words)?;
-    Ok(Call::Report(Report::Numbered {
+    let report = Report::Numbered {
         process,
         number,
         stamp,
         action,
-    }))
+    };
+    Ok(Call::Report(Shared::new(alloc, report)?))
 }
 
-fn read_begin(words: &mut Words<'_>) -> Result<Call, LineFault>
+fn read_begin(alloc: Global, words: &mut Words<'_>) -> Result<Call, LineFault>
     ensures { Finds result (IsCallOf (codes "BEGIN" ∷ words.old)) }
 {
     let process = last_name(words)?;
-    Ok(Call::Report(Report::Begin { process }))
+    Ok(Call::Report(Shared::new(alloc, Report::Begin { process })?))
 }
 
 fn read_failed(alloc: Global, words: &mut Words<'_>) -> Result<Call, LineFault>
@@ -231,7 +237,7 @@ fn read_call(alloc: Global, line: &[u8]) -> Result<Call, LineFault>
         return Err(LineFault::Grammar);
     };
     if kind == b"BEGIN".as_slice() {
-        read_begin(&mut words)
+        read_begin(alloc, &mut words)
     } else if kind == b"LINE".as_slice() {
         read_failed(alloc, &mut words)
     } else if kind == b"STATE".as_slice() {

@@ -4,11 +4,12 @@ ghost use Rattle.std.specs.Prelude.{◌≡◌, ◌↔◌, IsTrue, IfOk};
 ghost use Rattle.report_line.specs.Reports.{process_of};
 
 use crate::name::Name;
+use crate::shared::Shared;
 use id_tree::Id;
 use stamp::Stamp;
 use std::alloc::{AllocError, Global};
 
-/// What a process did, of which it reports.
+/// What a process did, of which it reports. What only some reports have stands apart, so that all of them are short.
 #[derive(Drop)]
 pub enum Action {
     /// It took a checkpoint.
@@ -16,11 +17,19 @@ pub enum Action {
     /// It is in this state, and stays in it until its next report.
     Present,
     /// It made a child. Of its id it keeps one part, and the child begins with the other one and the same events.
-    Fork { kept: Id, child: Name, given: Id },
+    Fork {
+        kept: Shared<Id>,
+        child: Shared<Name>,
+        given: Shared<Id>,
+    },
     /// It ended, and its stamp goes to the target.
-    Retire { target: Name },
+    Retire {
+        target: Shared<Name>,
+    },
     /// It took up the stamp of a process that retired into it.
-    Absorb { retired: Name },
+    Absorb {
+        retired: Shared<Name>,
+    },
 }
 
 /// What a process reports of itself.
@@ -41,23 +50,34 @@ pub enum Report {
 }
 
 impl Action {
-    /// The same action once more.
-    pub fn copy(&self, alloc: Global) -> Result<Action, AllocError>
+    /// A child is made: of the id one part is kept, and the other one is given to the child.
+    pub fn fork(alloc: Global, kept: Id, child: Name, given: Id) -> Result<Action, AllocError>
+        ensures { IfOk result (λ a. a ≡ Action.Fork kept child given) }
+    {
+        Ok(Action::Fork {
+            kept: Shared::new(alloc, kept)?,
+            child: Shared::new(alloc, child)?,
+            given: Shared::new(alloc, given)?,
+        })
+    }
+
+    /// The same action once more. What stands apart is shared.
+    pub fn copy(&self) -> Result<Action, AllocError>
         ensures { IfOk result (λ a. a ≡ self.now) }
     {
         match self {
             Action::Check => Ok(Action::Check),
             Action::Present => Ok(Action::Present),
             Action::Fork { kept, child, given } => Ok(Action::Fork {
-                kept: kept.copy(alloc)?,
-                child: child.copy(),
-                given: given.copy(alloc)?,
+                kept: kept.share()?,
+                child: child.share()?,
+                given: given.share()?,
             }),
             Action::Retire { target } => Ok(Action::Retire {
-                target: target.copy(),
+                target: target.share()?,
             }),
             Action::Absorb { retired } => Ok(Action::Absorb {
-                retired: retired.copy(),
+                retired: retired.share()?,
             }),
         }
     }
@@ -120,7 +140,7 @@ impl Report {
                 process: process.copy(),
                 number: *number,
                 stamp: stamp.copy(alloc)?,
-                action: action.copy(alloc)?,
+                action: action.copy()?,
             }),
         }
     }

@@ -11,7 +11,7 @@ use chains::{Admitted, Chains, Failed, FailedFault, State};
 use id_tree::Id;
 use propagate::certificate;
 use reasons::to_json;
-use report_line::{Call, Code, LineFault, Name, Reply, Report, Text};
+use report_line::{Call, Code, LineFault, Name, Reply, Report, Shared, Text};
 use std::alloc::{AllocError, Global};
 use std::marker::Model;
 
@@ -27,10 +27,10 @@ fn refusal(code: Code) -> Reply
 }
 
 /// A report's turn.
-fn admit(chains: &mut Chains, report: Report) -> Reply
+fn admit(chains: &mut Chains, report: Shared<Report>) -> Reply
     ensures { Shows chains.old.accepted (calls.Report report) chains.new.accepted result }
 {
-    match chains.admit_owned(report) {
+    match chains.admit_shared(report) {
         Ok(Admitted::Accepted(front)) => Reply::Accepted(front),
         Ok(Admitted::Old(front)) => Reply::Old(front),
         Err(refused) => Reply::No {

@@ -60,11 +60,9 @@ impl Process {
     pub fn fork(&mut self, alloc: Global, name: Name) -> Result<(Report, Process)> {
         let after = self.stamp.event(alloc)?;
         let (kept, given) = self.stamp.fork(alloc)?;
-        let action = Action::Fork {
-            kept: kept.id.copy(alloc)?,
-            child: name.copy(),
-            given: given.id.copy(alloc)?,
-        };
+        let kept_id = kept.id.copy(alloc)?;
+        let given_id = given.id.copy(alloc)?;
+        let action = Action::fork(alloc, kept_id, name.copy(), given_id)?;
         self.stamp = kept;
         let child = Process {
             name,

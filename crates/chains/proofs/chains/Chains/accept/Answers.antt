@@ -12,7 +12,7 @@ pub keep-requires-clause-fits : goal.keep-requires-clause-fits
 keep-requires-clause-fits c =
     let a = c.self.inside in
     let ready : MayBeAccepted (kept_in a) (ready_in c.ready.inside) = rw (← c.self.view_is, ← c.ready.view_is) at c.requires in
-    rw c.get.ensures (may_be_kept (kept_in a) a.names.keys a.processes.items c.ready.inside.report c.ready.inside.process c.self.invariant.fields refl ready.process ready.element_room)
+    rw c.deref.ensures (may_be_kept (kept_in a) a.names.keys a.processes.items c.ready.inside.report c.ready.inside.process c.self.invariant.fields refl ready.process ready.element_room)
 
 pub invariant_of-self : goal.invariant_of-self
 invariant_of-self c =
@@ -23,9 +23,9 @@ invariant_of-self c =
     let kept = map view_of a.processes.items in
     let after = map view_of c.keep.new.processes.items in
     let views : IsKeptBy kept a.names.keys r c.ready.inside.process (length a.reports.items) after =
-    subst (λ (n : ℕ). IsKeptBy kept a.names.keys r c.ready.inside.process n after) front (subst (λ (x : Report). IsKeptBy kept a.names.keys x c.ready.inside.process c.len-front.result after) c.get.ensures c.keep.ensures.views) in
+    subst (λ (n : ℕ). IsKeptBy kept a.names.keys r c.ready.inside.process n after) front (subst (λ (x : Report). IsKeptBy kept a.names.keys x c.ready.inside.process c.len-front.result after) c.deref.ensures c.keep.ensures.views) in
     record {
       fields = after_report a.reports.items c.push_reserved.new.self.items a.names.keys c.keep.new.names.keys a.processes.items c.keep.new.processes.items r c.ready.inside.process c.self.invariant.fields
-          ready.admitted ready.process c.push_reserved.ensures.items (c.keep.ensures.names ∙ ap (names_after a.names.keys) c.get.ensures) views;
+          ready.admitted ready.process c.push_reserved.ensures.items (c.keep.ensures.names ∙ ap (names_after a.names.keys) c.deref.ensures) views;
       first = c.self.invariant.first;
     }

@@ -12,5 +12,5 @@ index-requires-2 c =
 pub returns : goal.returns
 returns c =
     let a = c.self.inside in
-    let at_index = got a.reports.items c.index.result.now.birth c.get.result.now c.index-2.result.now c.get.ensures c.index-2.ensures in
-    rw (← c.self.view_is) (λ p at. birth_is a.reports.items a.processes.items c.args.process p c.index.result.now c.get.result.now c.self.invariant.fields.kept at c.index.ensures at_index)
+    let at_index = got a.reports.items c.index.result.now.birth c.deref.result.now c.index-2.result.now c.deref.ensures c.index-2.ensures in
+    rw (← c.self.view_is) (λ p at. birth_is a.reports.items a.processes.items c.args.process p c.index.result.now c.deref.result.now c.self.invariant.fields.kept at c.index.ensures at_index)

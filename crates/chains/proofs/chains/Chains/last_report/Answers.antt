@@ -16,5 +16,5 @@ returns-in-None c =
 pub returns-in-Some : goal.returns-in-Some
 returns-in-Some c =
     let a = c.self.inside in
-    let at_index = got a.reports.items c.in-Some.index c.get.result.now c.index-in-Some.result.now c.get.ensures c.index-in-Some.ensures in
-    rw (← c.self.view_is) (λ p at. last_some a.reports.items a.processes.items c.args.process c.in-Some.index p c.index.result.now c.get.result.now c.self.invariant.fields.kept at c.index.ensures c.in-Some.is at_index)
+    let at_index = got a.reports.items c.in-Some.index c.deref.result.now c.index-in-Some.result.now c.deref.ensures c.index-in-Some.ensures in
+    rw (← c.self.view_is) (λ p at. last_some a.reports.items a.processes.items c.args.process c.in-Some.index p c.index.result.now c.deref.result.now c.self.invariant.fields.kept at c.index.ensures c.in-Some.is at_index)

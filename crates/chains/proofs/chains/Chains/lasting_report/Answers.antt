@@ -24,6 +24,6 @@ pub returns : goal.returns
 returns c =
     let a = c.self.inside in
     let lasting = rw (← c.self.view_is) at c.requires.within in
-    let at_index = got a.reports.items c.index-index.result.now c.get.result.now c.index-2.result.now c.get.ensures c.index-2.ensures in
-    rw (← c.self.view_is) (λ p at. source_makes p a.reports.items c.args.k c.index-index.result.now c.get.result.now
+    let at_index = got a.reports.items c.index-index.result.now c.deref.result.now c.index-2.result.now c.deref.ensures c.index-2.ensures in
+    rw (← c.self.view_is) (λ p at. source_makes p a.reports.items c.args.k c.index-index.result.now c.deref.result.now
     (lasting_at a.reports.items a.processes.items c.args.process c.args.k c.index-index.result.now p c.index.result.now c.self.invariant.fields.kept at c.index.ensures (lasting p at) c.index-index.ensures) at_index)

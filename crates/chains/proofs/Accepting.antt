@@ -91,20 +91,20 @@ some_if false x = refl
 pub no_birth : (q : Name) (a : Action) (p : Name) (n : ℕ) (s : Stamp) → ((child : Name) → child_of a ≡ Some child → q ≢ child) → is_birth_of q (Numbered p n s a) ≡ false
 no_birth q Check p n s f = refl
 no_birth q Present p n s f = refl
-no_birth q (Fork kept child given) p n s f = other_bytes q child (f child refl)
+no_birth q (Fork forked) p n s f = other_bytes q forked.child (f forked.child refl)
 no_birth q (Retire target) p n s f = refl
 no_birth q (Absorb retired) p n s f = refl
 
 pub own_lasts : (p : Name) (a : Action) (n : ℕ) (s : Stamp) → ((child : Name) → child_of a ≡ Some child → p ≢ child) → is_some (lasting_made p (Numbered p n s a)) ≡ is_check a
 own_lasts p Check n s f = some_if (bytes_eq p p) s ∙ same_bytes p
 own_lasts p Present n s f = refl
-own_lasts p (Fork kept child given) n s f = some_if (bytes_eq p child) (record { id = given; events = s.events }) ∙ other_bytes p child (f child refl)
+own_lasts p (Fork forked) n s f = some_if (bytes_eq p forked.child) (record { id = forked.given; events = s.events }) ∙ other_bytes p forked.child (f forked.child refl)
 own_lasts p (Retire target) n s f = refl
 own_lasts p (Absorb retired) n s f = refl
 
 pub other_lasts : (q p : Name) (a : Action) (n : ℕ) (s : Stamp) → q ≢ p → ((child : Name) → child_of a ≡ Some child → q ≢ child) → is_some (lasting_made q (Numbered p n s a)) ≡ false
 other_lasts q p Check n s d f = some_if (bytes_eq q p) s ∙ other_bytes q p d
 other_lasts q p Present n s d f = refl
-other_lasts q p (Fork kept child given) n s d f = some_if (bytes_eq q child) (record { id = given; events = s.events }) ∙ other_bytes q child (f child refl)
+other_lasts q p (Fork forked) n s d f = some_if (bytes_eq q forked.child) (record { id = forked.given; events = s.events }) ∙ other_bytes q forked.child (f forked.child refl)
 other_lasts q p (Retire target) n s d f = refl
 other_lasts q p (Absorb retired) n s d f = refl

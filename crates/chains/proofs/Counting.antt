@@ -53,7 +53,7 @@ one_present None = omega arith
 one_present (Some (Begin p)) = omega arith
 one_present (Some (Numbered p n s Check)) = omega arith
 one_present (Some (Numbered p n s Present)) = omega arith
-one_present (Some (Numbered p n s (Fork kept child given))) = omega arith
+one_present (Some (Numbered p n s (Fork f))) = omega arith
 one_present (Some (Numbered p n s (Retire target))) = omega arith
 one_present (Some (Numbered p n s (Absorb retired))) = omega arith
 
@@ -72,7 +72,7 @@ birth_lasts : (p : Name) (r : Report) → is_birth_of p r ≡ true → is_some (
 birth_lasts p (Begin q) e = some_only (bytes_eq p q) _ e
 birth_lasts p (Numbered q n s Check) e = absurd (true≢false (sym e))
 birth_lasts p (Numbered q n s Present) e = absurd (true≢false (sym e))
-birth_lasts p (Numbered q n s (Fork kept child given)) e = some_only (bytes_eq p child) _ e
+birth_lasts p (Numbered q n s (Fork f)) e = some_only (bytes_eq p f.child) _ e
 birth_lasts p (Numbered q n s (Retire target)) e = absurd (true≢false (sym e))
 birth_lasts p (Numbered q n s (Absorb retired)) e = absurd (true≢false (sym e))
 

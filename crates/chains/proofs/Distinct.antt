@@ -46,7 +46,7 @@ distinct_with ks (Some q) d n = distinct_push ks q d (n q refl)
 pub unknown_child : (accepted : List Report) (p : Name) (a : Action) → IsFit accepted p a → (q : Name) → child_of a ≡ Some q → ¬ IsKnown accepted q
 unknown_child accepted p Check fit q e = absurd (none_some q e)
 unknown_child accepted p Present fit q e = absurd (none_some q e)
-unknown_child accepted p (Fork kept child given) fit q e = λ is_known. fit.0 (subst (IsKnown accepted) (sym (some_name child q e)) is_known)
+unknown_child accepted p (Fork f) fit q e = λ is_known. fit.0 (subst (IsKnown accepted) (sym (some_name f.child q e)) is_known)
 unknown_child accepted p (Retire target) fit q e = absurd (none_some q e)
 unknown_child accepted p (Absorb retired) fit q e = absurd (none_some q e)
 

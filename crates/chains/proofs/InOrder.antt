@@ -130,7 +130,7 @@ nothing_made : (q : Name) (r : Report) → is_birth_of q r ≡ false → is_numb
 nothing_made q (Begin p) b n = some_if (bytes_eq q p) _ ∙ b
 nothing_made q (Numbered p n s Check) b e = some_if (bytes_eq q p) s ∙ e
 nothing_made q (Numbered p n s Present) b e = refl
-nothing_made q (Numbered p n s (Fork kept child given)) b e = some_if (bytes_eq q child) _ ∙ b
+nothing_made q (Numbered p n s (Fork f)) b e = some_if (bytes_eq q f.child) _ ∙ b
 nothing_made q (Numbered p n s (Retire target)) b e = refl
 nothing_made q (Numbered p n s (Absorb retired)) b e = refl
 
@@ -211,7 +211,7 @@ kept_taken accepted p n s retired i (Some j) after passed distinct at e is =
 fits_action : (accepted : List Report) (p : Name) (n : ℕ) (s : Stamp) (a : Action) (front : ℕ) → IsActionReply accepted p n s a (Accepted front) → FitsOrNot accepted (Numbered p n s a) (Accepted front)
 fits_action accepted p n s Check front h = h
 fits_action accepted p n s Present front h = h
-fits_action accepted p n s (Fork kept child given) front h = (passed (passed h).1).1
+fits_action accepted p n s (Fork f) front h = (passed (passed h).1).1
 fits_action accepted p n s (Retire target) front h = (passed h).1
 fits_action accepted p n s (Absorb retired) front h = (passed h).1
 
@@ -262,14 +262,15 @@ in_order_numbered accepted p n s (Retire target) i after reach distinct at passe
     plain accepted p n s (Retire target) i after refl (is ∙ sym (kept_plain accepted p n s (Retire target) i passed distinct at (λ q. refl)))
 in_order_numbered accepted p n s (Absorb retired) i after reach distinct at passed is =
     plain accepted p n s (Absorb retired) i after refl (kept_taken accepted p n s retired i (position (pointwise nat_eq retired) (known accepted)) after passed distinct at refl is)
-in_order_numbered accepted p n s (Fork kept child given) i after reach distinct at passed is =
-    let r = Numbered p n s (Fork kept child given) in
+in_order_numbered accepted p n s (Fork f) i after reach distinct at passed is =
+    let r = Numbered p n s (Fork f) in
+    let child = f.child in
     let unknown : ¬ IsKnown accepted child = passed.fit.0 in
     let other : child ≢ p = λ e. unknown (subst (IsKnown accepted) (sym e) passed.is_known) in
     let known_is : known (accepted ++ r ∷ []) ≡ known accepted ++ child ∷ [] = known-push accepted r in
     let last : kept_of (accepted ++ r ∷ []) child ≡ born (length accepted) = kept_born accepted r child reach unknown (same_bytes child) (other_bytes child p other) (some_if (bytes_eq child child) _ ∙ same_bytes child) refl in (
       new_name accepted child unknown ∙ sym known_is,
-      is ∙ ap (λ (l : List KeptProcess). l ++ born (length accepted) ∷ []) (sym (kept_plain accepted p n s (Fork kept child given) i passed distinct at (λ q. refl)))
+      is ∙ ap (λ (l : List KeptProcess). l ++ born (length accepted) ∷ []) (sym (kept_plain accepted p n s (Fork f) i passed distinct at (λ q. refl)))
           ∙ ap (λ (k : KeptProcess). map (kept_of (accepted ++ r ∷ [])) (known accepted) ++ k ∷ []) (sym last)
           ∙ sym (ap (map (kept_of (accepted ++ r ∷ []))) known_is ∙ map-append (kept_of (accepted ++ r ∷ [])) (known accepted) (child ∷ [])),
     )

@@ -11,6 +11,7 @@ use Rattle.id_tree.proofs.Sums.{sum_together}
 use Rattle.stamp.specs.declared.stamp.Stamp.{Stamp}
 use Rattle.report_line.specs.declared.report.Action.{Action}
 use Rattle.report_line.specs.declared.report.Action.TheVariants.{Check, Present, Fork, Retire, Absorb}
+use Rattle.report_line.specs.declared.report.Forked.{Forked}
 use Rattle.report_line.specs.declared.report.Report.{Report}
 use Rattle.report_line.specs.declared.report.Report.TheVariants.{Begin, Numbered}
 use Rattle.chains.specs.Processes.{Name, newborn, IsKnown, is_birth_of, is_absorb_of, last_report, id_kept, registered_id, target_after, target_of, is_absorbed}
@@ -63,7 +64,7 @@ unreported_after accepted p q n s a made h unknown =
 absorbs : (accepted : List Report) (p q : Name) (n : ℕ) (s : Stamp) (a : Action) → IsFit accepted p a → is_absorb_of q (Numbered p n s a) ≡ true → target_of q accepted ≡ Some p
 absorbs accepted p q n s Check fit e = absurd (true≢false (sym e))
 absorbs accepted p q n s Present fit e = absurd (true≢false (sym e))
-absorbs accepted p q n s (Fork kept child given) fit e = absurd (true≢false (sym e))
+absorbs accepted p q n s (Fork f) fit e = absurd (true≢false (sym e))
 absorbs accepted p q n s (Retire target) fit e = absurd (true≢false (sym e))
 absorbs accepted p q n s (Absorb retired) fit e = ap (λ (m : Name). target_of m accepted) ((bytes_eq-Decides q retired).0 e) ∙ fit.0
 
@@ -102,14 +103,15 @@ after_same accepted p n s a none spared same parts =
     (λ q h. still_holds accepted (Numbered p n s a) q (spared q) h)
     (λ q. same_id accepted p q n s a none same)
 
-fork_step : (accepted : List Report) (p child : Name) (n : ℕ) (s : Stamp) (kept given : IdTree) → IsWellMade accepted → Passed accepted p s (Fork kept child given)
-    → IsForked (Holds accepted) (Holds (accepted ++ Numbered p n s (Fork kept child given) ∷ [])) (λ q. registered_id q accepted) (λ q. registered_id q (accepted ++ Numbered p n s (Fork kept child given) ∷ [])) p child
-fork_step accepted p child n s kept given made h =
-    let r = Numbered p n s (Fork kept child given) in
+fork_step : (accepted : List Report) (p : Name) (n : ℕ) (s : Stamp) (f : Forked) → IsWellMade accepted → Passed accepted p s (Fork f)
+    → IsForked (Holds accepted) (Holds (accepted ++ Numbered p n s (Fork f) ∷ [])) (λ q. registered_id q accepted) (λ q. registered_id q (accepted ++ Numbered p n s (Fork f) ∷ [])) p f.child
+fork_step accepted p n s f made h =
+    let r = Numbered p n s (Fork f) in
+    let child = f.child in
     let unreported = made.unreported child h.fit.0 in
     let other : child ≢ p = λ e. h.fit.0 (subst (IsKnown accepted) (sym e) h.is_known) in
     record {
-      parent = reporting accepted p s (Fork kept child given) made h;
+      parent = reporting accepted p s (Fork f) made h;
       back = λ q k. elim (known_cases accepted r q k.is_known) [
         | inl before ↦ inl (record { is_known = before; unabsorbed = (unabsorbed accepted r q k.unabsorbed).0 })
         | inr e ↦ inr (sym (some_name child q e))
@@ -119,9 +121,9 @@ fork_step accepted p child n s kept given made h =
         is_known = known_new accepted r child refl;
         unabsorbed = absorbed-push child accepted r ∙ or_from (is_absorbed child accepted) false (false_from_ne_true (is_absorbed child accepted) (λ e. made.retired child e (ap target_after unreported))) refl;
       };
-      split = subst (λ i. IsSplit (registered_id p accepted) i (registered_id child (accepted ++ r ∷ []))) (sym (own_id accepted p n s (Fork kept child given)))
-          (subst (λ i. IsSplit (registered_id p accepted) kept i) (sym (child_id accepted p child n s kept given other unreported)) h.fit.1);
-      others = λ q k m. other_id accepted p q n s (Fork kept child given) m (other_bytes q child (λ e. h.fit.0 (subst (IsKnown accepted) e k.is_known)));
+      split = subst (λ i. IsSplit (registered_id p accepted) i (registered_id child (accepted ++ r ∷ []))) (sym (own_id accepted p n s (Fork f)))
+          (subst (λ i. IsSplit (registered_id p accepted) f.kept i) (sym (child_id accepted p n s f other unreported)) h.fit.1);
+      others = λ q k m. other_id accepted p q n s (Fork f) m (other_bytes q child (λ e. h.fit.0 (subst (IsKnown accepted) e k.is_known)));
     }
 
 -- a process whose retirement waits holds
@@ -149,7 +151,7 @@ parts_after : (accepted : List Report) (p : Name) (n : ℕ) (s : Stamp) (a : Act
 parts_after accepted p n s Check made h = after_same accepted p n s Check refl (λ q. refl) h.id (made.parts h.begun)
 parts_after accepted p n s Present made h = after_same accepted p n s Present refl (λ q. refl) h.id (made.parts h.begun)
 parts_after accepted p n s (Retire target) made h = after_same accepted p n s (Retire target) refl (λ q. refl) h.id (made.parts h.begun)
-parts_after accepted p n s (Fork kept child given) made h = parts_fork (made.parts h.begun) (fork_step accepted p child n s kept given made h)
+parts_after accepted p n s (Fork f) made h = parts_fork (made.parts h.begun) (fork_step accepted p n s f made h)
 parts_after accepted p n s (Absorb retired) made h = parts_absorb (made.parts h.begun) (absorb_step accepted p retired n s made h)
 
 pub made_after : (accepted : List Report) (p : Name) (n : ℕ) (s : Stamp) (a : Action) → IsWellMade accepted → Passed accepted p s a → IsWellMade (accepted ++ Numbered p n s a ∷ [])

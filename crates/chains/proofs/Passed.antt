@@ -28,7 +28,7 @@ passed_old (inr h) = h
 abbrev pub IsFit : List Report → Name → Action → Type 0
 IsFit accepted p Check = ⊤
 IsFit accepted p Present = ⊤
-IsFit accepted p (Fork kept child given) = (¬ IsKnown accepted child) × IsSplit (registered_id p accepted) kept given
+IsFit accepted p (Fork f) = (¬ IsKnown accepted f.child) × IsSplit (registered_id p accepted) f.kept f.given
 IsFit accepted p (Retire target) = ⊤
 IsFit accepted p (Absorb retired) = Waits accepted retired p
 
@@ -53,17 +53,17 @@ stamped accepted p n s a front h =
 pub unwaited : (accepted : List Report) (p : Name) (n : ℕ) (s : Stamp) (a : Action) (front : ℕ) → IsWaitingReply accepted p n s a (Accepted front) → IsStampReply accepted p n s a (Accepted front)
 unwaited accepted p n s Check front h = h
 unwaited accepted p n s Present front h = h
-unwaited accepted p n s (Fork kept child given) front h = h
+unwaited accepted p n s (Fork f) front h = h
 unwaited accepted p n s (Retire target) front h = h
 unwaited accepted p n s (Absorb retired) front h = (passed h).1
 
 fits : (accepted : List Report) (p : Name) (n : ℕ) (s : Stamp) (a : Action) (front : ℕ) → IsWaitingReply accepted p n s a (Accepted front) → IsFit accepted p a
 fits accepted p n s Check front h = tt
 fits accepted p n s Present front h = tt
-fits accepted p n s (Fork kept child given) front h =
-    let f = passed (stamped accepted p n s (Fork kept child given) front h).2 in
+fits accepted p n s (Fork forked) front h =
+    let f = passed (stamped accepted p n s (Fork forked) front h).2 in
     let g = passed f.1 in
-    (f.0, sure_split (registered_id p accepted) kept given g.0)
+    (f.0, sure_split (registered_id p accepted) forked.kept forked.given g.0)
 fits accepted p n s (Retire target) front h = tt
 fits accepted p n s (Absorb retired) front h = sure_waits accepted retired p (passed h).0
 

@@ -8,10 +8,10 @@ use Rattle.std.proofs.lemmas.Bool.{cases_Bool, true≢false, false_from_ne_true}
 use Rattle.std.proofs.lemmas.List.Elements.{filter_map-append, Contains-append_left, Contains-push, Contains-push_cases}
 use Rattle.std.proofs.lemmas.List.Folds.{list_any-append}
 use Rattle.std.proofs.lemmas.Slice.Eq.{bytes_eq-Decides}
-use Rattle.id_tree.specs.IdTree.{IdTree}
 use Rattle.stamp.specs.declared.stamp.Stamp.{Stamp}
 use Rattle.report_line.specs.declared.report.Action.{Action}
 use Rattle.report_line.specs.declared.report.Action.TheVariants.{Fork}
+use Rattle.report_line.specs.declared.report.Forked.{Forked}
 use Rattle.report_line.specs.declared.report.Report.{Report}
 use Rattle.report_line.specs.declared.report.Report.TheVariants.{Numbered}
 use Rattle.chains.specs.Processes.{Name, newborn, known, IsKnown, first_of, last_passing, is_numbered_of, is_birth_of, is_absorb_of, last_report, birth_report, id_after, id_kept, registered_id, target_after, target_of, is_absorbed}
@@ -98,8 +98,8 @@ other_id accepted p q n s a other unborn =
     ∙ ap (id_after (last_report q accepted)) (failing (is_birth_of q) accepted (Numbered p n s a) unborn)
 
 -- a child with no report has what it was given
-pub child_id : (accepted : List Report) (p child : Name) (n : ℕ) (s : Stamp) (kept given : IdTree) → child ≢ p → last_report child accepted ≡ None
-    → registered_id child (accepted ++ Numbered p n s (Fork kept child given) ∷ []) ≡ given
-child_id accepted p child n s kept given other unreported =
-    ap (λ o. id_after o (birth_report child (accepted ++ Numbered p n s (Fork kept child given) ∷ []))) (other_report accepted p child n s (Fork kept child given) other ∙ unreported)
-    ∙ ap (id_after None) (passing (is_birth_of child) accepted (Numbered p n s (Fork kept child given)) (same_bytes child))
+pub child_id : (accepted : List Report) (p : Name) (n : ℕ) (s : Stamp) (forked : Forked) → forked.child ≢ p → last_report forked.child accepted ≡ None
+    → registered_id forked.child (accepted ++ Numbered p n s (Fork forked) ∷ []) ≡ forked.given
+child_id accepted p n s forked other unreported =
+    ap (λ o. id_after o (birth_report forked.child (accepted ++ Numbered p n s (Fork forked) ∷ []))) (other_report accepted p forked.child n s (Fork forked) other ∙ unreported)
+    ∙ ap (id_after None) (passing (is_birth_of forked.child) accepted (Numbered p n s (Fork forked)) (same_bytes forked.child))

@@ -64,14 +64,14 @@ refuses_ended target accepted p n s a refusal (Err x) e is = lacking (IsStanding
 pub as_own : (accepted : List Report) (p : Name) (n : ℕ) (s : Stamp) (a : Action) (r : Result Verdict No) → IsNoAbsorb a → Tests (IsStampReply accepted p n s a) accepted r → Tests (IsWaitingReply accepted p n s a) accepted r
 as_own accepted p n s Check r own h = h
 as_own accepted p n s Present r own h = h
-as_own accepted p n s (Fork kept child given) r own h = h
+as_own accepted p n s (Fork f) r own h = h
 as_own accepted p n s (Retire target) r own h = h
 as_own accepted p n s (Absorb retired) r own h = absurd own
 
 pub own_id : (accepted : List Report) (p : Name) (a : Action) → IsNoAbsorb a → expected_id accepted p a ≡ registered_id p accepted
 own_id accepted p Check own = refl
 own_id accepted p Present own = refl
-own_id accepted p (Fork kept child given) own = refl
+own_id accepted p (Fork f) own = refl
 own_id accepted p (Retire target) own = refl
 own_id accepted p (Absorb retired) own = absurd own
 

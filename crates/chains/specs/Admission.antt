@@ -50,10 +50,10 @@ IsBeginReply (Some root) accepted p answer =
 abbrev pub IsActionReply : List Report → Name → ℕ → Stamp → Action → Reply → Type 0
 IsActionReply accepted p n s Check answer = FitsOrNot accepted (Numbered p n s Check) answer
 IsActionReply accepted p n s Present answer = FitsOrNot accepted (Numbered p n s Present) answer
-IsActionReply accepted p n s (Fork kept child given) answer =
-    Decides (IsKnown accepted child) (No NameTaken (Some child) None) answer
-    (Decides (¬ IsSplit (registered_id p accepted) kept given) (No WrongParts (Some p) (Some (spelling (registered_id p accepted)))) answer
-    (FitsOrNot accepted (Numbered p n s (Fork kept child given)) answer))
+IsActionReply accepted p n s (Fork f) answer =
+    Decides (IsKnown accepted f.child) (No NameTaken (Some f.child) None) answer
+    (Decides (¬ IsSplit (registered_id p accepted) f.kept f.given) (No WrongParts (Some p) (Some (spelling (registered_id p accepted)))) answer
+    (FitsOrNot accepted (Numbered p n s (Fork f)) answer))
 IsActionReply accepted p n s (Retire target) answer =
     Decides ((target ≡ p) ⊎ (¬ IsKnown accepted target)) (No WrongTarget (Some target) None) answer
     (FitsOrNot accepted (Numbered p n s (Retire target)) answer)
@@ -72,7 +72,7 @@ IsStampReply accepted p n s a answer =
 abbrev pub IsWaitingReply : List Report → Name → ℕ → Stamp → Action → Reply → Type 0
 IsWaitingReply accepted p n s Check answer = IsStampReply accepted p n s Check answer
 IsWaitingReply accepted p n s Present answer = IsStampReply accepted p n s Present answer
-IsWaitingReply accepted p n s (Fork kept child given) answer = IsStampReply accepted p n s (Fork kept child given) answer
+IsWaitingReply accepted p n s (Fork f) answer = IsStampReply accepted p n s (Fork f) answer
 IsWaitingReply accepted p n s (Retire target) answer = IsStampReply accepted p n s (Retire target) answer
 IsWaitingReply accepted p n s (Absorb retired) answer =
     Decides (¬ Waits accepted retired p) (No NotWaiting (Some retired) None) answer

@@ -23,21 +23,21 @@ ActionFields = ℕ ⊎ ((IdTree × (List ℕ × IdTree)) ⊎ (List ℕ ⊎ List 
 abbrev pub action_fields : Action → ActionFields
 action_fields Check = inl 0
 action_fields Present = inl 1
-action_fields (Fork kept child given) = inr (inl (kept, (child, given)))
+action_fields (Fork f) = inr (inl (f.kept, (f.child, f.given)))
 action_fields (Retire target) = inr (inr (inl target))
 action_fields (Absorb retired) = inr (inr (inr retired))
 
 abbrev pub action_of : ActionFields → Action
 action_of (inl zero) = Check
 action_of (inl (suc n)) = Present
-action_of (inr (inl f)) = Fork f.0 f.1.0 f.1.1
+action_of (inr (inl f)) = Fork (record { kept = f.0; child = f.1.0; given = f.1.1 })
 action_of (inr (inr (inl target))) = Retire target
 action_of (inr (inr (inr retired))) = Absorb retired
 
 pub action_of-action_fields : (a : Action) → action_of (action_fields a) ≡ a
 action_of-action_fields Check = refl
 action_of-action_fields Present = refl
-action_of-action_fields (Fork kept child given) = refl
+action_of-action_fields (Fork f) = refl
 action_of-action_fields (Retire target) = refl
 action_of-action_fields (Absorb retired) = refl
 

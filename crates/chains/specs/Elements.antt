@@ -21,7 +21,7 @@ only_if b x = if b then Some x else None
 abbrev pub lasting_by : Name → Name → Stamp → Action → Option Stamp
 lasting_by p q s Check = only_if (bytes_eq p q) s
 lasting_by p q s Present = None
-lasting_by p q s (Fork kept child given) = only_if (bytes_eq p child) (record { id = given; events = s.events })
+lasting_by p q s (Fork f) = only_if (bytes_eq p f.child) (record { id = f.given; events = s.events })
 lasting_by p q s (Retire target) = None
 lasting_by p q s (Absorb retired) = None
 
@@ -40,7 +40,7 @@ present_in None = []
 present_in (Some (Begin p)) = []
 present_in (Some (Numbered p n s Check)) = []
 present_in (Some (Numbered p n s Present)) = s ∷ []
-present_in (Some (Numbered p n s (Fork kept child given))) = []
+present_in (Some (Numbered p n s (Fork f))) = []
 present_in (Some (Numbered p n s (Retire target))) = []
 present_in (Some (Numbered p n s (Absorb retired))) = []
 

@@ -36,7 +36,7 @@ changed_at change i kept = slice_set kept i (change (slice_index_or kept i (born
 abbrev pub is_check : Action → Bool
 is_check Check = true
 is_check Present = false
-is_check (Fork kept child given) = false
+is_check (Fork f) = false
 is_check (Retire target) = false
 is_check (Absorb retired) = false
 
@@ -60,7 +60,7 @@ IsTakenBy names kept retired after = TakenAt names retired (position (pointwise 
 abbrev pub IsKeptByAction : List Name → List KeptProcess → Action → ℕ → List KeptProcess → Type 0
 IsKeptByAction names noted Check front after = after ≡ noted
 IsKeptByAction names noted Present front after = after ≡ noted
-IsKeptByAction names noted (Fork kept child given) front after = after ≡ noted ++ born front ∷ []
+IsKeptByAction names noted (Fork f) front after = after ≡ noted ++ born front ∷ []
 IsKeptByAction names noted (Retire target) front after = after ≡ noted
 IsKeptByAction names noted (Absorb retired) front after = IsTakenBy names noted retired after
 

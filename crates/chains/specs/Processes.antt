@@ -22,7 +22,7 @@ Name = List ℕ
 abbrev pub child_of : Action → Option Name
 child_of Check = None
 child_of Present = None
-child_of (Fork kept child given) = Some child
+child_of (Fork f) = Some f.child
 child_of (Retire target) = None
 child_of (Absorb retired) = None
 
@@ -87,7 +87,7 @@ last_events p accepted = events_after (first_of (last_report p accepted) (birth_
 abbrev pub id_kept : Stamp → Action → IdTree
 id_kept s Check = s.id
 id_kept s Present = s.id
-id_kept s (Fork kept child given) = kept
+id_kept s (Fork f) = f.kept
 id_kept s (Retire target) = s.id
 id_kept s (Absorb retired) = s.id
 
@@ -95,7 +95,7 @@ id_kept s (Absorb retired) = s.id
 abbrev pub id_given : Action → IdTree
 id_given Check = Zero
 id_given Present = Zero
-id_given (Fork kept child given) = given
+id_given (Fork f) = f.given
 id_given (Retire target) = Zero
 id_given (Absorb retired) = Zero
 
@@ -123,7 +123,7 @@ target_after None = None
 target_after (Some (Begin p)) = None
 target_after (Some (Numbered p n s Check)) = None
 target_after (Some (Numbered p n s Present)) = None
-target_after (Some (Numbered p n s (Fork kept child given))) = None
+target_after (Some (Numbered p n s (Fork f))) = None
 target_after (Some (Numbered p n s (Retire target))) = Some target
 target_after (Some (Numbered p n s (Absorb retired))) = None
 
@@ -136,7 +136,7 @@ abbrev pub is_absorb_of : Name → Report → Bool
 is_absorb_of p (Begin q) = false
 is_absorb_of p (Numbered q n s Check) = false
 is_absorb_of p (Numbered q n s Present) = false
-is_absorb_of p (Numbered q n s (Fork kept child given)) = false
+is_absorb_of p (Numbered q n s (Fork f)) = false
 is_absorb_of p (Numbered q n s (Retire target)) = false
 is_absorb_of p (Numbered q n s (Absorb retired)) = bytes_eq p retired
 
@@ -151,6 +151,6 @@ Waits accepted r q = (target_of r accepted ≡ Some q) × (is_absorbed r accepte
 abbrev pub expected_id : List Report → Name → Action → IdTree
 expected_id accepted p Check = registered_id p accepted
 expected_id accepted p Present = registered_id p accepted
-expected_id accepted p (Fork kept child given) = registered_id p accepted
+expected_id accepted p (Fork f) = registered_id p accepted
 expected_id accepted p (Retire target) = registered_id p accepted
 expected_id accepted p (Absorb retired) = sum_of (registered_id p accepted) (registered_id retired accepted)

@@ -24,7 +24,7 @@ IsNumberIn accepted (Numbered p n s a) number = IsPlaceOf accepted p number
 abbrev pub IsNoAbsorb : Action → Type 0
 IsNoAbsorb Check = ⊤
 IsNoAbsorb Present = ⊤
-IsNoAbsorb (Fork kept child given) = ⊤
+IsNoAbsorb (Fork f) = ⊤
 IsNoAbsorb (Retire target) = ⊤
 IsNoAbsorb (Absorb retired) = ⊥
 

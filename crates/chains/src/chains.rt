@@ -405,7 +405,11 @@ impl Chains {
         ensures ready { IfOk result (λ prepared. IsReady prepared self.new) }
     {
         let number = self.number_in(report);
-        match self.test(report, number)? {
+        let verdict = match self.test(report, number) {
+            Err(refusal) => return Err(refusal.named()),
+            Ok(verdict) => verdict,
+        };
+        match verdict {
             Verdict::Old => Ok(Prepared::Old(self.front())),
             Verdict::Fits => {
                 let Ok(copy) = shared_copy(self.alloc, report) else {
@@ -469,10 +473,13 @@ impl Chains {
         ensures turn { (fate : Fate) × IsReportTurn fate self.old.accepted report (reply_of result) self.new.accepted }
     {
         let number = self.number_in(&report);
-        match self.test(&report, number) {
-            Err(refused) => Err(refused),
-            Ok(Verdict::Old) => Ok(Admitted::Old(self.front())),
-            Ok(Verdict::Fits) => match self.ready(report, number) {
+        let verdict = match self.test(&report, number) {
+            Err(refusal) => return Err(refusal.named()),
+            Ok(verdict) => verdict,
+        };
+        match verdict {
+            Verdict::Old => Ok(Admitted::Old(self.front())),
+            Verdict::Fits => match self.ready(report, number) {
                 Ok(ready) => Ok(self.commit(Prepared::Ready(ready))),
                 Err(_) => Err(out_of_memory()),
             },
@@ -537,7 +544,7 @@ fn keep(
         Report::Numbered { action, .. } => {
             note(processes, place, front, is_check(action));
             match action {
-                Action::Fork { child, .. } => add(names, processes, child.copy(), front, lasting),
+                Action::Fork(forked) => add(names, processes, forked.child.copy(), front, lasting),
                 Action::Absorb { retired } => note_absorbed(names, processes, retired),
                 Action::Check => {}
                 Action::Present => {}
@@ -554,7 +561,7 @@ fn is_check(action: &Action) -> bool
     match action {
         Action::Check => true,
         Action::Present => false,
-        Action::Fork { .. } => false,
+        Action::Fork(_) => false,
         Action::Retire { .. } => false,
         Action::Absorb { .. } => false,
     }
@@ -642,8 +649,8 @@ fn element_made<'a>(report: &'a Report, first: &'a Stamp) -> Element<'a>
             events: &first.events,
         },
         Report::Numbered { stamp, action, .. } => match action {
-            Action::Fork { given, .. } => Element {
-                id: given,
+            Action::Fork(forked) => Element {
+                id: &forked.given,
                 events: &stamp.events,
             },
             _ => Element {
@@ -681,7 +688,7 @@ fn id_kept<'a>(report: &'a Report, first: &'a Id) -> &'a Id
     match report {
         Report::Begin { .. } => first,
         Report::Numbered { stamp, action, .. } => match action {
-            Action::Fork { kept, .. } => kept,
+            Action::Fork(forked) => &forked.kept,
             Action::Check => &stamp.id,
             Action::Present => &stamp.id,
             Action::Retire { .. } => &stamp.id,
@@ -699,7 +706,7 @@ fn id_at_birth<'a>(report: &'a Report, first: &'a Id) -> &'a Id
     match report {
         Report::Begin { .. } => first,
         Report::Numbered { action, .. } => match action {
-            Action::Fork { given, .. } => given,
+            Action::Fork(forked) => &forked.given,
             _ => first,
         },
     }

@@ -15,9 +15,9 @@ ghost use Rattle.chains.specs.Keeping.{Tests};
 ghost use Rattle.chains.specs.Testing.{IsNumberIn, IsNoAbsorb, RefusesWith, IsFull};
 
 use crate::chains::Chains;
-use crate::refusal::No;
+use crate::refusal::{No, Refusal};
 use id_tree::{Id, SumFault};
-use report_line::{Action, Code, Name, Report, Text};
+use report_line::{Action, Code, Forked, Name, Report, Text};
 use stamp::Stamp;
 use std::alloc::{AllocError, Global};
 
@@ -60,53 +60,60 @@ fn name_text(alloc: Global, name: &Name) -> Result<Text, AllocError>
 }
 
 /// A refusal for want of memory.
-pub fn out_of_memory() -> No
+fn no_memory<'a>() -> Refusal<'a>
     ensures { result ≡ record { code = Code.OutOfMemory; name = None; value = None } }
 {
-    No {
+    Refusal {
         code: Code::OutOfMemory,
         name: None,
         value: None,
     }
 }
 
+/// A refusal for want of memory, as it is handed out.
+pub fn out_of_memory() -> No
+    ensures { result ≡ record { code = Code.OutOfMemory; name = None; value = None } }
+{
+    no_memory().named()
+}
+
 /// A refusal without a value.
-fn refusal(code: Code, name: &Name) -> No
+fn refusal<'a>(code: Code, name: &'a Name) -> Refusal<'a>
     ensures { result ≡ record { code = code; name = Some name.now; value = None } }
 {
-    No {
+    Refusal {
         code,
-        name: Some(name.copy()),
+        name: Some(name),
         value: None,
     }
 }
 
 /// A refusal with a value, if there is memory for it.
-fn refusal_with(code: Code, name: &Name, value: Result<Text, AllocError>) -> No
+fn refusal_with<'a>(code: Code, name: &'a Name, value: Result<Text, AllocError>) -> Refusal<'a>
     ensures { RefusesWith result code name.now value }
 {
     match value {
-        Ok(text) => No {
+        Ok(text) => Refusal {
             code,
-            name: Some(name.copy()),
+            name: Some(name),
             value: Some(text),
         },
-        Err(_) => out_of_memory(),
+        Err(_) => no_memory(),
     }
 }
 
 /// A refusal since no more fit than this limit.
 #[cold]
-fn full(alloc: Global, limit: u32) -> No
+fn full<'a>(alloc: Global, limit: u32) -> Refusal<'a>
     ensures { IsFull result limit }
 {
     match number_text(alloc, limit) {
-        Ok(text) => No {
+        Ok(text) => Refusal {
             code: Code::Full,
             name: None,
             value: Some(text),
         },
-        Err(_) => out_of_memory(),
+        Err(_) => no_memory(),
     }
 }
 
@@ -122,7 +129,11 @@ impl Chains {
     }
 
     /// All tests of a report but that of memory. The number is that of the process that reports.
-    pub(crate) fn test(&self, report: &Report, number: Option<u32>) -> Result<Verdict, No>
+    pub(crate) fn test<'a>(
+        &'a self,
+        report: &'a Report,
+        number: Option<u32>,
+    ) -> Result<Verdict, Refusal<'a>>
         requires { IsNumberIn self.now.accepted report.now number }
         ensures { Tests (IsAdmission self.now.accepted report.now) self.now.accepted result }
     {
@@ -135,7 +146,7 @@ impl Chains {
                 action,
             } => {
                 if self.front() == 0 {
-                    return Err(No {
+                    return Err(Refusal {
                         code: Code::NothingBegun,
                         name: None,
                         value: None,
@@ -150,7 +161,7 @@ impl Chains {
     }
 
     /// The tests of a `BEGIN`.
-    fn test_begin(&self, report: &Report, name: &Name) -> Result<Verdict, No>
+    fn test_begin<'a>(&'a self, report: &Report, name: &'a Name) -> Result<Verdict, Refusal<'a>>
         requires { report.now ≡ reports.Begin name.now }
         ensures { Tests (IsBeginReply (slice_get (known self.now.accepted) 0) self.now.accepted name.now) self.now.accepted result }
     {
@@ -167,15 +178,15 @@ impl Chains {
     }
 
     /// The tests of a report of a known process.
-    fn test_numbered(
-        &self,
+    fn test_numbered<'a>(
+        &'a self,
         place: u32,
         report: &Report,
-        name: &Name,
+        name: &'a Name,
         number: u32,
         stamp: &Stamp,
-        action: &Action,
-    ) -> Result<Verdict, No>
+        action: &'a Action,
+    ) -> Result<Verdict, Refusal<'a>>
         requires place { name_of self.now.accepted place ≡ Some name.now }
         requires fields { report.now ≡ reports.Numbered name.now number stamp.now action.now }
         ensures { Tests (IsNumberedReply self.now.accepted name.now number stamp.now action.now) self.now.accepted result }
@@ -196,20 +207,21 @@ impl Chains {
     {
         match self.last_report(place) {
             None => false,
-            Some(last) => last.equal(report),
+            // Of one process most reports are told apart by their numbers.
+            Some(last) => last.number() == report.number() && last.equal(report),
         }
     }
 
     /// The tests from that of the number on.
-    fn test_number(
-        &self,
+    fn test_number<'a>(
+        &'a self,
         place: u32,
         report: &Report,
-        name: &Name,
+        name: &'a Name,
         number: u32,
         stamp: &Stamp,
-        action: &Action,
-    ) -> Result<Verdict, No>
+        action: &'a Action,
+    ) -> Result<Verdict, Refusal<'a>>
         requires place { name_of self.now.accepted place ≡ Some name.now }
         requires fields { report.now ≡ reports.Numbered name.now number stamp.now action.now }
         requires lives { target_of name.now self.now.accepted ≡ None }
@@ -260,15 +272,15 @@ impl Chains {
     }
 
     /// The tests of the stamp and the action of a report that is no absorb.
-    fn test_own(
-        &self,
+    fn test_own<'a>(
+        &'a self,
         place: u32,
         report: &Report,
-        name: &Name,
+        name: &'a Name,
         number: u32,
         stamp: &Stamp,
-        action: &Action,
-    ) -> Result<Verdict, No>
+        action: &'a Action,
+    ) -> Result<Verdict, Refusal<'a>>
         requires place { name_of self.now.accepted place ≡ Some name.now }
         requires fields { report.now ≡ reports.Numbered name.now number stamp.now action.now }
         requires own { IsNoAbsorb action.now }
@@ -278,30 +290,30 @@ impl Chains {
         if !stamp.id.equal(registered) {
             return Err(refusal_with(Code::WrongId, name, id_text(self.alloc(), registered)));
         }
-        if !self.is_grown(place, stamp) {
+        if !self.is_grown(place, registered, stamp) {
             return Err(refusal(Code::NotGrown, name));
         }
         self.test_action(report, name, number, stamp, registered, action)
     }
 
     /// The tests of an action that is no absorb, behind those of its stamp.
-    fn test_action(
-        &self,
+    fn test_action<'a>(
+        &'a self,
         report: &Report,
-        name: &Name,
+        name: &'a Name,
         number: u32,
         stamp: &Stamp,
         registered: &Id,
-        action: &Action,
-    ) -> Result<Verdict, No>
+        action: &'a Action,
+    ) -> Result<Verdict, Refusal<'a>>
         requires registered { registered.now ≡ registered_id name.now self.now.accepted }
         requires fields { report.now ≡ reports.Numbered name.now number stamp.now action.now }
         requires own { IsNoAbsorb action.now }
         ensures { Tests (IsActionReply self.now.accepted name.now number stamp.now action.now) self.now.accepted result }
     {
         match action {
-            Action::Fork { kept, child, given } => {
-                self.test_fork(report, name, number, stamp, registered, kept, child, given)
+            Action::Fork(forked) => {
+                self.test_fork(report, name, number, stamp, registered, forked)
             }
             Action::Retire { target } => self.test_retire(report, name, number, stamp, target),
             Action::Check => self.test_room(report),
@@ -311,40 +323,38 @@ impl Chains {
     }
 
     /// The tests of a fork behind those of its stamp.
-    fn test_fork(
-        &self,
+    fn test_fork<'a>(
+        &'a self,
         report: &Report,
-        name: &Name,
+        name: &'a Name,
         number: u32,
         stamp: &Stamp,
         registered: &Id,
-        kept: &Id,
-        child: &Name,
-        given: &Id,
-    ) -> Result<Verdict, No>
+        forked: &'a Forked,
+    ) -> Result<Verdict, Refusal<'a>>
         requires registered { registered.now ≡ registered_id name.now self.now.accepted }
-        requires fields { report.now ≡ reports.Numbered name.now number stamp.now (actions.Fork kept.now child.now given.now) }
-        ensures { Tests (IsActionReply self.now.accepted name.now number stamp.now (actions.Fork kept.now child.now given.now)) self.now.accepted result }
+        requires fields { report.now ≡ reports.Numbered name.now number stamp.now (actions.Fork forked.now) }
+        ensures { Tests (IsActionReply self.now.accepted name.now number stamp.now (actions.Fork forked.now)) self.now.accepted result }
     {
-        match self.number_of(child) {
-            Some(_) => return Err(refusal(Code::NameTaken, child)),
+        match self.number_of(&forked.child) {
+            Some(_) => return Err(refusal(Code::NameTaken, &forked.child)),
             None => {}
         }
-        if !is_split(registered, kept, given) {
+        if !is_split(registered, &forked.kept, &forked.given) {
             return Err(refusal_with(Code::WrongParts, name, id_text(self.alloc(), registered)));
         }
         self.test_room(report)
     }
 
     /// The tests of a retirement behind those of its stamp.
-    fn test_retire(
-        &self,
+    fn test_retire<'a>(
+        &'a self,
         report: &Report,
-        name: &Name,
+        name: &'a Name,
         number: u32,
         stamp: &Stamp,
-        target: &Name,
-    ) -> Result<Verdict, No>
+        target: &'a Name,
+    ) -> Result<Verdict, Refusal<'a>>
         requires { report.now ≡ reports.Numbered name.now number stamp.now (actions.Retire target.now) }
         ensures { Tests (IsActionReply self.now.accepted name.now number stamp.now (actions.Retire target.now)) self.now.accepted result }
     {
@@ -358,16 +368,16 @@ impl Chains {
     }
 
     /// The tests of the stamp and the action of an absorb, of a retirement that waits.
-    fn test_absorb(
-        &self,
+    fn test_absorb<'a>(
+        &'a self,
         place: u32,
         partner: u32,
         report: &Report,
-        name: &Name,
+        name: &'a Name,
         number: u32,
         stamp: &Stamp,
-        retired: &Name,
-    ) -> Result<Verdict, No>
+        retired: &'a Name,
+    ) -> Result<Verdict, Refusal<'a>>
         requires place { name_of self.now.accepted place ≡ Some name.now }
         requires partner { name_of self.now.accepted partner ≡ Some retired.now }
         requires waits { Waits self.now.accepted retired.now name.now }
@@ -384,7 +394,7 @@ impl Chains {
                 sum_text(self.alloc(), registered, other),
             ));
         }
-        if !self.is_grown(place, stamp) {
+        if !self.is_grown(place, registered, stamp) {
             return Err(refusal(Code::NotGrown, name));
         }
         if !self.last_events(partner).leq(&stamp.events) {
@@ -394,17 +404,18 @@ impl Chains {
     }
 
     /// Whether the events are at or above the last ones, and greater at some point of the registered id.
-    fn is_grown(&self, place: u32, stamp: &Stamp) -> bool
-        requires { place < length (known self.now.accepted) }
+    fn is_grown(&self, place: u32, registered: &Id, stamp: &Stamp) -> bool
+        requires place { place < length (known self.now.accepted) }
+        requires registered { (p : AnyName) → name_of self.now.accepted place ≡ Some p → registered.now ≡ registered_id p self.now.accepted }
         ensures { (p : AnyName) → name_of self.now.accepted place ≡ Some p → IsTrue result ↔ AreGrown (last_events p self.now.accepted) (registered_id p self.now.accepted) stamp.now.events }
     {
         let last = self.last_events(place);
-        last.leq(&stamp.events) && stamp.events.exceeds_on(last, self.registered_id(place))
+        last.leq(&stamp.events) && stamp.events.exceeds_on(last, registered)
     }
 
     /// Whether one more report fits, and one more process where one is born by it.
     #[inline(always)]
-    fn test_room(&self, report: &Report) -> Result<Verdict, No>
+    fn test_room<'a>(&'a self, report: &Report) -> Result<Verdict, Refusal<'a>>
         ensures { Tests (FitsOrNot self.now.accepted report.now) self.now.accepted result }
     {
         if self.front() >= REPORT_LIMIT {
@@ -425,7 +436,7 @@ fn retired_in(action: &Action) -> Option<&Name>
         Action::Absorb { retired } => Some(retired),
         Action::Check => None,
         Action::Present => None,
-        Action::Fork { .. } => None,
+        Action::Fork(_) => None,
         Action::Retire { .. } => None,
     }
 }
@@ -437,7 +448,7 @@ pub(crate) fn is_birth(report: &Report) -> bool
     match report {
         Report::Begin { .. } => true,
         Report::Numbered {
-            action: Action::Fork { .. },
+            action: Action::Fork(_),
             ..
         } => true,
         _ => false,

@@ -8,7 +8,7 @@ use Rattle.event_tree.specs.declared.node.Node.TheVariants.{Leaf}
 
 abbrev pub tree_of : Node → EventTree
 tree_of (Leaf n) = trees.Leaf n
-tree_of (Branch' n p a q b) = trees.Node n (tree_of a) (tree_of b)
+tree_of (Branch' n p a b) = trees.Node n (tree_of a) (tree_of b)
 
 abbrev pub cost_of : GrowthCost → events.Cost
 cost_of c = record { opened = c.opened; levels = c.levels }

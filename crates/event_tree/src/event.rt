@@ -49,9 +49,9 @@ fn filled(alloc: Global, id: &IdView, e: &Node) -> Result<Node, AllocError>
         IdPart::Everything => Ok(Node::Leaf(e.greatest())),
         IdPart::Halves(l, r) => match e {
             Node::Leaf(n) => Ok(Node::Leaf(*n)),
-            Node::Branch(n, a, b) => {
-                let left = filled(alloc, &l, a)?;
-                let right = filled(alloc, &r, b)?;
+            Node::Branch(n, p) => {
+                let left = filled(alloc, &l, &p.0)?;
+                let right = filled(alloc, &r, &p.1)?;
                 filled_node(alloc, &l, &r, *n, left, right)
             }
         },
@@ -95,7 +95,7 @@ fn cost(id: &IdView, e: &Node) -> GrowthCost
             let zero = Node::Leaf(0);
             let (opened, a, b): (u32, &Node, &Node) = match e {
                 Node::Leaf(_) => (1, &zero, &zero),
-                Node::Branch(_, a, b) => (0, a, b),
+                Node::Branch(_, p) => (0, &p.0, &p.1),
             };
             let c = cost(&l, a);
             let d = cost(&r, b);
@@ -130,7 +130,7 @@ fn grown(alloc: Global, id: &IdView, base: u32, e: &Node) -> Result<Option<Node>
             let zero = Node::Leaf(0);
             let (n, a, b): (u32, &Node, &Node) = match e {
                 Node::Leaf(n) => (*n, &zero, &zero),
-                Node::Branch(n, a, b) => (*n, a, b),
+                Node::Branch(n, p) => (*n, &p.0, &p.1),
             };
             if grows_left(&l, &r, cost(&l, a), cost(&r, b)) {
                 match grown(alloc, &l, base + n, a)? {

@@ -16,9 +16,9 @@ fn raised(alloc: Global, k: u32, y: u32, f: &Node) -> Result<Node, AllocError>
 {
     match f {
         Node::Leaf(n) => Ok(Node::Leaf(k.max(y + *n))),
-        Node::Branch(n, c, d) => {
-            let left = raised(alloc, k, y + *n, c)?;
-            let right = raised(alloc, k, y + *n, d)?;
+        Node::Branch(n, q) => {
+            let left = raised(alloc, k, y + *n, &q.0)?;
+            let right = raised(alloc, k, y + *n, &q.1)?;
             Node::normal(alloc, 0, left, right)
         }
     }
@@ -33,14 +33,14 @@ pub fn join_from(alloc: Global, x: u32, e: &Node, y: u32, f: &Node) -> Result<No
 {
     match e {
         Node::Leaf(m) => raised(alloc, x + *m, y, f),
-        Node::Branch(m, a, b) => {
+        Node::Branch(m, p) => {
             let zero = Node::Leaf(0);
             let (n, c, d): (u32, &Node, &Node) = match f {
                 Node::Leaf(n) => (*n, &zero, &zero),
-                Node::Branch(n, c, d) => (*n, c, d),
+                Node::Branch(n, q) => (*n, &q.0, &q.1),
             };
-            let left = join_from(alloc, x + *m, a, y + n, c)?;
-            let right = join_from(alloc, x + *m, b, y + n, d)?;
+            let left = join_from(alloc, x + *m, &p.0, y + n, c)?;
+            let right = join_from(alloc, x + *m, &p.1, y + n, d)?;
             Node::normal(alloc, 0, left, right)
         }
     }

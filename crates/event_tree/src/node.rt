@@ -15,7 +15,7 @@ use std::alloc::{AllocError, Global};
 #[derive(Drop)]
 pub enum Node {
     Leaf(u32),
-    Branch(u32, Box<Node>, Box<Node>),
+    Branch(u32, Box<(Node, Node)>),
 }
 
 impl Node {
@@ -24,9 +24,9 @@ impl Node {
     {
         match (self, other) {
             (Node::Leaf(m), Node::Leaf(n)) => *m == *n,
-            (Node::Branch(m, a, b), Node::Branch(n, c, d)) => *m == *n
-                && a.is_same(c)
-                && b.is_same(d),
+            (Node::Branch(m, p), Node::Branch(n, q)) => *m == *n
+                && p.0.is_same(&q.0)
+                && p.1.is_same(&q.1),
             _ => false,
         }
     }
@@ -39,7 +39,7 @@ impl Node {
     {
         match self {
             Node::Leaf(n) => *n,
-            Node::Branch(n, a, b) => *n + a.least().min(b.least()),
+            Node::Branch(n, p) => *n + p.0.least().min(p.1.least()),
         }
     }
 
@@ -50,7 +50,7 @@ impl Node {
     {
         match self {
             Node::Leaf(n) => *n,
-            Node::Branch(n, a, b) => *n + a.greatest().max(b.greatest()),
+            Node::Branch(n, p) => *n + p.0.greatest().max(p.1.greatest()),
         }
     }
 
@@ -60,7 +60,7 @@ impl Node {
     {
         match self {
             Node::Leaf(n) => *n,
-            Node::Branch(n, _, _) => *n,
+            Node::Branch(n, _) => *n,
         }
     }
 
@@ -71,7 +71,7 @@ impl Node {
     {
         match self {
             Node::Leaf(n) => *n -= k,
-            Node::Branch(n, _, _) => *n -= k,
+            Node::Branch(n, _) => *n -= k,
         }
     }
 
@@ -82,7 +82,7 @@ impl Node {
     {
         match self {
             Node::Leaf(n) => *n += 1,
-            Node::Branch(n, _, _) => *n += 1,
+            Node::Branch(n, _) => *n += 1,
         }
     }
 
@@ -118,9 +118,9 @@ impl Node {
     {
         match self {
             Node::Leaf(n) => Ok(Node::Leaf(*n)),
-            Node::Branch(n, a, b) => {
-                let a = a.copy(alloc)?;
-                let b = b.copy(alloc)?;
+            Node::Branch(n, p) => {
+                let a = p.0.copy(alloc)?;
+                let b = p.1.copy(alloc)?;
                 Node::branch(alloc, *n, a, b)
             }
         }
@@ -130,7 +130,7 @@ impl Node {
     pub fn branch(alloc: Global, n: u32, a: Node, b: Node) -> Result<Node, AllocError>
         ensures { IfOk result (λ node. tree_of node ≡ trees.Node n (tree_of a) (tree_of b)) }
     {
-        Ok(Node::Branch(n, Box::new(alloc, a)?, Box::new(alloc, b)?))
+        Ok(Node::Branch(n, Box::new(alloc, (a, b))?))
     }
 
     pub fn write(&self, out: &mut Vec<u8>) -> Result<(), AllocError>
@@ -139,13 +139,13 @@ impl Node {
     {
         match self {
             Node::Leaf(n) => write_number(*n, out)?,
-            Node::Branch(n, a, b) => {
+            Node::Branch(n, p) => {
                 out.push(b'(')?;
                 write_number(*n, out)?;
                 out.push(b',')?;
-                a.write(out)?;
+                p.0.write(out)?;
                 out.push(b',')?;
-                b.write(out)?;
+                p.1.write(out)?;
                 out.push(b')')?;
             }
         }

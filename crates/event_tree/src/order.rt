@@ -30,15 +30,16 @@ fn is_below_walk(x: u32, e: &Node, y: u32, f: &Node) -> bool
 {
     match e {
         Node::Leaf(m) => x + *m <= y + f.least(),
-        Node::Branch(m, a, b) => {
+        Node::Branch(m, p) => {
             let zero = Node::Leaf(0);
             match f {
                 Node::Leaf(n) => {
-                    is_below_walk(x + *m, a, y + *n, &zero)
-                        && is_below_walk(x + *m, b, y + *n, &zero)
+                    is_below_walk(x + *m, &p.0, y + *n, &zero)
+                        && is_below_walk(x + *m, &p.1, y + *n, &zero)
                 }
-                Node::Branch(n, c, d) => {
-                    is_below_walk(x + *m, a, y + *n, c) && is_below_walk(x + *m, b, y + *n, d)
+                Node::Branch(n, q) => {
+                    is_below_walk(x + *m, &p.0, y + *n, &q.0)
+                        && is_below_walk(x + *m, &p.1, y + *n, &q.1)
                 }
             }
         }
@@ -58,11 +59,11 @@ pub fn exceeds_from(id: &IdView, x: u32, e: &Node, y: u32, f: &Node) -> bool
             let zero = Node::Leaf(0);
             let (m, a, b): (u32, &Node, &Node) = match e {
                 Node::Leaf(m) => (*m, &zero, &zero),
-                Node::Branch(m, a, b) => (*m, a, b),
+                Node::Branch(m, p) => (*m, &p.0, &p.1),
             };
             let (n, c, d): (u32, &Node, &Node) = match f {
                 Node::Leaf(n) => (*n, &zero, &zero),
-                Node::Branch(n, c, d) => (*n, c, d),
+                Node::Branch(n, q) => (*n, &q.0, &q.1),
             };
             exceeds_from(&l, x + m, a, y + n, c) || exceeds_from(&r, x + m, b, y + n, d)
         }

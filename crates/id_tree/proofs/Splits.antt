@@ -25,7 +25,7 @@ both_owned (Pair a b) (Pair c d) h k = (refl, refl)
 other_node : (n : Node) → n ≢ nodes.Zero → tree_of n ≢ Zero
 other_node nodes.Zero h e = h refl
 other_node nodes.One h e = cc
-other_node (Pair' p l q r) h e = cc
+other_node (Pair' p l r) h e = cc
 
 pub left_of_both : (l r : Node) → l ≢ nodes.Zero → r ≢ nodes.Zero → left_part (Pair (tree_of l) (tree_of r)) ≡ Pair (tree_of l) Zero
 left_of_both l r h k = (both_owned (tree_of l) (tree_of r) (other_node l h) (other_node r k)).0

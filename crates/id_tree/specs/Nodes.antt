@@ -6,4 +6,4 @@ use Rattle.id_tree.specs.declared.node.Node.TheVariants as nodes
 abbrev pub tree_of : Node → IdTree
 tree_of nodes.Zero = Zero
 tree_of nodes.One = One
-tree_of (Pair' p l q r) = Pair (tree_of l) (tree_of r)
+tree_of (Pair' p l r) = Pair (tree_of l) (tree_of r)

@@ -16,7 +16,7 @@ use std::alloc::{AllocError, Global};
 pub enum Node {
     Zero,
     One,
-    Pair(Box<Node>, Box<Node>),
+    Pair(Box<(Node, Node)>),
 }
 
 impl Node {
@@ -25,7 +25,7 @@ impl Node {
     {
         match (self, other) {
             (Node::Zero, Node::Zero) | (Node::One, Node::One) => true,
-            (Node::Pair(a, b), Node::Pair(c, d)) => a.is_same(c) && b.is_same(d),
+            (Node::Pair(p), Node::Pair(q)) => p.0.is_same(&q.0) && p.1.is_same(&q.1),
             _ => false,
         }
     }
@@ -42,7 +42,7 @@ impl Node {
     {
         match (self, other) {
             (Node::Zero, _) | (_, Node::Zero) => true,
-            (Node::Pair(a, b), Node::Pair(c, d)) => a.is_disjoint(c) && b.is_disjoint(d),
+            (Node::Pair(p), Node::Pair(q)) => p.0.is_disjoint(&q.0) && p.1.is_disjoint(&q.1),
             _ => false,
         }
     }
@@ -54,10 +54,10 @@ impl Node {
         match (left, right) {
             (Node::Zero, _) => self.is_same(right),
             (_, Node::Zero) => self.is_same(left),
-            (Node::Pair(a, b), Node::Pair(c, d)) => match self {
+            (Node::Pair(p), Node::Pair(q)) => match self {
                 Node::Zero => false,
-                Node::One => self.is_sum_of(a, c) && self.is_sum_of(b, d),
-                Node::Pair(l, r) => l.is_sum_of(a, c) && r.is_sum_of(b, d),
+                Node::One => self.is_sum_of(&p.0, &q.0) && self.is_sum_of(&p.1, &q.1),
+                Node::Pair(s) => s.0.is_sum_of(&p.0, &q.0) && s.1.is_sum_of(&p.1, &q.1),
             },
             _ => false,
         }
@@ -79,7 +79,7 @@ impl Node {
     {
         match self {
             Node::Zero | Node::One => true,
-            Node::Pair(l, r) => room > 0 && l.fits(room - 1) && r.fits(room - 1),
+            Node::Pair(p) => room > 0 && p.0.fits(room - 1) && p.1.fits(room - 1),
         }
     }
 
@@ -89,9 +89,9 @@ impl Node {
         match self {
             Node::Zero => Ok(Node::Zero),
             Node::One => Ok(Node::One),
-            Node::Pair(l, r) => {
-                let l = l.copy(alloc)?;
-                let r = r.copy(alloc)?;
+            Node::Pair(p) => {
+                let l = p.0.copy(alloc)?;
+                let r = p.1.copy(alloc)?;
                 Node::pair(alloc, l, r)
             }
         }
@@ -101,7 +101,7 @@ impl Node {
     pub fn pair(alloc: Global, l: Node, r: Node) -> Result<Node, AllocError>
         ensures { IfOk result (λ n. tree_of n ≡ Pair (tree_of l) (tree_of r)) }
     {
-        Ok(Node::Pair(Box::new(alloc, l)?, Box::new(alloc, r)?))
+        Ok(Node::Pair(Box::new(alloc, (l, r))?))
     }
 
     // The pair of two halves, or the leaf that both are.
@@ -122,9 +122,9 @@ impl Node {
         match (self, other) {
             (Node::Zero, _) => other.copy(alloc),
             (_, Node::Zero) => self.copy(alloc),
-            (Node::Pair(a, b), Node::Pair(c, d)) => {
-                let l = a.sum(alloc, c)?;
-                let r = b.sum(alloc, d)?;
+            (Node::Pair(p), Node::Pair(q)) => {
+                let l = p.0.sum(alloc, &q.0)?;
+                let r = p.1.sum(alloc, &q.1)?;
                 Node::normal_pair(alloc, l, r)
             }
             _ => Ok(Node::One),
@@ -149,9 +149,9 @@ impl Node {
                 let right = Node::pair(alloc, Node::Zero, Node::One)?;
                 return Ok((left, right));
             }
-            Node::Pair(l, r) => (l, r),
+            Node::Pair(p) => (&p.0, &p.1),
         };
-        match (&**l, &**r) {
+        match (l, r) {
             (Node::Zero, r) => {
                 let (a, b) = r.split(alloc, room - 1)?;
                 let left = Node::pair(alloc, Node::Zero, a)?;
@@ -181,11 +181,11 @@ impl Node {
         match self {
             Node::Zero => out.push(b'0')?,
             Node::One => out.push(b'1')?,
-            Node::Pair(l, r) => {
+            Node::Pair(p) => {
                 out.push(b'(')?;
-                l.write(out)?;
+                p.0.write(out)?;
                 out.push(b',')?;
-                r.write(out)?;
+                p.1.write(out)?;
                 out.push(b')')?;
             }
         }

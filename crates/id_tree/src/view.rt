@@ -49,7 +49,7 @@ impl<'a> IdView<'a> {
         match self.node {
             Node::Zero => IdPart::Nothing,
             Node::One => IdPart::Everything,
-            Node::Pair(l, r) => IdPart::Halves(IdView { node: l }, IdView { node: r }),
+            Node::Pair(p) => IdPart::Halves(IdView { node: &p.0 }, IdView { node: &p.1 }),
         }
     }
 }

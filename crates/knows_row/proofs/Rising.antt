@@ -86,7 +86,7 @@ only_events false s e same = tt
 made_events : (p q : Name) (n : ℕ) (s : Stamp) (a : Action) → HasEvents (lasting_made p (Numbered q n s a)) s.events
 made_events p q n s Check = only_events (bytes_eq p q) s s.events refl
 made_events p q n s Present = tt
-made_events p q n s (Fork kept child given) = only_events (bytes_eq p child) (record { id = given; events = s.events }) s.events refl
+made_events p q n s (Fork f) = only_events (bytes_eq p f.child) (record { id = f.given; events = s.events }) s.events refl
 made_events p q n s (Retire target) = tt
 made_events p q n s (Absorb retired) = tt
 
@@ -121,7 +121,7 @@ other_last p q accepted n s a other unborn =
 other_made : (p q : Name) (n : ℕ) (s : Stamp) (a : Action) → p ≢ q → is_birth_of p (Numbered q n s a) ≡ false → lasting_made p (Numbered q n s a) ≡ None
 other_made p q n s Check other unborn = ap (λ (b : Bool). only_if b s) (other_bytes p q other)
 other_made p q n s Present other unborn = refl
-other_made p q n s (Fork kept child given) other unborn = ap (λ (b : Bool). only_if b (record { id = given; events = s.events })) unborn
+other_made p q n s (Fork f) other unborn = ap (λ (b : Bool). only_if b (record { id = f.given; events = s.events })) unborn
 other_made p q n s (Retire target) other unborn = refl
 other_made p q n s (Absorb retired) other unborn = refl
 
@@ -148,7 +148,7 @@ born_last p q accepted n s a other none born =
 born_of : (p q : Name) (n : ℕ) (s : Stamp) (a : Action) (accepted : List Report) → Passed accepted q s a → is_birth_of p (Numbered q n s a) ≡ true → ¬ IsKnown accepted p
 born_of p q n s Check accepted passed e = absurd (true≢false (sym e))
 born_of p q n s Present accepted passed e = absurd (true≢false (sym e))
-born_of p q n s (Fork kept child given) accepted passed e = unknown_child accepted q (Fork kept child given) passed.fit p (ap (λ (m : Name). Some m) (sym ((bytes_eq-Decides p child).0 e)))
+born_of p q n s (Fork f) accepted passed e = unknown_child accepted q (Fork f) passed.fit p (ap (λ (m : Name). Some m) (sym ((bytes_eq-Decides p f.child).0 e)))
 born_of p q n s (Retire target) accepted passed e = absurd (true≢false (sym e))
 born_of p q n s (Absorb retired) accepted passed e = absurd (true≢false (sym e))
 
@@ -193,7 +193,7 @@ with_present low ss None birth h = subst (λ (l : List Stamp). Rise low l (event
 with_present low ss (Some (Begin p)) birth h = subst (λ (l : List Stamp). Rise low l (Leaf 0)) (sym (append-nil ss)) h
 with_present low ss (Some (Numbered p n s Check)) birth h = subst (λ (l : List Stamp). Rise low l s.events) (sym (append-nil ss)) h
 with_present low ss (Some (Numbered p n s Present)) birth h = rise_more low ss s.events s h (below_same s.events s.events refl)
-with_present low ss (Some (Numbered p n s (Fork kept child given))) birth h = subst (λ (l : List Stamp). Rise low l s.events) (sym (append-nil ss)) h
+with_present low ss (Some (Numbered p n s (Fork f))) birth h = subst (λ (l : List Stamp). Rise low l s.events) (sym (append-nil ss)) h
 with_present low ss (Some (Numbered p n s (Retire target))) birth h = subst (λ (l : List Stamp). Rise low l s.events) (sym (append-nil ss)) h
 with_present low ss (Some (Numbered p n s (Absorb retired))) birth h = subst (λ (l : List Stamp). Rise low l s.events) (sym (append-nil ss)) h
 

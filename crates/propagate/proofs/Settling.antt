@@ -27,7 +27,7 @@ no_present None e = refl
 no_present (Some (Begin p)) e = refl
 no_present (Some (Numbered p n s Check)) e = absurd (true≢false (sym e))
 no_present (Some (Numbered p n s Present)) e = absurd (true≢false (sym e))
-no_present (Some (Numbered p n s (Fork kept child given))) e = refl
+no_present (Some (Numbered p n s (Fork f))) e = refl
 no_present (Some (Numbered p n s (Retire target))) e = refl
 no_present (Some (Numbered p n s (Absorb retired))) e = refl
 

@@ -53,7 +53,7 @@ kind_of calls.Unread = 0
 numbered_kind : (a : Action) (words : List (List ℕ)) → kind_in (action_word a ∷ words) ≡ 5
 numbered_kind Check words = refl
 numbered_kind Present words = refl
-numbered_kind (Fork kept child given) words = refl
+numbered_kind (Fork f) words = refl
 numbered_kind (Retire target) words = refl
 numbered_kind (Absorb retired) words = refl
 
@@ -71,16 +71,17 @@ kind_is calls.Unread = refl
 parts : (x y : List ℕ) (xs ys : List (List ℕ)) → x ∷ xs ≡ y ∷ ys → (x ≡ y) × (xs ≡ ys)
 parts x y xs ys e = (cc, cc)
 
-same_fork : (i k : IdTree) (c d : List ℕ) (j l : IdTree) → i ≡ k → c ≡ d → j ≡ l → Fork i c j ≡ Fork k d l
+same_fork : (i k : IdTree) (c d : List ℕ) (j l : IdTree) → i ≡ k → c ≡ d → j ≡ l
+    → Fork (record { kept = i; child = c; given = j }) ≡ Fork (record { kept = k; child = d; given = l })
 same_fork i k c d j l e f g = cc
 
 same_action : (a b : Action) → mark (action_word a) ≡ mark (action_word b) → action_fields a ≡ action_fields b → a ≡ b
 same_action Check Check k e = refl
 same_action Present Present k e = refl
-same_action (Fork i c j) (Fork k d l) is e =
+same_action (Fork f) (Fork g) is e =
     let first = parts _ _ _ _ e in
     let second = parts _ _ _ _ first.1 in
-    same_fork i k c d j l (ids_verdicts.one_spelling i k first.0) second.0 (ids_verdicts.one_spelling j l (parts _ _ _ _ second.1).0)
+    same_fork f.kept g.kept f.child g.child f.given g.given (ids_verdicts.one_spelling f.kept g.kept first.0) second.0 (ids_verdicts.one_spelling f.given g.given (parts _ _ _ _ second.1).0)
 same_action (Retire p) (Retire q) k e = ap Retire (parts p q [] [] e).0
 same_action (Absorb p) (Absorb q) k e = ap Absorb (parts p q [] [] e).0
 same_action a b k e = absurd (omega (arith, k))
@@ -156,10 +157,10 @@ NoFork fields = (a : Action) → IsAction a → mark (codes "FORK") ≡ mark (ac
 
 no_fork : (fields behind rest : List (List ℕ)) (kept : IdTree) (child : List ℕ) → fields ≡ ids.spelling kept ∷ behind → behind ≡ child ∷ rest
     → ((i : IdTree) → IsId i → (more : List (List ℕ)) → rest ≢ ids.spelling i ∷ more) → NoFork fields
-no_fork fields behind rest kept child e f none (Fork i d j) is k g =
+no_fork fields behind rest kept child e f none (Fork made) is k g =
     let first = parts _ _ _ _ (sym e ∙ g) in
     let second = parts _ _ _ _ (sym f ∙ first.1) in
-    none j is.2 [] second.1
+    none made.given is.2 [] second.1
 no_fork fields behind rest kept child e f none a is k g = absurd (omega (arith, k))
 
 pub no_second_id : (fault : LineFault) (fields behind rest new : List (List ℕ)) (kept : IdTree) (child : List ℕ) → fields ≡ ids.spelling kept ∷ behind → behind ≡ child ∷ rest

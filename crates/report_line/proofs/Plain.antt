@@ -65,7 +65,7 @@ plain_names (n ∷ m ∷ ns) are = plain_cut n (names_text (m ∷ ns)) (plain_na
 plain_kind : (a : Action) → Lacks 32 (action_word a)
 plain_kind Check = (refl, (refl, (refl, (refl, (refl, tt)))))
 plain_kind Present = (refl, (refl, (refl, (refl, (refl, (refl, (refl, tt)))))))
-plain_kind (Fork kept child given) = (refl, (refl, (refl, (refl, tt))))
+plain_kind (Fork f) = (refl, (refl, (refl, (refl, tt))))
 plain_kind (Retire target) = (refl, (refl, (refl, (refl, (refl, (refl, tt))))))
 plain_kind (Absorb retired) = (refl, (refl, (refl, (refl, (refl, (refl, tt))))))
 
@@ -76,7 +76,7 @@ ArePlain words = AllByRecursion (Lacks 32) words
 plain_fields : (a : Action) → IsAction a → ArePlain (action_fields a)
 plain_fields Check is = tt
 plain_fields Present is = tt
-plain_fields (Fork kept child given) is = (plain_id kept, (plain_name child is.1, (plain_id given, tt)))
+plain_fields (Fork f) is = (plain_id f.kept, (plain_name f.child is.1, (plain_id f.given, tt)))
 plain_fields (Retire target) is = (plain_name target is, tt)
 plain_fields (Absorb retired) is = (plain_name retired is, tt)
 

@@ -1,5 +1,5 @@
 -- What is read off a report.
-use Rattle.std.specs.Prelude.{ℕ, List}
+use Rattle.std.specs.Prelude.{ℕ, List, Option, Some, None}
 use Rattle.report_line.specs.declared.report.Report.{Report}
 use Rattle.report_line.specs.declared.report.Report.TheVariants.{Begin, Numbered}
 
@@ -7,3 +7,8 @@ use Rattle.report_line.specs.declared.report.Report.TheVariants.{Begin, Numbered
 abbrev pub process_of : Report → List ℕ
 process_of (Begin p) = p
 process_of (Numbered p n s a) = p
+
+-- its number, if it has one
+abbrev pub number_of : Report → Option ℕ
+number_of (Begin p) = None
+number_of (Numbered p n s a) = Some n

@@ -30,7 +30,7 @@ names_text (n ∷ ns) = join_with_byte 44 (n ∷ ns)
 abbrev pub action_word : Action → List ℕ
 action_word Check = codes "CHECK"
 action_word Present = codes "PRESENT"
-action_word (Fork kept child given) = codes "FORK"
+action_word (Fork f) = codes "FORK"
 action_word (Retire target) = codes "RETIRE"
 action_word (Absorb retired) = codes "ABSORB"
 
@@ -38,7 +38,7 @@ action_word (Absorb retired) = codes "ABSORB"
 abbrev pub action_fields : Action → List (List ℕ)
 action_fields Check = []
 action_fields Present = []
-action_fields (Fork kept child given) = ids.spelling kept ∷ child ∷ ids.spelling given ∷ []
+action_fields (Fork f) = ids.spelling f.kept ∷ f.child ∷ ids.spelling f.given ∷ []
 action_fields (Retire target) = target ∷ []
 action_fields (Absorb retired) = retired ∷ []
 
@@ -60,7 +60,7 @@ spelling c = join_with_byte 32 (words_of c)
 abbrev pub IsAction : Action → Type 0
 IsAction Check = ⊤
 IsAction Present = ⊤
-IsAction (Fork kept child given) = IsId kept × IsTrue (is_name child) × IsId given
+IsAction (Fork f) = IsId f.kept × IsTrue (is_name f.child) × IsId f.given
 IsAction (Retire target) = IsTrue (is_name target)
 IsAction (Absorb retired) = IsTrue (is_name retired)
 

@@ -12,7 +12,7 @@ pub enum Call {
     /// Where do all processes recover from, once these have failed?
     Line(Names),
     /// What is kept of this process?
-    State(Name),
+    State(Shared<Name>),
     /// The client is done.
     Bye,
     /// A line that is no call, by the number of what is wrong with it.

@@ -26,7 +26,7 @@ pub use feed::{Feed, Lines, lines_of_a_stream, pieces_do_not_matter};
 pub use name::{Name, Names};
 pub use reading::{a_line_has_one_call, read_line};
 pub use reply::{Outcome, Reply};
-pub use report::{Action, Report};
+pub use report::{Action, Forked, Report};
 pub use shared::Shared;
 pub use text::Text;
 pub use writing::{write_line, write_reply};

@@ -212,11 +212,11 @@ fn read_failed(alloc: Global, words: &mut Words<'_>) -> Result<Call, LineFault>
     }
 }
 
-fn read_state(words: &mut Words<'_>) -> Result<Call, LineFault>
+fn read_state(alloc: Global, words: &mut Words<'_>) -> Result<Call, LineFault>
     ensures { Finds result (IsCallOf (codes "STATE" ∷ words.old)) }
 {
     let process = last_name(words)?;
-    Ok(Call::State(process))
+    Ok(Call::State(Shared::new(alloc, process)?))
 }
 
 fn read_bye(words: &Words<'_>) -> Result<Call, LineFault>
@@ -241,7 +241,7 @@ fn read_call(alloc: Global, line: &[u8]) -> Result<Call, LineFault>
     } else if kind == b"LINE".as_slice() {
         read_failed(alloc, &mut words)
     } else if kind == b"STATE".as_slice() {
-        read_state(&mut words)
+        read_state(alloc, &mut words)
     } else if kind == b"BYE".as_slice() {
         read_bye(&words)
     } else {

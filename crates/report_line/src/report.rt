@@ -1,13 +1,24 @@
 //! What a process reports of itself.
 
 ghost use Rattle.std.specs.Prelude.{◌≡◌, ◌↔◌, IsTrue, IfOk};
-ghost use Rattle.report_line.specs.Reports.{process_of};
+ghost use Rattle.report_line.specs.Reports.{process_of, number_of};
 
 use crate::name::Name;
 use crate::shared::Shared;
 use id_tree::Id;
 use stamp::Stamp;
 use std::alloc::{AllocError, Global};
+
+/// What a fork made.
+#[derive(Drop)]
+pub struct Forked {
+    /// The part of the id that the process keeps.
+    pub kept: Id,
+    /// The child.
+    pub child: Name,
+    /// The part of the id that the child begins with.
+    pub given: Id,
+}
 
 /// What a process did, of which it reports. What only some reports have stands apart, so that all of them are short.
 #[derive(Drop)]
@@ -17,19 +28,11 @@ pub enum Action {
     /// It is in this state, and stays in it until its next report.
     Present,
     /// It made a child. Of its id it keeps one part, and the child begins with the other one and the same events.
-    Fork {
-        kept: Shared<Id>,
-        child: Shared<Name>,
-        given: Shared<Id>,
-    },
+    Fork(Shared<Forked>),
     /// It ended, and its stamp goes to the target.
-    Retire {
-        target: Shared<Name>,
-    },
+    Retire { target: Shared<Name> },
     /// It took up the stamp of a process that retired into it.
-    Absorb {
-        retired: Shared<Name>,
-    },
+    Absorb { retired: Shared<Name> },
 }
 
 /// What a process reports of itself.
@@ -49,16 +52,24 @@ pub enum Report {
     },
 }
 
+impl Forked {
+    /// Whether the two made the same.
+    pub fn equal(&self, other: &Forked) -> bool
+        ensures { IsTrue result ↔ (self.now ≡ other.now) }
+    {
+        self.kept.equal(&other.kept)
+            && self.child.as_bytes() == other.child.as_bytes()
+            && self.given.equal(&other.given)
+    }
+}
+
 impl Action {
     /// A child is made: of the id one part is kept, and the other one is given to the child.
     pub fn fork(alloc: Global, kept: Id, child: Name, given: Id) -> Result<Action, AllocError>
-        ensures { IfOk result (λ a. a ≡ Action.Fork kept child given) }
+        ensures { IfOk result (λ a. a ≡ Action.Fork (record { kept = kept; child = child; given = given })) }
     {
-        Ok(Action::Fork {
-            kept: Shared::new(alloc, kept)?,
-            child: Shared::new(alloc, child)?,
-            given: Shared::new(alloc, given)?,
-        })
+        let forked = Shared::new(alloc, Forked { kept, child, given })?;
+        Ok(Action::Fork(forked))
     }
 
     /// The same action once more. What stands apart is shared.
@@ -68,11 +79,7 @@ impl Action {
         match self {
             Action::Check => Ok(Action::Check),
             Action::Present => Ok(Action::Present),
-            Action::Fork { kept, child, given } => Ok(Action::Fork {
-                kept: kept.share()?,
-                child: child.share()?,
-                given: given.share()?,
-            }),
+            Action::Fork(forked) => Ok(Action::Fork(forked.share()?)),
             Action::Retire { target } => Ok(Action::Retire {
                 target: target.share()?,
             }),
@@ -89,18 +96,7 @@ impl Action {
         match (self, other) {
             (Action::Check, Action::Check) => true,
             (Action::Present, Action::Present) => true,
-            (
-                Action::Fork {
-                    kept: i,
-                    child: c,
-                    given: j,
-                },
-                Action::Fork {
-                    kept: k,
-                    child: d,
-                    given: l,
-                },
-            ) => i.equal(k) && c.as_bytes() == d.as_bytes() && j.equal(l),
+            (Action::Fork(f), Action::Fork(g)) => f.equal(g),
             (Action::Retire { target: p }, Action::Retire { target: q }) => {
                 p.as_bytes() == q.as_bytes()
             }
@@ -120,6 +116,16 @@ impl Report {
         match self {
             Report::Begin { process } => process,
             Report::Numbered { process, .. } => process,
+        }
+    }
+
+    /// The number of the report, which a `BEGIN` has not.
+    pub fn number(&self) -> Option<u32>
+        ensures { result ≡ number_of self.now }
+    {
+        match self {
+            Report::Begin { .. } => None,
+            Report::Numbered { number, .. } => Some(*number),
         }
     }
 

@@ -28,7 +28,7 @@ fn push_kind(out: &mut Vec<u8>, action: &Action) -> Result<(), AllocError>
     match action {
         Action::Check => out.extend_from_slice(b"CHECK"),
         Action::Present => out.extend_from_slice(b"PRESENT"),
-        Action::Fork { .. } => out.extend_from_slice(b"FORK"),
+        Action::Fork(_) => out.extend_from_slice(b"FORK"),
         Action::Retire { .. } => out.extend_from_slice(b"RETIRE"),
         Action::Absorb { .. } => out.extend_from_slice(b"ABSORB"),
     }
@@ -58,13 +58,13 @@ fn push_fields(out: &mut Vec<u8>, action: &Action) -> Result<(), AllocError>
 {
     match action {
         Action::Check | Action::Present => {}
-        Action::Fork { kept, child, given } => {
+        Action::Fork(forked) => {
             out.push(b' ')?;
-            kept.write_to(out)?;
+            forked.kept.write_to(out)?;
             out.push(b' ')?;
-            out.extend_from_slice(child.as_bytes())?;
+            out.extend_from_slice(forked.child.as_bytes())?;
             out.push(b' ')?;
-            given.write_to(out)?;
+            forked.given.write_to(out)?;
         }
         Action::Retire { target: name } | Action::Absorb { retired: name } => {
             out.push(b' ')?;

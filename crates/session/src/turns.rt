@@ -84,10 +84,9 @@ fn text_of(alloc: Global, id: Option<&Id>) -> Result<Text, AllocError>
     Ok(Text::from_vec(text))
 }
 
-/// The turn of a question for a state, if memory suffices for it.
-#[cold]
-fn state_of(chains: &Chains, name: Name) -> Result<Reply, AllocError>
-    ensures { IfOk result (λ shown. Shows chains.now.accepted (calls.State name) chains.now.accepted shown) }
+/// What is shown for a question for a state, if memory suffices for it.
+fn state_of(chains: &Chains, name: &Name) -> Result<Reply, AllocError>
+    ensures { IfOk result (λ shown. Shows chains.now.accepted (calls.State name.now) chains.now.accepted shown) }
 {
     if chains.front() == 0 {
         return Ok(refusal(Code::NothingBegun));
@@ -98,22 +97,30 @@ fn state_of(chains: &Chains, name: Name) -> Result<Reply, AllocError>
             elements,
             id,
         },
-    ) = chains.state(&name)
+    ) = chains.state(name)
     else {
         return Ok(Reply::No {
             code: Code::UnknownProcess,
-            name: Some(name),
+            name: Some(name.copy()),
             value: None,
         });
     };
     let text = text_of(chains.alloc(), id)?;
     Ok(Reply::State {
-        name,
+        name: name.copy(),
         reports,
         elements,
         live: id.is_some(),
         id: text,
     })
+}
+
+/// The turn of a question for a state, if memory suffices for it.
+#[cold]
+fn state_asked(chains: &Chains, name: Shared<Name>) -> Result<Reply, AllocError>
+    ensures { IfOk result (λ shown. Shows chains.now.accepted (calls.State name) chains.now.accepted shown) }
+{
+    state_of(chains, &name)
 }
 
 /// The turn of a line that no call was read off.
@@ -163,7 +170,7 @@ impl Turns {
         match read {
             Ok(Call::Report(report)) => Ok(admit(chains, report)),
             Ok(Call::Line(names)) => Ok(line_of(chains, names.as_slice())),
-            Ok(Call::State(name)) => match state_of(chains, name) {
+            Ok(Call::State(name)) => match state_asked(chains, name) {
                 Ok(shown) => Ok(shown),
                 Err(fault) => {
                     self.made = before;

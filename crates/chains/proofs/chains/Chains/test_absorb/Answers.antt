@@ -32,8 +32,8 @@ returns-then-not-is_sum_of c =
     accepted c.refusal_with.result WrongId p (spelling expected) c.sum_text.result c.refusal_with.ensures (rw (← left, ← right) c.sum_text.ensures)
     (λ e. both_ways c.is_sum_of.result c.if-not-is_sum_of.true ((told_sum _ _ (registered_id p accepted) (registered_id r accepted) s.id c.is_sum_of.result left right c.requires.apart c.is_sum_of.ensures.sum).1 e))
 
-pub is_grown-requires : goal.is_grown-requires
-is_grown-requires c = slice_get_within (known c.args.self.now.accepted) c.args.place c.args.name.now c.requires.place
+pub is_grown-requires-clause-place : goal.is_grown-requires-clause-place
+is_grown-requires-clause-place c = slice_get_within (known c.args.self.now.accepted) c.args.place c.args.name.now c.requires.place
 
 pub last_events-requires : goal.last_events-requires
 last_events-requires c = slice_get_within (known c.args.self.now.accepted) c.args.partner c.args.retired.now c.requires.partner

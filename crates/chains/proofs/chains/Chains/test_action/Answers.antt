@@ -7,5 +7,5 @@ use Rattle.chains.proofs.chains.Chains.test_action.Goals as goal
 
 pub returns-in-Fork : goal.returns-in-Fork
 returns-in-Fork c =
-    let is : c.args.action.now ≡ Fork c.deref.result.now c.deref-in-Fork.result.now c.deref-in-Fork-2.result.now = rw (c.deref.ensures, c.deref-in-Fork.ensures, c.deref-in-Fork-2.ensures) c.in-Fork.is in
+    let is : c.args.action.now ≡ Fork c.deref.result.now = rw c.deref.ensures c.in-Fork.is in
     subst (λ (a : Action). Tests (IsActionReply c.args.self.now.accepted c.args.name.now c.args.number c.args.stamp.now a) c.args.self.now.accepted c.test_fork.result) (sym is) c.test_fork.ensures

@@ -17,11 +17,11 @@ pub returns-then-not-is_split : goal.returns-then-not-is_split
 returns-then-not-is_split c =
     let accepted = c.args.self.now.accepted in
     let p = c.args.name.now in
-    let kept = c.args.kept.now in
-    let child = c.args.child.now in
-    let given = c.args.given.now in
+    let kept = c.args.forked.now.kept in
+    let child = c.args.forked.now.child in
+    let given = c.args.forked.now.given in
     let id = registered_id p accepted in
-    let last = FitsOrNot accepted (Numbered p c.args.number c.args.stamp.now (Fork kept child given)) in
+    let last = FitsOrNot accepted (Numbered p c.args.number c.args.stamp.now (Fork c.args.forked.now)) in
     passed_on (IsKnown accepted child) (No NameTaken (Some child) None) (λ a. Decides (¬ IsSplit id kept given) (No WrongParts (Some p) (Some (spelling id))) a (last a)) accepted (Err c.refusal_with.result) c.in-None.ensures
     (refuses (¬ IsSplit id kept given) last accepted c.refusal_with.result WrongParts p (spelling id) c.id_text.result c.refusal_with.ensures
     (subst (λ (i : IdTree). IfOk c.id_text.result (λ t. t ≡ spelling i)) c.requires.registered c.id_text.ensures)

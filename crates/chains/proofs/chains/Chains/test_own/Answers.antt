@@ -22,8 +22,8 @@ returns-then-not-equal c =
     accepted c.refusal_with.result WrongId p (spelling (expected_id accepted p a)) c.id_text.result c.refusal_with.ensures
     (subst (λ (i : IdTree). IfOk c.id_text.result (λ t. t ≡ spelling i)) same c.id_text.ensures) (λ e. both_ways c.equal.result c.if-not-equal.true (c.equal.ensures.1 (e ∙ sym same)))
 
-pub is_grown-requires : goal.is_grown-requires
-is_grown-requires c = slice_get_within (known c.args.self.now.accepted) c.args.place c.args.name.now c.requires.place
+pub is_grown-requires-clause-place : goal.is_grown-requires-clause-place
+is_grown-requires-clause-place c = slice_get_within (known c.args.self.now.accepted) c.args.place c.args.name.now c.requires.place
 
 pub returns : goal.returns
 returns c =

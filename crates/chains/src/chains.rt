@@ -405,11 +405,7 @@ impl Chains {
         ensures ready { IfOk result (λ prepared. IsReady prepared self.new) }
     {
         let number = self.number_in(report);
-        let verdict = match self.test(report, number) {
-            Err(refusal) => return Err(refusal.named()),
-            Ok(verdict) => verdict,
-        };
-        match verdict {
+        match self.tested(report, number)? {
             Verdict::Old => Ok(Prepared::Old(self.front())),
             Verdict::Fits => {
                 let Ok(copy) = shared_copy(self.alloc, report) else {
@@ -473,13 +469,10 @@ impl Chains {
         ensures turn { (fate : Fate) × IsReportTurn fate self.old.accepted report (reply_of result) self.new.accepted }
     {
         let number = self.number_in(&report);
-        let verdict = match self.test(&report, number) {
-            Err(refusal) => return Err(refusal.named()),
-            Ok(verdict) => verdict,
-        };
-        match verdict {
-            Verdict::Old => Ok(Admitted::Old(self.front())),
-            Verdict::Fits => match self.ready(report, number) {
+        match self.tested(&report, number) {
+            Err(refused) => Err(refused),
+            Ok(Verdict::Old) => Ok(Admitted::Old(self.front())),
+            Ok(Verdict::Fits) => match self.ready(report, number) {
                 Ok(ready) => Ok(self.commit(Prepared::Ready(ready))),
                 Err(_) => Err(out_of_memory()),
             },

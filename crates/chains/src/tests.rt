@@ -129,11 +129,19 @@ impl Chains {
     }
 
     /// All tests of a report but that of memory. The number is that of the process that reports.
-    pub(crate) fn test<'a>(
-        &'a self,
-        report: &'a Report,
-        number: Option<u32>,
-    ) -> Result<Verdict, Refusal<'a>>
+    #[inline(always)]
+    pub(crate) fn tested(&self, report: &Report, number: Option<u32>) -> Result<Verdict, No>
+        requires { IsNumberIn self.now.accepted report.now number }
+        ensures { Tests (IsAdmission self.now.accepted report.now) self.now.accepted result }
+    {
+        match self.test(report, number) {
+            Ok(verdict) => Ok(verdict),
+            Err(refusal) => Err(refusal.named()),
+        }
+    }
+
+    /// The same, where a refusal names its process by reference.
+    fn test<'a>(&'a self, report: &'a Report, number: Option<u32>) -> Result<Verdict, Refusal<'a>>
         requires { IsNumberIn self.now.accepted report.now number }
         ensures { Tests (IsAdmission self.now.accepted report.now) self.now.accepted result }
     {

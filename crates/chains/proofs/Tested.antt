@@ -1,7 +1,8 @@
 -- A test that applies, or that leaves it to the later ones.
-use Rattle.std.proofs.Common.{◌≡◌, ◌↔◌, inl, inr, ℕ, Bool, List, Some, None, Result, Ok, Err, IsTrue, refl, sym, ap, ◌∙◌}
+use Rattle.std.proofs.Common.{◌≡◌, ◌↔◌, inl, inr, ℕ, Bool, List, Some, None, Result, Ok, Err, IsTrue, false, length, refl, sym, ap, ◌∙◌}
 use Rattle.std.specs.Prelude.{IfOk}
 use Rattle.std.specs.Fmt.{decimal}
+use Rattle.std.proofs.lemmas.Bool.{both_ways}
 use Rattle.id_tree.specs.IdTree.{IdTree}
 use Rattle.id_tree.specs.Points.{AreDisjoint, AreTogether}
 use Rattle.id_tree.specs.NormalForm.{IsNormal}
@@ -14,13 +15,14 @@ use Rattle.stamp.specs.declared.stamp.Stamp.{Stamp}
 use Rattle.report_line.specs.declared.report.Action.{Action}
 use Rattle.report_line.specs.declared.report.Action.TheVariants.{Check, Present, Fork, Retire, Absorb}
 use Rattle.report_line.specs.declared.report.Report.{Report}
+use Rattle.report_line.specs.declared.report.Report.TheVariants.{Numbered}
 use Rattle.report_line.specs.declared.reply.Reply.{Reply}
 use Rattle.report_line.specs.declared.reply.Reply.TheVariants as replies
 use Rattle.chains.specs.declared.tests.Verdict.{Verdict}
 use Rattle.chains.specs.declared.tests.Verdict.TheVariants.{Old, Fits}
 use Rattle.chains.specs.declared.refusal.No.{No}
-use Rattle.chains.specs.Processes.{Name, registered_id, expected_id}
-use Rattle.chains.specs.Admission.{Decides, TakesMemory, IsStampReply, IsWaitingReply, IsStandingReply}
+use Rattle.chains.specs.Processes.{Name, last_report, target_of, registered_id, expected_id}
+use Rattle.chains.specs.Admission.{Decides, TakesMemory, IsStampReply, IsWaitingReply, IsStandingReply, IsNumberedReply}
 use Rattle.chains.specs.Keeping.{Tests}
 use Rattle.chains.specs.Testing.{RefusesWith, IsFull, IsNoAbsorb}
 
@@ -53,6 +55,13 @@ refuses_plainly F P accepted refusal code name e h = inl (inl (h, rw e refl))
 pub refuses_full : (F : Type 0) (P : Reply → Type 0) (accepted : List Report) (refusal : No) (limit : ℕ) → IsFull refusal limit → F → Tests (λ a. Decides F (replies.No Full None (Some (decimal limit))) a (P a)) accepted (Err refusal)
 refuses_full F P accepted refusal limit (inl e) h = inl (inl (h, rw e refl))
 refuses_full F P accepted refusal limit (inr e) h = lacking (λ a. Decides F (replies.No Full None (Some (decimal limit))) a (P a)) accepted refusal (replies.No Full None (Some (decimal limit))) e (inl (h, refl)) tt
+
+-- a report that is not the last one of its process is left to the tests behind
+pub not_last : (accepted : List Report) (report : Report) (p : Name) (n : ℕ) (s : Stamp) (a : Action) (r : Result Verdict No) (b : Bool) → b ≡ false → (IsTrue b ↔ (last_report p accepted ≡ Some report)) → report ≡ Numbered p n s a
+    → Tests (IsStandingReply (target_of p accepted) accepted p n s a) accepted r → Tests (IsNumberedReply accepted p n s a) accepted r
+not_last accepted report p n s a r b other last is later =
+    passed_on (last_report p accepted ≡ Some (Numbered p n s a)) (replies.Old (length accepted)) (IsStandingReply (target_of p accepted) accepted p n s a) accepted r
+    (λ e. both_ways b other (last.1 (e ∙ ap (λ (x : Report). Some x) (sym is)))) later
 
 -- a refusal since the process ended
 pub refuses_ended : {E : Type 0} (target : Name) (accepted : List Report) (p : Name) (n : ℕ) (s : Stamp) (a : Action) (refusal : No) (r : Result (List ℕ) E)

@@ -1,7 +1,7 @@
 //! Measures a session of one process against a loop that reads and compares the same lines.
 //!
-//! Standard output has what was done, standard error how long it took: once with memory that each session has fresh from the
-//! system, as a program has that just started, and once with memory that was used before.
+//! Standard output has what was done, standard error how long it took: the first loop and session of the program; then many,
+//! whose memory is handed back to the system behind each; and many with memory that was used before.
 #![tactic(auto)]
 
 use anyhow::Result;
@@ -94,6 +94,11 @@ fn keep_memory(rt: &HostRuntime, input: &[u8]) -> Result<()> {
 
 fn main(rt: HostRuntime) -> Result<()> {
     let input = lines(rt.alloc())?;
+    let plain = time_plain_loop(&rt, &input)?;
+    let served = time_session(&rt, &input)?;
+    eprintln!(rt;
+        "the first of the program:      plain loop {plain}, session {served} microseconds"
+    )?;
     let (plain, served) = time_both(&rt, &input)?;
     eprintln!(rt;
         "memory fresh from the system: plain loop {plain}, sessions {served} microseconds"

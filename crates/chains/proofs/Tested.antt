@@ -1,5 +1,5 @@
 -- A test that applies, or that leaves it to the later ones.
-use Rattle.std.proofs.Common.{◌≡◌, ◌↔◌, inl, inr, ℕ, Bool, List, Some, None, Result, Ok, Err, IsTrue, false, length, refl, sym, ap, ◌∙◌}
+use Rattle.std.proofs.Common.{◌≡◌, ◌↔◌, inl, inr, ℕ, Bool, List, Some, None, Result, Ok, Err, IsTrue, false, [], ◌∷◌, length, refl, sym, ap, ◌∙◌}
 use Rattle.std.specs.Prelude.{IfOk}
 use Rattle.std.specs.Fmt.{decimal}
 use Rattle.std.proofs.lemmas.Bool.{both_ways}
@@ -10,7 +10,7 @@ use Rattle.id_tree.specs.Sum.{sum_of}
 use Rattle.id_tree.proofs.Points.{equal_points}
 use Rattle.id_tree.proofs.Sums as sums
 use Rattle.report_line.specs.declared.code.Code.{Code}
-use Rattle.report_line.specs.declared.code.Code.TheVariants.{OutOfMemory, Full, Ended}
+use Rattle.report_line.specs.declared.code.Code.TheVariants.{OutOfMemory, Full, Ended, NothingBegun}
 use Rattle.stamp.specs.declared.stamp.Stamp.{Stamp}
 use Rattle.report_line.specs.declared.report.Action.{Action}
 use Rattle.report_line.specs.declared.report.Action.TheVariants.{Check, Present, Fork, Retire, Absorb}
@@ -22,7 +22,7 @@ use Rattle.chains.specs.declared.tests.Verdict.{Verdict}
 use Rattle.chains.specs.declared.tests.Verdict.TheVariants.{Old, Fits}
 use Rattle.chains.specs.declared.refusal.No.{No}
 use Rattle.chains.specs.Processes.{Name, last_report, target_of, registered_id, expected_id}
-use Rattle.chains.specs.Admission.{Decides, TakesMemory, IsStampReply, IsWaitingReply, IsStandingReply, IsNumberedReply}
+use Rattle.chains.specs.Admission.{Decides, TakesMemory, IsStampReply, IsWaitingReply, IsStandingReply, IsNumberedReply, IsAdmission}
 use Rattle.chains.specs.Keeping.{Tests}
 use Rattle.chains.specs.Testing.{RefusesWith, IsFull, IsNoAbsorb}
 
@@ -55,6 +55,12 @@ refuses_plainly F P accepted refusal code name e h = inl (inl (h, rw e refl))
 pub refuses_full : (F : Type 0) (P : Reply → Type 0) (accepted : List Report) (refusal : No) (limit : ℕ) → IsFull refusal limit → F → Tests (λ a. Decides F (replies.No Full None (Some (decimal limit))) a (P a)) accepted (Err refusal)
 refuses_full F P accepted refusal limit (inl e) h = inl (inl (h, rw e refl))
 refuses_full F P accepted refusal limit (inr e) h = lacking (λ a. Decides F (replies.No Full None (Some (decimal limit))) a (P a)) accepted refusal (replies.No Full None (Some (decimal limit))) e (inl (h, refl)) tt
+
+-- a report with a number is refused where nothing was accepted yet
+pub refuses_first : (accepted : List Report) (report : Report) (p : Name) (n : ℕ) (s : Stamp) (a : Action) → report ≡ Numbered p n s a → length accepted ≡ 0
+    → Tests (IsAdmission accepted report) accepted (Err (record { code = NothingBegun; name = None; value = None }))
+refuses_first [] report p n s a is none = rw is (inl (inl (refl, refl)))
+refuses_first (r ∷ rs) report p n s a is none = absurd cc
 
 -- a report that is not the last one of its process is left to the tests behind
 pub not_last : (accepted : List Report) (report : Report) (p : Name) (n : ℕ) (s : Stamp) (a : Action) (r : Result Verdict No) (b : Bool) → b ≡ false → (IsTrue b ↔ (last_report p accepted ≡ Some report)) → report ≡ Numbered p n s a

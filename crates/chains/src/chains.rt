@@ -3,9 +3,10 @@
 ghost use Rattle.std.specs.Prelude.{◌≡◌, ◌≢◌, ◌≤◌, ◌<◌, ◌+◌, ◌∷◌, ◌++◌, ℕ, [], ⊤, IfOk, MatchResult, MatchOption, IsTrue, ◌↔◌, OnOk, length, slice_get, option_copied, Some, None, true, map, min, vec_len, vec_capacity, ◌-◌, ◌^◌, nat_eq, slice_index_or, slice_set};
 ghost use Rattle.std.specs.Option.{option_map};
 ghost use Rattle.report_line.specs.declared.reply.Reply.TheVariants.{Accepted};
+ghost use Rattle.report_line.specs.View.{action_of};
 ghost use Rattle.id_tree.specs.IdTree.{One};
 ghost use Rattle.event_tree.specs.EventTree.{Leaf};
-ghost use Rattle.chains.specs.Processes.{Name as AnyName, known, newborn, IsKnown, reports_of, last_report, birth_report, id_after, id_at_birth, events_after, registered_id, last_events, target_of, is_absorbed};
+ghost use Rattle.chains.specs.Processes.{Name as AnyName, known, newborn, IsKnown, reports_of, last_report, birth_report, id_after, id_at_birth, events_after, registered_id, last_events, target_of, target_after, is_absorbed};
 ghost use Rattle.chains.specs.Elements.{name_of, element, elements, elements_of, lasting_of, lasting_made, present_in};
 ghost use Rattle.chains.specs.Stamps.{stamp_of};
 ghost use Rattle.chains.specs.Positions.{IsLastSurviving};
@@ -37,7 +38,7 @@ use crate::tests::{Verdict, is_birth, out_of_memory};
 use event_tree::Events;
 use id_tree::Id;
 use indexmap::IndexSet;
-use report_line::{Action, Name, Report, Shared};
+use report_line::{ActionView, Name, PackedReport, ReportView, Shared};
 use stamp::Stamp;
 use std::alloc::{AllocError, Global};
 use std::marker::Model;
@@ -48,7 +49,7 @@ pub struct Chains {
     alloc: Global,
     /// The stamp of a root at its birth.
     first: Stamp,
-    reports: Vec<Shared<Report>>,
+    reports: Vec<Shared<PackedReport>>,
     /// The known processes, in order of birth.
     names: IndexSet<Name>,
     /// What is kept of each of them.
@@ -175,7 +176,7 @@ impl Chains {
     }
 
     /// The last of its reports with a number.
-    pub(crate) fn last_report(&self, process: u32) -> Option<&Report>
+    pub(crate) fn last_report(&self, process: u32) -> Option<&PackedReport>
         requires { process < length (known self.now.accepted) }
         ensures { (p : AnyName) → name_of self.now.accepted process ≡ Some p → option_copied result ≡ last_report p self.now.accepted }
     {
@@ -186,7 +187,7 @@ impl Chains {
     }
 
     /// The report by which it is born.
-    pub(crate) fn birth_report(&self, process: u32) -> &Report
+    pub(crate) fn birth_report(&self, process: u32) -> &PackedReport
         requires { process < length (known self.now.accepted) }
         ensures { (p : AnyName) → name_of self.now.accepted process ≡ Some p → birth_report p self.now.accepted ≡ Some result.now }
     {
@@ -230,13 +231,8 @@ impl Chains {
         ensures { (p : AnyName) → name_of self.now.accepted process ≡ Some p → option_copied result ≡ target_of p self.now.accepted }
     {
         match self.last_report(process) {
-            Some(
-                Report::Numbered {
-                    action: Action::Retire { target },
-                    ..
-                },
-            ) => Some(target),
-            _ => None,
+            None => None,
+            Some(last) => target_in(last),
         }
     }
 
@@ -282,7 +278,7 @@ impl Chains {
     }
 
     /// The report that made the lasting element k of a process, counted from 0.
-    fn lasting_report(&self, process: u32, k: u32) -> &Report
+    fn lasting_report(&self, process: u32, k: u32) -> &PackedReport
         requires process { process < length (known self.now.accepted) }
         requires within { (p : AnyName) → name_of self.now.accepted process ≡ Some p → k < length (lasting_of p self.now.accepted) }
         ensures { (p : AnyName) → name_of self.now.accepted process ≡ Some p → lasting_made p result.now ≡ slice_get (lasting_of p self.now.accepted) k }
@@ -377,7 +373,11 @@ impl Chains {
     }
 
     /// Makes every growth that accepting a report needs.
-    fn ready(&mut self, report: Shared<Report>, number: Option<u32>) -> Result<Ready, AllocError>
+    fn ready(
+        &mut self,
+        report: Shared<PackedReport>,
+        number: Option<u32>,
+    ) -> Result<Ready, AllocError>
         requires number { IsNumberIn self.old.accepted report number }
         requires known { IsFound report number }
         ensures same { self.new.accepted ≡ self.old.accepted }
@@ -399,7 +399,7 @@ impl Chains {
 
     /// Makes the tests of a report and every growth that accepting it needs. The accepted list stays as it is, also
     /// where what is answered is dropped.
-    pub fn prepare(&mut self, report: &Report) -> Result<Prepared, No>
+    pub fn prepare(&mut self, report: &PackedReport) -> Result<Prepared, No>
         ensures same { self.new.accepted ≡ self.old.accepted }
         ensures answer { Prepares self.old.accepted report.now result }
         ensures ready { IfOk result (λ prepared. IsReady prepared self.new) }
@@ -457,7 +457,7 @@ impl Chains {
     }
 
     /// Tests a report and accepts it where it passes. A refusal changes nothing.
-    pub fn admit(&mut self, report: &Report) -> Result<Admitted, No>
+    pub fn admit(&mut self, report: &PackedReport) -> Result<Admitted, No>
         ensures turn { (fate : Fate) × IsReportTurn fate self.old.accepted report.now (reply_of result) self.new.accepted }
     {
         let prepared = self.prepare(report)?;
@@ -465,7 +465,7 @@ impl Chains {
     }
 
     /// Tests a report and accepts it where it passes: it is then shared, and not copied. A refusal changes nothing.
-    pub fn admit_shared(&mut self, report: Shared<Report>) -> Result<Admitted, No>
+    pub fn admit_shared(&mut self, report: Shared<PackedReport>) -> Result<Admitted, No>
         ensures turn { (fate : Fate) × IsReportTurn fate self.old.accepted report (reply_of result) self.new.accepted }
     {
         let number = self.number_in(&report);
@@ -481,7 +481,7 @@ impl Chains {
 }
 
 /// A copy of a report, in a block that chains can share.
-fn shared_copy(alloc: Global, report: &Report) -> Result<Shared<Report>, AllocError>
+fn shared_copy(alloc: Global, report: &PackedReport) -> Result<Shared<PackedReport>, AllocError>
     ensures { IfOk result (λ copy. copy ≡ report.now) }
 {
     let copy = report.copy(alloc)?;
@@ -519,7 +519,7 @@ fn reserve_element(processes: &mut Vec<Process>, number: Option<u32>) -> Result<
 fn keep(
     names: &mut IndexSet<Name>,
     processes: &mut Vec<Process>,
-    report: &Report,
+    report: &PackedReport,
     place: usize,
     front: u32,
     lasting: Vec<u32>,
@@ -532,31 +532,37 @@ fn keep(
     ensures names { names.new.keys ≡ names_after names.old.keys report.now }
     ensures views { IsKeptBy (map view_of processes.old.items) names.old.keys report.now place front (map view_of processes.new.items) }
 {
-    match report {
-        Report::Begin { process } => add(names, processes, process.copy(), front, lasting),
-        Report::Numbered { action, .. } => {
+    match report.view() {
+        ReportView::Begin { process } => add(names, processes, process.copy(), front, lasting),
+        ReportView::Numbered { action, .. } => {
             note(processes, place, front, is_check(action));
             match action {
-                Action::Fork(forked) => add(names, processes, forked.child.copy(), front, lasting),
-                Action::Absorb { retired } => note_absorbed(names, processes, retired),
-                Action::Check => {}
-                Action::Present => {}
-                Action::Retire { .. } => {}
+                ActionView::Fork(forked) => add(
+                    names,
+                    processes,
+                    forked.child.copy(),
+                    front,
+                    lasting,
+                ),
+                ActionView::Absorb { retired } => note_absorbed(names, processes, retired),
+                ActionView::Check => {}
+                ActionView::Present => {}
+                ActionView::Retire { .. } => {}
             }
         }
     }
 }
 
 /// Whether the action is a checkpoint.
-fn is_check(action: &Action) -> bool
-    ensures { result ≡ is_check action.now }
+fn is_check(action: ActionView<'_>) -> bool
+    ensures { result ≡ is_check (action_of action.entry) }
 {
     match action {
-        Action::Check => true,
-        Action::Present => false,
-        Action::Fork(_) => false,
-        Action::Retire { .. } => false,
-        Action::Absorb { .. } => false,
+        ActionView::Check => true,
+        ActionView::Present => false,
+        ActionView::Fork(_) => false,
+        ActionView::Retire { .. } => false,
+        ActionView::Absorb { .. } => false,
     }
 }
 
@@ -616,33 +622,47 @@ fn add(
     });
 }
 
+/// The process into which the one that reports retired, if the report is its retirement.
+fn target_in(report: &PackedReport) -> Option<&Name>
+    ensures { option_copied result ≡ target_after (Some report.now) }
+{
+    match report.view() {
+        ReportView::Numbered {
+            action: ActionView::Retire { target },
+            ..
+        } => Some(target),
+        _ => None,
+    }
+}
+
 /// How many present states the last report of a process stands for.
-fn present_count(last: Option<&Report>) -> u32
+fn present_count(last: Option<&PackedReport>) -> u32
     ensures { result ≡ length (present_in (option_copied last.entry)) }
 {
     match last {
-        Some(
-            Report::Numbered {
-                action: Action::Present,
+        None => 0,
+        Some(last) => match last.view() {
+            ReportView::Numbered {
+                action: ActionView::Present,
                 ..
-            },
-        ) => 1,
-        _ => 0,
+            } => 1,
+            _ => 0,
+        },
     }
 }
 
 /// The lasting element that a report makes, where it makes one.
-fn element_made<'a>(report: &'a Report, first: &'a Stamp) -> Element<'a>
+fn element_made<'a>(report: &'a PackedReport, first: &'a Stamp) -> Element<'a>
     requires { first.now ≡ first_stamp }
     ensures { (p : AnyName) → lasting_made p report.now ≢ None → lasting_made p report.now ≡ Some (stamp_of result) }
 {
-    match report {
-        Report::Begin { .. } => Element {
+    match report.view() {
+        ReportView::Begin { .. } => Element {
             id: &first.id,
             events: &first.events,
         },
-        Report::Numbered { stamp, action, .. } => match action {
-            Action::Fork(forked) => Element {
+        ReportView::Numbered { stamp, action, .. } => match action {
+            ActionView::Fork(forked) => Element {
                 id: &forked.given,
                 events: &stamp.events,
             },
@@ -655,63 +675,64 @@ fn element_made<'a>(report: &'a Report, first: &'a Stamp) -> Element<'a>
 }
 
 /// The present state that the last report of a process stands for, if it does.
-fn element_present<'a>(last: Option<&'a Report>) -> Option<Element<'a>>
+fn element_present<'a>(last: Option<&'a PackedReport>) -> Option<Element<'a>>
     ensures { option_map stamp_of result ≡ slice_get (present_in (option_copied last.entry)) 0 }
 {
     match last {
-        Some(
-            Report::Numbered {
+        None => None,
+        Some(last) => match last.view() {
+            ReportView::Numbered {
                 stamp,
-                action: Action::Present,
+                action: ActionView::Present,
                 ..
-            },
-        ) => Some(Element {
-            id: &stamp.id,
-            events: &stamp.events,
-        }),
-        _ => None,
+            } => Some(Element {
+                id: &stamp.id,
+                events: &stamp.events,
+            }),
+            _ => None,
+        },
     }
 }
 
 /// The id of a process after its report.
-fn id_kept<'a>(report: &'a Report, first: &'a Id) -> &'a Id
+fn id_kept<'a>(report: &'a PackedReport, first: &'a Id) -> &'a Id
     requires { first.now ≡ One }
     ensures { result.now ≡ id_after (Some report.now) None }
 {
-    match report {
-        Report::Begin { .. } => first,
-        Report::Numbered { stamp, action, .. } => match action {
-            Action::Fork(forked) => &forked.kept,
-            Action::Check => &stamp.id,
-            Action::Present => &stamp.id,
-            Action::Retire { .. } => &stamp.id,
-            Action::Absorb { .. } => &stamp.id,
+    match report.view() {
+        ReportView::Begin { .. } => first,
+        ReportView::Numbered { stamp, action, .. } => match action {
+            ActionView::Fork(forked) => &forked.kept,
+            ActionView::Check => &stamp.id,
+            ActionView::Present => &stamp.id,
+            ActionView::Retire { .. } => &stamp.id,
+            ActionView::Absorb { .. } => &stamp.id,
         },
     }
 }
 
 /// The id of a process at its birth.
-fn id_at_birth<'a>(report: &'a Report, first: &'a Id) -> &'a Id
+fn id_at_birth<'a>(report: &'a PackedReport, first: &'a Id) -> &'a Id
     requires first { first.now ≡ One }
     requires birth { newborn report.now ≢ None }
     ensures { result.now ≡ id_at_birth (Some report.now) }
 {
-    match report {
-        Report::Begin { .. } => first,
-        Report::Numbered { action, .. } => match action {
-            Action::Fork(forked) => &forked.given,
+    match report.view() {
+        ReportView::Begin { .. } => first,
+        ReportView::Numbered { action, .. } => match action {
+            ActionView::Fork(forked) => &forked.given,
             _ => first,
         },
     }
 }
 
 /// The events of a process after its report, or after the one by which it is born.
-fn events_after<'a>(report: &'a Report, first: &'a Events) -> &'a Events
+fn events_after<'a>(report: &'a PackedReport, first: &'a Events) -> &'a Events
     requires { first.now ≡ Leaf 0 }
     ensures { result.now ≡ events_after (Some report.now) }
 {
-    match report {
-        Report::Begin { .. } => first,
-        Report::Numbered { stamp, .. } => &stamp.events,
+    match report.view() {
+        ReportView::Begin { .. } => first,
+        ReportView::Numbered { stamp, .. } => &stamp.events,
     }
 }

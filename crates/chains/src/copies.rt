@@ -6,14 +6,14 @@ ghost use Rattle.chains.specs.Keeping.{view_of};
 
 use crate::process::Process;
 use indexmap::IndexSet;
-use report_line::{Name, Report, Shared};
+use report_line::{Name, PackedReport, Shared};
 use std::alloc::{AllocError, Global};
 
 /// The same reports, in order.
 pub fn share_all(
     alloc: Global,
-    reports: &[Shared<Report>],
-) -> Result<Vec<Shared<Report>>, AllocError>
+    reports: &[Shared<PackedReport>],
+) -> Result<Vec<Shared<PackedReport>>, AllocError>
     ensures { IfOk result (λ copy. copy.items ≡ reports.now) }
 {
     let mut copy = Vec::with_capacity(alloc, reports.len())?;

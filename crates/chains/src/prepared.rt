@@ -1,13 +1,13 @@
 //! A report between its tests and its acceptance.
 
-use report_line::{Report, Shared};
+use report_line::{PackedReport, Shared};
 use std::marker::Model;
 
 /// A report that passed all tests, with the number of its process where that is known, and room for a process that is born
 /// by it.
 #[derive(Drop)]
 pub struct Ready {
-    pub(crate) report: Shared<Report>,
+    pub(crate) report: Shared<PackedReport>,
     pub(crate) process: u32,
     pub(crate) lasting: Vec<u32>,
 }

@@ -7,6 +7,7 @@ ghost use Rattle.id_tree.specs.Points.{AreDisjoint};
 ghost use Rattle.id_tree.specs.Split.{IsSplit};
 ghost use Rattle.id_tree.specs.Sum.{sum_of};
 ghost use Rattle.report_line.specs.declared.report.Report.TheVariants as reports;
+ghost use Rattle.report_line.specs.View.{action_of};
 ghost use Rattle.report_line.specs.declared.report.Action.TheVariants as actions;
 ghost use Rattle.chains.specs.Processes.{Name as AnyName, known, newborn, IsKnown, last_report, last_events, registered_id, target_of, Waits};
 ghost use Rattle.chains.specs.Elements.{name_of};
@@ -17,7 +18,7 @@ ghost use Rattle.chains.specs.Testing.{IsNumberIn, IsNoAbsorb, RefusesWith, IsFu
 use crate::chains::Chains;
 use crate::refusal::{No, Refusal};
 use id_tree::{Id, SumFault};
-use report_line::{Action, Code, Forked, Name, Report, Text};
+use report_line::{ActionView, Code, Forked, Name, PackedReport, ReportView, Text};
 use stamp::Stamp;
 use std::alloc::{AllocError, Global};
 
@@ -119,18 +120,18 @@ fn full<'a>(alloc: Global, limit: u32) -> Refusal<'a>
 
 impl Chains {
     /// The number of the process that reports, where it is known; a root that begins has none.
-    pub(crate) fn number_in(&self, report: &Report) -> Option<u32>
+    pub(crate) fn number_in(&self, report: &PackedReport) -> Option<u32>
         ensures { IsNumberIn self.now.accepted report.now result }
     {
-        match report {
-            Report::Begin { .. } => None,
-            Report::Numbered { process, .. } => self.number_of(process),
+        match report.view() {
+            ReportView::Begin { .. } => None,
+            ReportView::Numbered { process, .. } => self.number_of(process),
         }
     }
 
     /// All tests of a report but that of memory. The number is that of the process that reports.
     #[inline(always)]
-    pub(crate) fn tested(&self, report: &Report, number: Option<u32>) -> Result<Verdict, No>
+    pub(crate) fn tested(&self, report: &PackedReport, number: Option<u32>) -> Result<Verdict, No>
         requires { IsNumberIn self.now.accepted report.now number }
         ensures { Tests (IsAdmission self.now.accepted report.now) self.now.accepted result }
     {
@@ -141,13 +142,17 @@ impl Chains {
     }
 
     /// The same, where a refusal names its process by reference.
-    fn test<'a>(&'a self, report: &'a Report, number: Option<u32>) -> Result<Verdict, Refusal<'a>>
+    fn test<'a>(
+        &'a self,
+        report: &'a PackedReport,
+        number: Option<u32>,
+    ) -> Result<Verdict, Refusal<'a>>
         requires { IsNumberIn self.now.accepted report.now number }
         ensures { Tests (IsAdmission self.now.accepted report.now) self.now.accepted result }
     {
-        match report {
-            Report::Begin { process } => self.test_begin(report, process),
-            Report::Numbered {
+        match report.view() {
+            ReportView::Begin { process } => self.test_begin(report, process),
+            ReportView::Numbered {
                 process,
                 number: n,
                 stamp,
@@ -162,14 +167,18 @@ impl Chains {
                 }
                 match number {
                     None => Err(refusal(Code::UnknownProcess, process)),
-                    Some(place) => self.test_numbered(place, report, process, *n, stamp, action),
+                    Some(place) => self.test_numbered(place, report, process, n, stamp, action),
                 }
             }
         }
     }
 
     /// The tests of a `BEGIN`.
-    fn test_begin<'a>(&'a self, report: &Report, name: &'a Name) -> Result<Verdict, Refusal<'a>>
+    fn test_begin<'a>(
+        &'a self,
+        report: &PackedReport,
+        name: &'a Name,
+    ) -> Result<Verdict, Refusal<'a>>
         requires { report.now ≡ reports.Begin name.now }
         ensures { Tests (IsBeginReply (slice_get (known self.now.accepted) 0) self.now.accepted name.now) self.now.accepted result }
     {
@@ -189,15 +198,15 @@ impl Chains {
     fn test_numbered<'a>(
         &'a self,
         place: u32,
-        report: &Report,
+        report: &PackedReport,
         name: &'a Name,
         number: u32,
         stamp: &Stamp,
-        action: &'a Action,
+        action: ActionView<'a>,
     ) -> Result<Verdict, Refusal<'a>>
         requires place { name_of self.now.accepted place ≡ Some name.now }
-        requires fields { report.now ≡ reports.Numbered name.now number stamp.now action.now }
-        ensures { Tests (IsNumberedReply self.now.accepted name.now number stamp.now action.now) self.now.accepted result }
+        requires fields { report.now ≡ reports.Numbered name.now number stamp.now (action_of action) }
+        ensures { Tests (IsNumberedReply self.now.accepted name.now number stamp.now (action_of action.entry)) self.now.accepted result }
     {
         if self.is_last(place, report) {
             return Ok(Verdict::Old);
@@ -209,7 +218,7 @@ impl Chains {
     }
 
     /// Whether the report is the last one of its process.
-    fn is_last(&self, place: u32, report: &Report) -> bool
+    fn is_last(&self, place: u32, report: &PackedReport) -> bool
         requires { place < length (known self.now.accepted) }
         ensures { (p : AnyName) → name_of self.now.accepted place ≡ Some p → IsTrue result ↔ (last_report p self.now.accepted ≡ Some report.now) }
     {
@@ -224,16 +233,16 @@ impl Chains {
     fn test_number<'a>(
         &'a self,
         place: u32,
-        report: &Report,
+        report: &PackedReport,
         name: &'a Name,
         number: u32,
         stamp: &Stamp,
-        action: &'a Action,
+        action: ActionView<'a>,
     ) -> Result<Verdict, Refusal<'a>>
         requires place { name_of self.now.accepted place ≡ Some name.now }
-        requires fields { report.now ≡ reports.Numbered name.now number stamp.now action.now }
+        requires fields { report.now ≡ reports.Numbered name.now number stamp.now (action_of action) }
         requires lives { target_of name.now self.now.accepted ≡ None }
-        ensures { Tests (IsStandingReply None self.now.accepted name.now number stamp.now action.now) self.now.accepted result }
+        ensures { Tests (IsStandingReply None self.now.accepted name.now number stamp.now (action_of action.entry)) self.now.accepted result }
     {
         self.lawful();
         let next = self.reports_of(place) + 1;
@@ -283,16 +292,16 @@ impl Chains {
     fn test_own<'a>(
         &'a self,
         place: u32,
-        report: &Report,
+        report: &PackedReport,
         name: &'a Name,
         number: u32,
         stamp: &Stamp,
-        action: &'a Action,
+        action: ActionView<'a>,
     ) -> Result<Verdict, Refusal<'a>>
         requires place { name_of self.now.accepted place ≡ Some name.now }
-        requires fields { report.now ≡ reports.Numbered name.now number stamp.now action.now }
-        requires own { IsNoAbsorb action.now }
-        ensures { Tests (IsStampReply self.now.accepted name.now number stamp.now action.now) self.now.accepted result }
+        requires fields { report.now ≡ reports.Numbered name.now number stamp.now (action_of action) }
+        requires own { IsNoAbsorb (action_of action) }
+        ensures { Tests (IsStampReply self.now.accepted name.now number stamp.now (action_of action.entry)) self.now.accepted result }
     {
         let registered = self.registered_id(place);
         if !stamp.id.equal(registered) {
@@ -307,33 +316,33 @@ impl Chains {
     /// The tests of an action that is no absorb, behind those of its stamp.
     fn test_action<'a>(
         &'a self,
-        report: &Report,
+        report: &PackedReport,
         name: &'a Name,
         number: u32,
         stamp: &Stamp,
         registered: &Id,
-        action: &'a Action,
+        action: ActionView<'a>,
     ) -> Result<Verdict, Refusal<'a>>
         requires registered { registered.now ≡ registered_id name.now self.now.accepted }
-        requires fields { report.now ≡ reports.Numbered name.now number stamp.now action.now }
-        requires own { IsNoAbsorb action.now }
-        ensures { Tests (IsActionReply self.now.accepted name.now number stamp.now action.now) self.now.accepted result }
+        requires fields { report.now ≡ reports.Numbered name.now number stamp.now (action_of action) }
+        requires own { IsNoAbsorb (action_of action) }
+        ensures { Tests (IsActionReply self.now.accepted name.now number stamp.now (action_of action.entry)) self.now.accepted result }
     {
         match action {
-            Action::Fork(forked) => {
+            ActionView::Fork(forked) => {
                 self.test_fork(report, name, number, stamp, registered, forked)
             }
-            Action::Retire { target } => self.test_retire(report, name, number, stamp, target),
-            Action::Check => self.test_room(report),
-            Action::Present => self.test_room(report),
-            Action::Absorb { .. } => unreachable!(),
+            ActionView::Retire { target } => self.test_retire(report, name, number, stamp, target),
+            ActionView::Check => self.test_room(report),
+            ActionView::Present => self.test_room(report),
+            ActionView::Absorb { .. } => unreachable!(),
         }
     }
 
     /// The tests of a fork behind those of its stamp.
     fn test_fork<'a>(
         &'a self,
-        report: &Report,
+        report: &PackedReport,
         name: &'a Name,
         number: u32,
         stamp: &Stamp,
@@ -357,7 +366,7 @@ impl Chains {
     /// The tests of a retirement behind those of its stamp.
     fn test_retire<'a>(
         &'a self,
-        report: &Report,
+        report: &PackedReport,
         name: &'a Name,
         number: u32,
         stamp: &Stamp,
@@ -380,7 +389,7 @@ impl Chains {
         &'a self,
         place: u32,
         partner: u32,
-        report: &Report,
+        report: &PackedReport,
         name: &'a Name,
         number: u32,
         stamp: &Stamp,
@@ -423,7 +432,7 @@ impl Chains {
 
     /// Whether one more report fits, and one more process where one is born by it.
     #[inline(always)]
-    fn test_room<'a>(&'a self, report: &Report) -> Result<Verdict, Refusal<'a>>
+    fn test_room<'a>(&'a self, report: &PackedReport) -> Result<Verdict, Refusal<'a>>
         ensures { Tests (FitsOrNot self.now.accepted report.now) self.now.accepted result }
     {
         if self.front() >= REPORT_LIMIT {
@@ -437,26 +446,26 @@ impl Chains {
 }
 
 /// The process whose retirement is absorbed, if the action is an absorb.
-fn retired_in(action: &Action) -> Option<&Name>
-    ensures { MatchOption result (IsNoAbsorb action.now) (λ retired. action.now ≡ actions.Absorb retired.now) }
+fn retired_in(action: ActionView<'_>) -> Option<&Name>
+    ensures { MatchOption result (IsNoAbsorb (action_of action.entry)) (λ retired. (action_of action.entry) ≡ actions.Absorb retired.now) }
 {
     match action {
-        Action::Absorb { retired } => Some(retired),
-        Action::Check => None,
-        Action::Present => None,
-        Action::Fork(_) => None,
-        Action::Retire { .. } => None,
+        ActionView::Absorb { retired } => Some(retired),
+        ActionView::Check => None,
+        ActionView::Present => None,
+        ActionView::Fork(_) => None,
+        ActionView::Retire { .. } => None,
     }
 }
 
 /// Whether a process is born by the report.
-pub(crate) fn is_birth(report: &Report) -> bool
+pub(crate) fn is_birth(report: &PackedReport) -> bool
     ensures { IsTrue result ↔ (newborn report.now ≢ None) }
 {
-    match report {
-        Report::Begin { .. } => true,
-        Report::Numbered {
-            action: Action::Fork(_),
+    match report.view() {
+        ReportView::Begin { .. } => true,
+        ReportView::Numbered {
+            action: ActionView::Fork(_),
             ..
         } => true,
         _ => false,

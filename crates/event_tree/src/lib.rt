@@ -78,10 +78,11 @@ impl Events {
     }
 
     /// Whether the two are one event tree.
+    #[inline(always)]
     pub fn equal(&self, other: &Events) -> bool
         ensures { IsTrue result ↔ (self.now ≡ other.now) }
     {
-        self.node.is_same(&other.node)
+        self.node.is_equal_leaf(&other.node) || self.node.is_same(&other.node)
     }
 
     /// The same event tree once more.
@@ -102,11 +103,12 @@ impl Events {
     }
 
     /// Whether this tree is greater than the other at some point that the id owns. It takes no memory.
+    #[inline(always)]
     pub fn exceeds_on(&self, other: &Events, id: &Id) -> bool
         ensures pointwise { IsTrue result ↔ ExceedsOn id.now self.now other.now }
         ensures test { result ≡ exceeds_on id.now self.now other.now }
     {
-        order::exceeds_from(&id.view(), 0, &self.node, 0, &other.node)
+        order::exceeds_from(id.view(), 0, &self.node, 0, &other.node)
     }
 
     /// At each point the greater value of the two.

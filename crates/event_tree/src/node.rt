@@ -86,7 +86,8 @@ impl Node {
         }
     }
 
-    fn is_equal_leaf(&self, other: &Node) -> bool
+    // Whether both are the same leaf.
+    pub fn is_equal_leaf(&self, other: &Node) -> bool
         ensures { result ≡ are_equal_leaves (tree_of self.now) (tree_of other.now) }
     {
         match (self, other) {

@@ -77,10 +77,11 @@ impl Id {
     }
 
     /// Whether the two are one id.
+    #[inline(always)]
     pub fn equal(&self, other: &Id) -> bool
         ensures { IsTrue result ↔ (self.now ≡ other.now) }
     {
-        self.node.is_same(&other.node)
+        self.node.is_equal_leaf(&other.node) || self.node.is_same(&other.node)
     }
 
     /// The same id once more.

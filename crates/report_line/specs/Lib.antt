@@ -1,5 +1,7 @@
 pub mod Names
 pub mod Reports
+pub mod View
+pub mod Codes
 pub mod Spelling
 pub mod Reading
 pub mod Replies

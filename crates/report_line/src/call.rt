@@ -1,14 +1,14 @@
 //! What a client asks.
 
 use crate::name::{Name, Names};
-use crate::report::Report;
+use crate::packed::PackedReport;
 use crate::shared::Shared;
 
 /// What a line asks for.
 #[derive(Drop)]
 pub enum Call {
     /// A process reports an event.
-    Report(Shared<Report>),
+    Report(Shared<PackedReport>),
     /// Where do all processes recover from, once these have failed?
     Line(Names),
     /// What is kept of this process?

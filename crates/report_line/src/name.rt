@@ -57,8 +57,8 @@ fn padded(bytes: &[u8]) -> [u8; 32]
 /// The name of a process, seen as its bytes. It takes no memory.
 #[derive(Drop)]
 pub struct Name {
+    length: u8,
     text: [u8; 32],
-    length: u32,
 }
 
 impl Model for Name {
@@ -83,7 +83,7 @@ impl Name {
         let text = padded(bytes);
         Some(Name {
             text,
-            length: bytes.len() as u32,
+            length: bytes.len() as u8,
         })
     }
 

@@ -15,6 +15,7 @@ use crate::call::Call;
 use crate::fault::LineFault;
 use crate::name::{Name, Names};
 use crate::number::number_of;
+use crate::packed::PackedReport;
 use crate::report::{Action, Report};
 use crate::shared::Shared;
 use crate::words::{Words, cut_once};
@@ -182,12 +183,12 @@ fn read_numbered(alloc: Global, kind: &[u8], words: &mut Words<'_>) -> Result<Ca
     let number = take_number(words)?;
     let stamp = take_stamp(alloc, words)?;
     let action = read_action(alloc, kind, words)?;
-    let report = Report::Numbered {
+    let report = PackedReport::of(Report::Numbered {
         process,
         number,
         stamp,
         action,
-    };
+    });
     Ok(Call::Report(Shared::new(alloc, report)?))
 }
 
@@ -195,7 +196,8 @@ fn read_begin(alloc: Global, words: &mut Words<'_>) -> Result<Call, LineFault>
     ensures { Finds result (IsCallOf (codes "BEGIN" ∷ words.old)) }
 {
     let process = last_name(words)?;
-    Ok(Call::Report(Shared::new(alloc, Report::Begin { process })?))
+    let report = PackedReport::of(Report::Begin { process });
+    Ok(Call::Report(Shared::new(alloc, report)?))
 }
 
 fn read_failed(alloc: Global, words: &mut Words<'_>) -> Result<Call, LineFault>

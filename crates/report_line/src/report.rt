@@ -1,7 +1,6 @@
 //! What a process reports of itself.
 
 ghost use Rattle.std.specs.Prelude.{◌≡◌, ◌↔◌, IsTrue, IfOk};
-ghost use Rattle.report_line.specs.Reports.{process_of, number_of};
 
 use crate::name::Name;
 use crate::shared::Shared;
@@ -35,7 +34,7 @@ pub enum Action {
     Absorb { retired: Shared<Name> },
 }
 
-/// What a process reports of itself.
+/// What a process reports of itself, as it is put together.
 #[derive(Drop)]
 pub enum Report {
     /// The process is the root, and begins.
@@ -70,110 +69,5 @@ impl Action {
     {
         let forked = Shared::new(alloc, Forked { kept, child, given })?;
         Ok(Action::Fork(forked))
-    }
-
-    /// The same action once more. What stands apart is shared.
-    pub fn copy(&self) -> Result<Action, AllocError>
-        ensures { IfOk result (λ a. a ≡ self.now) }
-    {
-        match self {
-            Action::Check => Ok(Action::Check),
-            Action::Present => Ok(Action::Present),
-            Action::Fork(forked) => Ok(Action::Fork(forked.share()?)),
-            Action::Retire { target } => Ok(Action::Retire {
-                target: target.share()?,
-            }),
-            Action::Absorb { retired } => Ok(Action::Absorb {
-                retired: retired.share()?,
-            }),
-        }
-    }
-
-    /// Whether the two are one action.
-    pub fn equal(&self, other: &Action) -> bool
-        ensures { IsTrue result ↔ (self.now ≡ other.now) }
-    {
-        match (self, other) {
-            (Action::Check, Action::Check) => true,
-            (Action::Present, Action::Present) => true,
-            (Action::Fork(f), Action::Fork(g)) => f.equal(g),
-            (Action::Retire { target: p }, Action::Retire { target: q }) => {
-                p.as_bytes() == q.as_bytes()
-            }
-            (Action::Absorb { retired: p }, Action::Absorb { retired: q }) => {
-                p.as_bytes() == q.as_bytes()
-            }
-            _ => false,
-        }
-    }
-}
-
-impl Report {
-    /// The process that reports.
-    pub fn process(&self) -> &Name
-        ensures { result.now ≡ process_of self.now }
-    {
-        match self {
-            Report::Begin { process } => process,
-            Report::Numbered { process, .. } => process,
-        }
-    }
-
-    /// The number of the report, which a `BEGIN` has not.
-    pub fn number(&self) -> Option<u32>
-        ensures { result ≡ number_of self.now }
-    {
-        match self {
-            Report::Begin { .. } => None,
-            Report::Numbered { number, .. } => Some(*number),
-        }
-    }
-
-    /// The same report once more.
-    pub fn copy(&self, alloc: Global) -> Result<Report, AllocError>
-        ensures { IfOk result (λ r. r ≡ self.now) }
-    {
-        match self {
-            Report::Begin { process } => Ok(Report::Begin {
-                process: process.copy(),
-            }),
-            Report::Numbered {
-                process,
-                number,
-                stamp,
-                action,
-            } => Ok(Report::Numbered {
-                process: process.copy(),
-                number: *number,
-                stamp: stamp.copy(alloc)?,
-                action: action.copy()?,
-            }),
-        }
-    }
-
-    /// Whether the two are one report.
-    pub fn equal(&self, other: &Report) -> bool
-        ensures { IsTrue result ↔ (self.now ≡ other.now) }
-    {
-        match (self, other) {
-            (Report::Begin { process: p }, Report::Begin { process: q }) => {
-                p.as_bytes() == q.as_bytes()
-            }
-            (
-                Report::Numbered {
-                    process: p,
-                    number: m,
-                    stamp: s,
-                    action: a,
-                },
-                Report::Numbered {
-                    process: q,
-                    number: n,
-                    stamp: t,
-                    action: b,
-                },
-            ) => p.as_bytes() == q.as_bytes() && *m == *n && s.equal(t) && a.equal(b),
-            _ => false,
-        }
     }
 }

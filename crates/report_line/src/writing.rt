@@ -4,13 +4,14 @@ ghost use Rattle.std.specs.Prelude.{◌≡◌, ◌++◌, ◌∷◌, OnOk, IfOk};
 ghost use Rattle.std.specs.Fmt.{decimal};
 ghost use Rattle.stamp.specs.Stamps.{stamp_text};
 ghost use Rattle.report_line.specs.Spelling.{spelling, action_word, action_fields};
+ghost use Rattle.report_line.specs.View.{action_of};
 ghost use Rattle.report_line.specs.declared.call.Call.TheVariants as calls;
 ghost use Rattle.report_line.specs.Replies.{or_dash, outcome_word, live_word, reply_text, IsWritten};
 ghost use Rattle.report_line.specs.Cuts.{spaced};
 
 use crate::name::Name;
+use crate::packed::{ActionView, PackedReport, ReportView};
 use crate::reply::{Outcome, Reply};
-use crate::report::{Action, Report};
 use crate::text::Text;
 use stamp::Stamp;
 use std::alloc::{AllocError, Global};
@@ -22,15 +23,15 @@ fn push_number(out: &mut Vec<u8>, alloc: Global, n: u32) -> Result<(), AllocErro
     out.extend_from_slice(text.as_bytes())
 }
 
-fn push_kind(out: &mut Vec<u8>, action: &Action) -> Result<(), AllocError>
-    ensures { OnOk result (out.new.items ≡ out.old.items ++ action_word action.now) }
+fn push_kind(out: &mut Vec<u8>, action: ActionView<'_>) -> Result<(), AllocError>
+    ensures { OnOk result (out.new.items ≡ out.old.items ++ action_word (action_of action.entry)) }
 {
     match action {
-        Action::Check => out.extend_from_slice(b"CHECK"),
-        Action::Present => out.extend_from_slice(b"PRESENT"),
-        Action::Fork(_) => out.extend_from_slice(b"FORK"),
-        Action::Retire { .. } => out.extend_from_slice(b"RETIRE"),
-        Action::Absorb { .. } => out.extend_from_slice(b"ABSORB"),
+        ActionView::Check => out.extend_from_slice(b"CHECK"),
+        ActionView::Present => out.extend_from_slice(b"PRESENT"),
+        ActionView::Fork(_) => out.extend_from_slice(b"FORK"),
+        ActionView::Retire { .. } => out.extend_from_slice(b"RETIRE"),
+        ActionView::Absorb { .. } => out.extend_from_slice(b"ABSORB"),
     }
 }
 
@@ -53,12 +54,12 @@ fn push_head(
 }
 
 // The words behind the stamp, each with a space in front of it.
-fn push_fields(out: &mut Vec<u8>, action: &Action) -> Result<(), AllocError>
-    ensures { OnOk result (out.new.items ≡ out.old.items ++ spaced (action_fields action.now)) }
+fn push_fields(out: &mut Vec<u8>, action: ActionView<'_>) -> Result<(), AllocError>
+    ensures { OnOk result (out.new.items ≡ out.old.items ++ spaced (action_fields (action_of action.entry))) }
 {
     match action {
-        Action::Check | Action::Present => {}
-        Action::Fork(forked) => {
+        ActionView::Check | ActionView::Present => {}
+        ActionView::Fork(forked) => {
             out.push(b' ')?;
             forked.kept.write_to(out)?;
             out.push(b' ')?;
@@ -66,7 +67,7 @@ fn push_fields(out: &mut Vec<u8>, action: &Action) -> Result<(), AllocError>
             out.push(b' ')?;
             forked.given.write_to(out)?;
         }
-        Action::Retire { target: name } | Action::Absorb { retired: name } => {
+        ActionView::Retire { target: name } | ActionView::Absorb { retired: name } => {
             out.push(b' ')?;
             out.extend_from_slice(name.as_bytes())?;
         }
@@ -76,24 +77,24 @@ fn push_fields(out: &mut Vec<u8>, action: &Action) -> Result<(), AllocError>
 
 /// The one spelling of a report.
 #[tactic(auto, using(crate::proofs::Parting::joined_spaced), unfolding(crate::specs::Spelling::spelling))]
-pub fn write_line(alloc: Global, report: &Report) -> Result<Vec<u8>, AllocError>
+pub fn write_line(alloc: Global, report: &PackedReport) -> Result<Vec<u8>, AllocError>
     ensures { IfOk result (λ v. v.items ≡ spelling (calls.Report report.now)) }
 {
     let mut out = Vec::new(alloc);
-    match report {
-        Report::Begin { process } => {
+    match report.view() {
+        ReportView::Begin { process } => {
             out.extend_from_slice(b"BEGIN ")?;
             out.extend_from_slice(process.as_bytes())?;
             Ok(out)
         }
-        Report::Numbered {
+        ReportView::Numbered {
             process,
             number,
             stamp,
             action,
         } => {
             push_kind(&mut out, action)?;
-            push_head(&mut out, alloc, process, *number, stamp)?;
+            push_head(&mut out, alloc, process, number, stamp)?;
             push_fields(&mut out, action)?;
             Ok(out)
         }

@@ -6,6 +6,7 @@
 mod adapter;
 mod kind;
 mod link;
+mod numbered;
 mod reply_line;
 mod serving;
 mod session;

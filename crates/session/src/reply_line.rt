@@ -1,24 +1,32 @@
 //! Replies as they are written.
 
 ghost use Rattle.std.specs.Fmt.{decimal};
-ghost use Rattle.std.specs.Prelude.{◌≡◌, [], ◌∷◌, ◌++◌, OnOk, OnErr};
+ghost use Rattle.std.specs.Prelude.{◌≡◌, [], ◌∷◌, ◌++◌, ◌≤◌, OnOk, OnErr};
 ghost use Rattle.report_line.specs.Replies.{reply_text, or_dash};
 ghost use Rattle.report_line.specs.Cutting.{ended};
 ghost use Rattle.session.specs.Links.{up, Sends};
 
 use crate::link::{LinkFault, Sink, put, put_all};
+use crate::numbered::{ROOM, write_at_end};
 use itoa::Buffer;
 use report_line::{Code, Name, Outcome, Reply, Text};
 
-/// A word, a number and an LF.
-fn put_numbered<W: Sink>(writer: &mut W, word: &[u8], n: u32) -> Result<(), LinkFault>
+/// A word, a number and an LF, made in one piece.
+fn put_numbered<W: Sink, const N: usize>(
+    writer: &mut W,
+    word: &[u8; N],
+    n: u32,
+) -> Result<(), LinkFault>
+    requires { N ≤ 5 }
     ensures sent { Sends (W.held writer.old) (W.held writer.new) result (word.now ++ decimal n ++ 10 ∷ []) }
     ensures ok { OnOk result (W.write_failures writer.new ≡ W.write_failures writer.old) }
     ensures err { OnErr result (W.write_failures writer.new ≡ up 1 (W.write_failures writer.old)) }
 {
-    let mut digits = Buffer::new();
-    let text = digits.format(n).as_bytes();
-    put_all(writer, &[word, text, b"\n".as_slice()])
+    let mut line = [0u8; ROOM];
+    let digits = write_at_end(&mut line, n);
+    let start = digits - N;
+    line[start..digits].copy_from_slice(word);
+    put(writer, &line[start..])
 }
 
 fn name_bytes(name: &Option<Name>) -> &[u8]

@@ -11,7 +11,7 @@ use chains::{Admitted, Chains, Failed, FailedFault, State};
 use id_tree::Id;
 use propagate::certificate;
 use reasons::to_json;
-use report_line::{Call, Code, LineFault, Name, Reply, Report, Shared, Text};
+use report_line::{Call, Code, LineFault, Name, PackedReport, Reply, Shared, Text};
 use std::alloc::{AllocError, Global};
 use std::marker::Model;
 
@@ -27,7 +27,7 @@ fn refusal(code: Code) -> Reply
 }
 
 /// A report's turn.
-fn admit(chains: &mut Chains, report: Shared<Report>) -> Reply
+fn admit(chains: &mut Chains, report: Shared<PackedReport>) -> Reply
     ensures { Shows chains.old.accepted (calls.Report report) chains.new.accepted result }
 {
     match chains.admit_shared(report) {

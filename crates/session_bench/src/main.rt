@@ -6,7 +6,7 @@
 
 use anyhow::Result;
 use chains::Chains;
-use report_line::{Call, Report, Shared, read_line};
+use report_line::{Call, PackedReport, Shared, read_line};
 use session::{Reader, Writer, run_lines};
 use std::alloc::{AllocError, Global};
 use std::rt::Clock;
@@ -34,7 +34,7 @@ fn lines(alloc: Global) -> Result<Vec<u8>, AllocError> {
 /// Reads the lines and compares each report with the one before; how many were reports.
 fn plain_loop(alloc: Global, input: &[u8]) -> u64 {
     let mut reports = 0u64;
-    let mut last: Option<Shared<Report>> = None;
+    let mut last: Option<Shared<PackedReport>> = None;
     for line in input.split(|b| *b == b'\n') {
         let Ok(Call::Report(report)) = read_line(alloc, line) else {
             continue;

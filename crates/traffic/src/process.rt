@@ -1,7 +1,7 @@
 //! A process that reports what it does.
 
 use anyhow::{Result, bail};
-use report_line::{Action, Name, Report};
+use report_line::{Action, Name, PackedReport, Report};
 use stamp::Stamp;
 use std::alloc::Global;
 
@@ -32,32 +32,32 @@ impl Process {
     }
 
     /// The report that it begins.
-    pub fn begin(&self) -> Report {
-        Report::Begin {
+    pub fn begin(&self) -> PackedReport {
+        PackedReport::of(Report::Begin {
             process: self.name.copy(),
-        }
+        })
     }
 
     // The next report, with this stamp.
-    fn report(&mut self, stamp: Stamp, action: Action) -> Report {
+    fn report(&mut self, stamp: Stamp, action: Action) -> PackedReport {
         self.reports = self.reports.wrapping_add(1);
-        Report::Numbered {
+        PackedReport::of(Report::Numbered {
             process: self.name.copy(),
             number: self.reports,
             stamp,
             action,
-        }
+        })
     }
 
     /// It takes a checkpoint.
-    pub fn check(&mut self, alloc: Global) -> Result<Report> {
+    pub fn check(&mut self, alloc: Global) -> Result<PackedReport> {
         let after = self.stamp.event(alloc)?;
         self.stamp = after.copy(alloc)?;
         Ok(self.report(after, Action::Check))
     }
 
     /// It forks a child of this name.
-    pub fn fork(&mut self, alloc: Global, name: Name) -> Result<(Report, Process)> {
+    pub fn fork(&mut self, alloc: Global, name: Name) -> Result<(PackedReport, Process)> {
         let after = self.stamp.event(alloc)?;
         let (kept, given) = self.stamp.fork(alloc)?;
         let kept_id = kept.id.copy(alloc)?;

@@ -2,7 +2,7 @@
 
 use crate::process::{Process, name_of};
 use anyhow::{Result, bail};
-use report_line::{Name, Report, write_line};
+use report_line::{Name, PackedReport, write_line};
 use std::alloc::Global;
 use std::io::Write;
 use std::num::NonZeroU32;
@@ -11,24 +11,41 @@ use std::num::NonZeroU32;
 const REPORT_LIMIT: u32 = 16_384;
 
 // Writes the line of a report.
-fn put<W: Write>(alloc: Global, out: &mut W, report: &Report) -> Result<()> {
+fn put<W: Write>(alloc: Global, out: &mut W, report: &PackedReport) -> Result<()> {
     let line = write_line(alloc, report)?;
     out.write_all(&line)?;
     out.write_all(b"\n")?;
     Ok(())
 }
 
+// Writes the line by which a root begins.
+fn put_begin<W: Write>(alloc: Global, out: &mut W, root: &Process) -> Result<()> {
+    put(alloc, out, &root.begin())
+}
+
+// Writes the line of a process's next checkpoint, so many times.
+fn put_check<W: Write>(
+    alloc: Global,
+    out: &mut W,
+    process: &mut Process,
+    times: u32,
+) -> Result<()> {
+    let report = process.check(alloc)?;
+    for _ in 0..times {
+        put(alloc, out, &report)?;
+    }
+    Ok(())
+}
+
 /// As many reports of one process as are accepted, the last one once more, and one report more.
 pub fn limit<W: Write>(alloc: Global, out: &mut W) -> Result<()> {
     let mut process = Process::root(alloc, name_of("a")?);
-    put(alloc, out, &process.begin())?;
+    put_begin(alloc, out, &process)?;
     for _ in 2..REPORT_LIMIT {
-        put(alloc, out, &process.check(alloc)?)?;
+        put_check(alloc, out, &mut process, 1)?;
     }
-    let last = process.check(alloc)?;
-    put(alloc, out, &last)?;
-    put(alloc, out, &last)?;
-    put(alloc, out, &process.check(alloc)?)
+    put_check(alloc, out, &mut process, 2)?;
+    put_check(alloc, out, &mut process, 1)
 }
 
 // The name of the process of this index, counted from 0.
@@ -41,7 +58,7 @@ fn member_name(alloc: Global, index: u32) -> Result<Name> {
 /// birth. A round begins at each power of two, since it doubles the family.
 pub fn forks<W: Write>(alloc: Global, out: &mut W, forks: u32) -> Result<Vec<Process>> {
     let root = Process::root(alloc, member_name(alloc, 0)?);
-    put(alloc, out, &root.begin())?;
+    put_begin(alloc, out, &root)?;
     let mut family = Vec::new(alloc);
     family.push(root)?;
     let mut round = 0u32;

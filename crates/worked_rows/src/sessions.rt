@@ -106,8 +106,8 @@ fn sessions_end(rt: HostRuntime) -> Result<(), Fail> {
         (1, 0, 999, Kind::End, "OK 1\nOLD 1\nNO 3 b -\nBAD 1\n", 4),
         (8, 3, 999, Kind::ReadFailed, "OK 1\nOLD 1\n", 2),
         (1, 11, 999, Kind::ReadFailed, "OK 1\n", 1),
-        (8, 0, 5, Kind::WriteFailed, "OK 1\nOLD", 1),
-        (8, 3, 5, Kind::WriteFailed, "OK 1\nOLD", 1),
+        (8, 0, 4, Kind::WriteFailed, "OK 1\nOLD", 1),
+        (8, 3, 4, Kind::WriteFailed, "OK 1\nOLD", 1),
     ] {
         let mut chains = Chains::new(rt.alloc());
         let mut reader = source_of(input, size, fail_read);

@@ -5,6 +5,7 @@ use Rattle.report_line.specs.declared.code.Code.TheVariants.{WrongNumber, NotWai
 use Rattle.report_line.specs.declared.report.Action.{Action}
 use Rattle.report_line.specs.declared.report.Action.TheVariants.{Absorb}
 use Rattle.report_line.specs.declared.reply.Reply.TheVariants.{No}
+use Rattle.report_line.specs.View.{action_of}
 use Rattle.chains.specs.Processes.{next_number, Waits}
 use Rattle.chains.specs.Admission.{IsWaitingReply, IsStampReply}
 use Rattle.chains.specs.Keeping.{Tests}
@@ -19,7 +20,7 @@ returns-then-number-next c =
     let p = c.args.name.now in
     let n = c.args.number in
     let same : c.reports_of-next.result + 1 ≡ next_number p accepted = ap (λ (k : ℕ). k + 1) (c.reports_of-next.ensures p c.requires.place) in
-    refuses (n ≢ next_number p accepted) (IsWaitingReply accepted p n c.args.stamp.now c.args.action.now) accepted c.refusal_with.result WrongNumber p (decimal (next_number p accepted)) c.number_text.result c.refusal_with.ensures
+    refuses (n ≢ next_number p accepted) (IsWaitingReply accepted p n c.args.stamp.now (action_of c.args.action)) accepted c.refusal_with.result WrongNumber p (decimal (next_number p accepted)) c.number_text.result c.refusal_with.ensures
     (subst (λ (m : ℕ). IfOk c.number_text.result (λ t. t ≡ decimal m)) same c.number_text.ensures) (λ e. c.if-number-next.true (e ∙ sym same))
 
 pub returns-in-None : goal.returns-in-None
@@ -28,7 +29,7 @@ returns-in-None c =
     let p = c.args.name.now in
     let n = c.args.number in
     let s = c.args.stamp.now in
-    let a = c.args.action.now in
+    let a = action_of c.args.action in
     let same : c.reports_of-next.result + 1 ≡ next_number p accepted = ap (λ (k : ℕ). k + 1) (c.reports_of-next.ensures p c.requires.place) in
     passed_on (n ≢ next_number p accepted) (No WrongNumber (Some p) (Some (decimal (next_number p accepted)))) (IsWaitingReply accepted p n s a) accepted c.test_own.result (λ h. h (c.if-number-next.false ∙ same))
     (as_own accepted p n s a c.test_own.result c.in-None.ensures c.test_own.ensures)
@@ -41,7 +42,7 @@ returns-in-Some-waiting c =
     let s = c.args.stamp.now in
     let retired = c.in-Some.retired.now in
     let same : c.reports_of-next.result + 1 ≡ next_number p accepted = ap (λ (k : ℕ). k + 1) (c.reports_of-next.ensures p c.requires.place) in
-    passed_on (n ≢ next_number p accepted) (No WrongNumber (Some p) (Some (decimal (next_number p accepted)))) (IsWaitingReply accepted p n s c.args.action.now) accepted c.test_absorb.result (λ h. h (c.if-number-next.false ∙ same))
+    passed_on (n ≢ next_number p accepted) (No WrongNumber (Some p) (Some (decimal (next_number p accepted)))) (IsWaitingReply accepted p n s (action_of c.args.action)) accepted c.test_absorb.result (λ h. h (c.if-number-next.false ∙ same))
     (subst (λ (a : Action). Tests (IsWaitingReply accepted p n s a) accepted c.test_absorb.result) (sym c.in-Some.ensures)
     (passed_on (¬ Waits accepted retired p) (No NotWaiting (Some retired) None) (IsStampReply accepted p n s (Absorb retired)) accepted c.test_absorb.result (λ h. h c.in-Some-waiting.ensures.0) c.test_absorb.ensures))
 

@@ -1,4 +1,5 @@
 use Rattle.std.proofs.Common.{subst, Option, Err}
+use Rattle.report_line.specs.View.{action_of}
 use Rattle.chains.specs.Processes.{Name}
 use Rattle.chains.specs.Admission.{IsStandingReply}
 use Rattle.chains.specs.Keeping.{Tests}
@@ -11,7 +12,7 @@ returns-in-Some c =
     let p = c.args.name.now in
     let n = c.args.number in
     let s = c.args.stamp.now in
-    let a = c.args.action.now in
+    let a = action_of c.args.action in
     let refusal = c.refusal_with.result in
     not_last accepted c.args.report.now p n s a (Err refusal) c.is_last.result c.if-is_last.false (c.is_last.ensures p c.requires.place) c.requires.fields
     (subst (λ (o : Option Name). Tests (IsStandingReply o accepted p n s a) accepted (Err refusal)) (c.in-Some.ensures p c.requires.place)
@@ -23,7 +24,7 @@ returns-in-None c =
     let p = c.args.name.now in
     let n = c.args.number in
     let s = c.args.stamp.now in
-    let a = c.args.action.now in
+    let a = action_of c.args.action in
     let result = c.test_number.result in
     not_last accepted c.args.report.now p n s a result c.is_last.result c.if-is_last.false (c.is_last.ensures p c.requires.place) c.requires.fields
     (subst (λ (o : Option Name). Tests (IsStandingReply o accepted p n s a) accepted result) (c.in-None.ensures p c.requires.place) c.test_number.ensures)

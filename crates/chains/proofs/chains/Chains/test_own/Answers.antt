@@ -6,6 +6,7 @@ use Rattle.id_tree.specs.IdTree.{IdTree}
 use Rattle.id_tree.specs.Spelling.{spelling}
 use Rattle.report_line.specs.declared.code.Code.TheVariants.{WrongId, NotGrown}
 use Rattle.report_line.specs.declared.reply.Reply.TheVariants.{No}
+use Rattle.report_line.specs.View.{action_of}
 use Rattle.chains.specs.Processes.{known, expected_id, registered_id, last_events}
 use Rattle.chains.specs.Admission.{Decides, AreGrown, IsActionReply}
 use Rattle.chains.proofs.Tested.{refuses, passed_on, own_id}
@@ -16,7 +17,7 @@ returns-then-not-equal c =
     let accepted = c.args.self.now.accepted in
     let p = c.args.name.now in
     let s = c.args.stamp.now in
-    let a = c.args.action.now in
+    let a = action_of c.args.action in
     let same : c.registered_id-registered.result.now ≡ expected_id accepted p a = c.registered_id-registered.ensures p c.requires.place ∙ sym (own_id accepted p a c.requires.own) in
     refuses (s.id ≢ expected_id accepted p a) (λ x. Decides (¬ AreGrown (last_events p accepted) (registered_id p accepted) s.events) (No NotGrown (Some p) None) x (IsActionReply accepted p c.args.number s a x))
     accepted c.refusal_with.result WrongId p (spelling (expected_id accepted p a)) c.id_text.result c.refusal_with.ensures
@@ -30,7 +31,7 @@ returns c =
     let accepted = c.args.self.now.accepted in
     let p = c.args.name.now in
     let s = c.args.stamp.now in
-    let a = c.args.action.now in
+    let a = action_of c.args.action in
     let grown = AreGrown (last_events p accepted) (registered_id p accepted) s.events in
     let same : c.registered_id-registered.result.now ≡ expected_id accepted p a = c.registered_id-registered.ensures p c.requires.place ∙ sym (own_id accepted p a c.requires.own) in
     passed_on (s.id ≢ expected_id accepted p a) (No WrongId (Some p) (Some (spelling (expected_id accepted p a)))) (λ x. Decides (¬ grown) (No NotGrown (Some p) None) x (IsActionReply accepted p c.args.number s a x))

@@ -1,0 +1,36 @@
+-- The fields that are read off a kept report.
+use Rattle.std.specs.Prelude.{◌≡◌}
+use Rattle.report_line.specs.declared.packed.ActionView.{ActionView}
+use Rattle.report_line.specs.declared.packed.ActionView.TheVariants as shown
+use Rattle.report_line.specs.declared.packed.Packed.{Packed}
+use Rattle.report_line.specs.declared.packed.Packed.TheVariants as kinds
+use Rattle.report_line.specs.declared.packed.ReportView.{ReportView}
+use Rattle.report_line.specs.declared.packed.ReportView.TheVariants as views
+use Rattle.report_line.specs.declared.report.Action.{Action}
+use Rattle.report_line.specs.declared.report.Action.TheVariants.{Check, Present, Fork, Retire, Absorb}
+use Rattle.report_line.specs.declared.report.Report.{Report}
+use Rattle.report_line.specs.declared.report.Report.TheVariants.{Begin, Numbered}
+
+-- the action, read off a report
+abbrev pub action_of : ActionView → Action
+action_of shown.Check = Check
+action_of shown.Present = Present
+action_of (shown.Fork f) = Fork f.now
+action_of (shown.Retire target) = Retire target.now
+action_of (shown.Absorb retired) = Absorb retired.now
+
+-- these are the fields of the report
+abbrev pub Shows : ReportView → Report → Type 0
+Shows (views.Begin p) r = r ≡ Begin p.now
+Shows (views.Numbered p n s d) r = r ≡ Numbered p.now n s.now (action_of d)
+
+-- Working definition.
+
+-- the report that is kept
+abbrev pub unpacked : Packed → Report
+unpacked (kinds.Begin p) = Begin p
+unpacked (kinds.Check p n s) = Numbered p n s Check
+unpacked (kinds.Present p n s) = Numbered p n s Present
+unpacked (kinds.Fork p n s f) = Numbered p n s (Fork f)
+unpacked (kinds.Retire p n s target) = Numbered p n s (Retire target)
+unpacked (kinds.Absorb p n s retired) = Numbered p n s (Absorb retired)

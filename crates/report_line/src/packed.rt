@@ -1,0 +1,337 @@
+//! Reports in the shape in which they are kept.
+
+ghost use Rattle.std.specs.Prelude.{◌≡◌, ◌↔◌, IsTrue, IfOk};
+ghost use Rattle.report_line.specs.Reports.{process_of, number_of};
+ghost use Rattle.report_line.specs.View.{Shows, action_of};
+
+use crate::name::Name;
+use crate::report::{Action, Forked, Report};
+use crate::shared::Shared;
+use stamp::Stamp;
+use std::alloc::{AllocError, Global};
+use std::marker::Model;
+
+// A kind for each action: an action beside the fields would have a tag of its own, which takes 8 bytes.
+#[derive(Drop)]
+pub(crate) enum Packed {
+    Begin {
+        process: Name,
+    },
+    Check {
+        process: Name,
+        number: u32,
+        stamp: Stamp,
+    },
+    Present {
+        process: Name,
+        number: u32,
+        stamp: Stamp,
+    },
+    Fork {
+        process: Name,
+        number: u32,
+        stamp: Stamp,
+        forked: Shared<Forked>,
+    },
+    Retire {
+        process: Name,
+        number: u32,
+        stamp: Stamp,
+        target: Shared<Name>,
+    },
+    Absorb {
+        process: Name,
+        number: u32,
+        stamp: Stamp,
+        retired: Shared<Name>,
+    },
+}
+
+/// A report in the shape in which it is kept, of 80 bytes; seen as the report.
+#[derive(Drop)]
+pub struct PackedReport {
+    packed: Packed,
+}
+
+impl Model for PackedReport {
+    ghost use Rattle.report_line.specs.declared.report.Report.{Report};
+    ghost use Rattle.report_line.specs.Codes.{report_code};
+    ghost use Rattle.report_line.specs.View.{unpacked};
+
+    ghost Value = { Report };
+
+    ghost coded = { report_code };
+
+    ghost view = { λ r. unpacked r.packed };
+}
+
+/// An action by reference, read off a report.
+#[derive(Clone, Copy)]
+pub enum ActionView<'a> {
+    /// It took a checkpoint.
+    Check,
+    /// It is in this state, and stays in it until its next report.
+    Present,
+    /// It made a child.
+    Fork(&'a Forked),
+    /// It ended, and its stamp goes to the target.
+    Retire { target: &'a Name },
+    /// It took up the stamp of a process that retired into it.
+    Absorb { retired: &'a Name },
+}
+
+/// The fields of a report, by reference.
+#[derive(Clone, Copy)]
+pub enum ReportView<'a> {
+    /// The process is the root, and begins.
+    Begin {
+        process: &'a Name,
+    },
+    /// The process did this, in its report of this number.
+    Numbered {
+        process: &'a Name,
+        number: u32,
+        stamp: &'a Stamp,
+        action: ActionView<'a>,
+    },
+}
+
+impl<'a> ActionView<'a> {
+    /// Whether the two are one action.
+    pub fn equal(self, other: ActionView<'a>) -> bool
+        ensures { IsTrue result ↔ (action_of self.entry ≡ action_of other.entry) }
+    {
+        match (self, other) {
+            (ActionView::Check, ActionView::Check) => true,
+            (ActionView::Present, ActionView::Present) => true,
+            (ActionView::Fork(f), ActionView::Fork(g)) => f.equal(g),
+            (ActionView::Retire { target: p }, ActionView::Retire { target: q }) => {
+                p.as_bytes() == q.as_bytes()
+            }
+            (ActionView::Absorb { retired: p }, ActionView::Absorb { retired: q }) => {
+                p.as_bytes() == q.as_bytes()
+            }
+            _ => false,
+        }
+    }
+}
+
+impl PackedReport {
+    /// The report in this shape. It takes no memory.
+    #[inline(always)]
+    pub fn of(report: Report) -> PackedReport
+        ensures { result ≡ report }
+    {
+        let packed = match report {
+            Report::Begin { process } => Packed::Begin { process },
+            Report::Numbered {
+                process,
+                number,
+                stamp,
+                action,
+            } => match action {
+                Action::Check => Packed::Check {
+                    process,
+                    number,
+                    stamp,
+                },
+                Action::Present => Packed::Present {
+                    process,
+                    number,
+                    stamp,
+                },
+                Action::Fork(forked) => Packed::Fork {
+                    process,
+                    number,
+                    stamp,
+                    forked,
+                },
+                Action::Retire { target } => Packed::Retire {
+                    process,
+                    number,
+                    stamp,
+                    target,
+                },
+                Action::Absorb { retired } => Packed::Absorb {
+                    process,
+                    number,
+                    stamp,
+                    retired,
+                },
+            },
+        };
+        PackedReport { packed }
+    }
+
+    /// The fields of the report.
+    #[inline(always)]
+    pub fn view(&self) -> ReportView<'_>
+        ensures { Shows result self.now }
+    {
+        match &self.packed {
+            Packed::Begin { process } => ReportView::Begin { process },
+            Packed::Check {
+                process,
+                number,
+                stamp,
+            } => ReportView::Numbered {
+                process,
+                number: *number,
+                stamp,
+                action: ActionView::Check,
+            },
+            Packed::Present {
+                process,
+                number,
+                stamp,
+            } => ReportView::Numbered {
+                process,
+                number: *number,
+                stamp,
+                action: ActionView::Present,
+            },
+            Packed::Fork {
+                process,
+                number,
+                stamp,
+                forked,
+            } => ReportView::Numbered {
+                process,
+                number: *number,
+                stamp,
+                action: ActionView::Fork(forked),
+            },
+            Packed::Retire {
+                process,
+                number,
+                stamp,
+                target,
+            } => ReportView::Numbered {
+                process,
+                number: *number,
+                stamp,
+                action: ActionView::Retire { target },
+            },
+            Packed::Absorb {
+                process,
+                number,
+                stamp,
+                retired,
+            } => ReportView::Numbered {
+                process,
+                number: *number,
+                stamp,
+                action: ActionView::Absorb { retired },
+            },
+        }
+    }
+
+    /// The process that reports.
+    pub fn process(&self) -> &Name
+        ensures { result.now ≡ process_of self.now }
+    {
+        match self.view() {
+            ReportView::Begin { process } => process,
+            ReportView::Numbered { process, .. } => process,
+        }
+    }
+
+    /// The number of the report, which a `BEGIN` has not.
+    pub fn number(&self) -> Option<u32>
+        ensures { result ≡ number_of self.now }
+    {
+        match self.view() {
+            ReportView::Begin { .. } => None,
+            ReportView::Numbered { number, .. } => Some(number),
+        }
+    }
+
+    /// The same report once more. What stands in a block of its own is shared.
+    pub fn copy(&self, alloc: Global) -> Result<PackedReport, AllocError>
+        ensures { IfOk result (λ r. r ≡ self.now) }
+    {
+        let packed = match &self.packed {
+            Packed::Begin { process } => Packed::Begin {
+                process: process.copy(),
+            },
+            Packed::Check {
+                process,
+                number,
+                stamp,
+            } => Packed::Check {
+                process: process.copy(),
+                number: *number,
+                stamp: stamp.copy(alloc)?,
+            },
+            Packed::Present {
+                process,
+                number,
+                stamp,
+            } => Packed::Present {
+                process: process.copy(),
+                number: *number,
+                stamp: stamp.copy(alloc)?,
+            },
+            Packed::Fork {
+                process,
+                number,
+                stamp,
+                forked,
+            } => Packed::Fork {
+                process: process.copy(),
+                number: *number,
+                stamp: stamp.copy(alloc)?,
+                forked: forked.share()?,
+            },
+            Packed::Retire {
+                process,
+                number,
+                stamp,
+                target,
+            } => Packed::Retire {
+                process: process.copy(),
+                number: *number,
+                stamp: stamp.copy(alloc)?,
+                target: target.share()?,
+            },
+            Packed::Absorb {
+                process,
+                number,
+                stamp,
+                retired,
+            } => Packed::Absorb {
+                process: process.copy(),
+                number: *number,
+                stamp: stamp.copy(alloc)?,
+                retired: retired.share()?,
+            },
+        };
+        Ok(PackedReport { packed })
+    }
+
+    /// Whether the two are one report.
+    pub fn equal(&self, other: &PackedReport) -> bool
+        ensures { IsTrue result ↔ (self.now ≡ other.now) }
+    {
+        match (self.view(), other.view()) {
+            (ReportView::Begin { process: p }, ReportView::Begin { process: q }) => {
+                p.as_bytes() == q.as_bytes()
+            }
+            (
+                ReportView::Numbered {
+                    process: p,
+                    number: m,
+                    stamp: s,
+                    action: a,
+                },
+                ReportView::Numbered {
+                    process: q,
+                    number: n,
+                    stamp: t,
+                    action: b,
+                },
+            ) => m == n && p.as_bytes() == q.as_bytes() && s.equal(t) && a.equal(b),
+            _ => false,
+        }
+    }
+}

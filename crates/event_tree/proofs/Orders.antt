@@ -7,7 +7,7 @@ use Rattle.event_tree.specs.EventTree.{EventTree, Leaf, Node}
 use Rattle.event_tree.specs.Values.{value_at, IsAtOrBelow, ExceedsOn}
 use Rattle.event_tree.specs.NormalForm.{least}
 use Rattle.event_tree.specs.Halves.{root, left, right}
-use Rattle.event_tree.specs.Tests.{is_below_from, is_at_or_below, exceeds_from, exceeds_on}
+use Rattle.event_tree.specs.Tests.{is_below_from, exceeds_from}
 use Rattle.event_tree.proofs.Trees.{value_at-nil, value_at-left, value_at-right, least_le, some_least}
 
 pub below_from-true : (x : ℕ) (e : EventTree) (y : ℕ) (f : EventTree) → is_below_from x e y f ≡ true → (p : Point) → x + value_at e p ≤ y + value_at f p
@@ -24,19 +24,19 @@ below_from-false x (Node m a b) y f h =
       | inr hb ↦ let q = below_from-false (x + m) b (y + root f) (right f) hb in (true ∷ q.0, omega (arith, q.1, value_at-right f q.0))
     ]
 
-pub below_is_pointwise : (e f : EventTree) → (is_at_or_below e f ≡ true) ↔ IsAtOrBelow e f
+pub below_is_pointwise : (e f : EventTree) → (is_below_from 0 e 0 f ≡ true) ↔ IsAtOrBelow e f
 below_is_pointwise e f = (
   λ h p. omega (arith, below_from-true 0 e 0 f h p),
-  λ below. elim (cases_Bool (is_at_or_below e f)) [
+  λ below. elim (cases_Bool (is_below_from 0 e 0 f)) [
     | inl h ↦ h
     | inr h ↦ let q = below_from-false 0 e 0 f h in absurd (omega (arith, q.1, below q.0))
   ],
 )
 
-pub not_below : (e f : EventTree) → (is_at_or_below e f ≡ false) ↔ ((p : Point) × (value_at f p < value_at e p))
+pub not_below : (e f : EventTree) → (is_below_from 0 e 0 f ≡ false) ↔ ((p : Point) × (value_at f p < value_at e p))
 not_below e f = (
   λ h. let q = below_from-false 0 e 0 f h in (q.0, omega (arith, q.1)),
-  λ q. elim (cases_Bool (is_at_or_below e f)) [
+  λ q. elim (cases_Bool (is_below_from 0 e 0 f)) [
     | inl h ↦ absurd (omega (arith, q.1, below_from-true 0 e 0 f h q.0))
     | inr h ↦ h
   ],
@@ -60,10 +60,10 @@ exceeds_from-false (Pair l r) x e y f h [] o = omega (arith, exceeds_from-false 
 exceeds_from-false (Pair l r) x e y f h (false ∷ p) o = omega (arith, exceeds_from-false l (x + root e) (left e) (y + root f) (left f) (or_parts _ _ h).0 p o, value_at-left e p, value_at-left f p)
 exceeds_from-false (Pair l r) x e y f h (true ∷ p) o = omega (arith, exceeds_from-false r (x + root e) (right e) (y + root f) (right f) (or_parts _ _ h).1 p o, value_at-right e p, value_at-right f p)
 
-pub exceeding_is_pointwise : (i : IdTree) (e f : EventTree) → (exceeds_on i e f ≡ true) ↔ ExceedsOn i e f
+pub exceeding_is_pointwise : (i : IdTree) (e f : EventTree) → (exceeds_from i 0 e 0 f ≡ true) ↔ ExceedsOn i e f
 exceeding_is_pointwise i e f = (
   λ h. let q = exceeds_from-true i 0 e 0 f h in (q.0, q.1, omega (arith, q.2)),
-  λ q. elim (cases_Bool (exceeds_on i e f)) [
+  λ q. elim (cases_Bool (exceeds_from i 0 e 0 f)) [
     | inl h ↦ h
     | inr h ↦ absurd (omega (arith, q.2, exceeds_from-false i 0 e 0 f h q.0 q.1))
   ],

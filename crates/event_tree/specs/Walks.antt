@@ -1,11 +1,10 @@
 -- Working definitions: the walks of the code, by cases in its order.
-use Rattle.std.specs.Prelude.{ℕ, ◌+◌, max, Bool, false, ◌&&◌, ◌==◌, cond}
+use Rattle.std.specs.Prelude.{ℕ, ◌+◌, max}
 use Rattle.id_tree.specs.IdTree.{IdTree, Zero, One, Pair}
 use Rattle.event_tree.specs.EventTree.{EventTree, Leaf, Node}
 use Rattle.event_tree.specs.NormalForm.{least, greatest}
 use Rattle.event_tree.specs.Halves.{root, left, right}
 use Rattle.event_tree.specs.Norm.{normal_node}
-use Rattle.event_tree.specs.Event.{fill, grow}
 
 -- f above the base y, raised to k where it is less
 abbrev pub raised : ℕ → ℕ → EventTree → EventTree
@@ -29,13 +28,3 @@ filled Zero e = e
 filled One e = Leaf (greatest e)
 filled (Pair l r) (Leaf n) = Leaf n
 filled (Pair l r) (Node n a b) = filled_node l r n (filled l a) (filled r b)
-
-abbrev pub is_same : EventTree → EventTree → Bool
-is_same (Leaf m) (Leaf n) = m == n
-is_same (Leaf m) (Node n c d) = false
-is_same (Node m a b) (Leaf n) = false
-is_same (Node m a b) (Node n c d) = (m == n) && (is_same a c && is_same b d)
-
--- what an event makes of e
-unfoldable pub event_step : IdTree → EventTree → EventTree
-event_step i e = let f = fill i e in cond (is_same f e) (grow i e) f

@@ -8,11 +8,11 @@ ghost use Rattle.std.specs.Prelude.{◌≡◌, ◌↔◌, ◌++◌, ◌≤◌, �
 ghost use Rattle.std.specs.List.{list_all};
 ghost use Rattle.id_tree.specs.IdTree.{IdTree, Zero};
 ghost use Rattle.id_tree.specs.NormalForm.{depth_limit, depth as id_depth, IsNormal as IsNormalId};
-ghost use Rattle.id_tree.specs.Points.{Point};
+ghost use Rattle.id_tree.specs.Points.{Point, owns};
 ghost use Rattle.id_tree.specs.Spelling.{is_tree_byte};
 ghost use Rattle.event_tree.specs.EventTree.{EventTree, Leaf};
 ghost use Rattle.event_tree.specs.Values.{value_at, IsAtOrBelow, ExceedsOn};
-ghost use Rattle.event_tree.specs.NormalForm.{IsEvents, IsNormal, depth, greatest, value_limit};
+ghost use Rattle.event_tree.specs.NormalForm.{IsEvents, IsNormal, depth, least, greatest, value_limit};
 ghost use Rattle.event_tree.specs.Spelling.{spelling, IsTextOf};
 ghost use Rattle.event_tree.specs.Faults.{IsFaultOf, IsEventFaultOf};
 ghost use Rattle.event_tree.specs.Join.{IsJoin};
@@ -20,8 +20,6 @@ ghost use Rattle.event_tree.specs.Grown.{IsGrown};
 ghost use Rattle.event_tree.specs.Norm.{norm};
 ghost use Rattle.event_tree.specs.Event.{IsEventStep, PassesLimit, fill, cost, grow};
 ghost use Rattle.event_tree.specs.Ways.{CanGrow, CostsNoMore, way, IsAtOrRightOf};
-ghost use Rattle.event_tree.specs.Walks.{filled, event_step};
-ghost use Rattle.event_tree.specs.Tests.{is_at_or_below, exceeds_on};
 
 mod event;
 mod fault;
@@ -97,7 +95,6 @@ impl Events {
     pub fn leq(&self, other: &Events) -> bool
         ensures pointwise { IsTrue result ↔ IsAtOrBelow self.now other.now }
         ensures exceeding { (result ≡ false) ↔ ((p : Point) × (value_at other.now p < value_at self.now p)) }
-        ensures test { result ≡ is_at_or_below self.now other.now }
     {
         order::is_below_from(0, &self.node, 0, &other.node)
     }
@@ -105,8 +102,7 @@ impl Events {
     /// Whether this tree is greater than the other at some point that the id owns. It takes no memory.
     #[inline(always)]
     pub fn exceeds_on(&self, other: &Events, id: &Id) -> bool
-        ensures pointwise { IsTrue result ↔ ExceedsOn id.now self.now other.now }
-        ensures test { result ≡ exceeds_on id.now self.now other.now }
+        ensures { IsTrue result ↔ ExceedsOn id.now self.now other.now }
     {
         order::exceeds_from(id.view(), 0, &self.node, 0, &other.node)
     }
@@ -182,8 +178,9 @@ pub fn event_trees_with_equal_values_are_equal()
     ensures { (e f : EventTree) → IsNormal e → IsNormal f → ((p : Point) → value_at e p ≡ value_at f p) → e ≡ f }
 {}
 
-/// No text is that of two trees.
+/// A tree's spelling is its text, and no text is that of two trees.
 pub fn an_event_tree_has_one_text()
+    ensures own { (e : EventTree) → IsEvents e → IsTextOf e (spelling e) }
     ensures spelled { (e f : EventTree) → IsEvents e → IsEvents f → spelling e ≡ spelling f → e ≡ f }
     ensures read { (t u : EventTree) (bytes : List ℕ) → IsTextOf t bytes → IsTextOf u bytes → t ≡ u }
 {}
@@ -193,10 +190,12 @@ pub fn texts_of_event_trees_are_plain()
     ensures { (e : EventTree) → IsEvents e → IsTrue (list_all is_tree_byte (spelling e)) }
 {}
 
-/// The tests by recursion are those of the values at each point.
-pub fn the_order_test_is_pointwise()
-    ensures below { (e f : EventTree) → (is_at_or_below e f ≡ true) ↔ IsAtOrBelow e f }
-    ensures exceeding { (i : IdTree) (e f : EventTree) → (exceeds_on i e f ≡ true) ↔ ExceedsOn i e f }
+/// The greatest value of a tree is the value at some point, and no value is above it; so is the least, and none is below it.
+pub fn the_least_and_the_greatest_are_values_at_points()
+    ensures some_greatest { (e : EventTree) → (p : Point) × (value_at e p ≡ greatest e) }
+    ensures none_above { (e : EventTree) (p : Point) → value_at e p ≤ greatest e }
+    ensures some_least { (e : EventTree) → (p : Point) × (value_at e p ≡ least e) }
+    ensures none_below { (e : EventTree) (p : Point) → least e ≤ value_at e p }
 {}
 
 /// The normal form has the same values, is normal, and is the tree itself where that was normal.
@@ -206,10 +205,10 @@ pub fn the_normal_form_has_the_same_values()
     ensures unchanged { (e : EventTree) → IsNormal e → norm e ≡ e }
 {}
 
-/// An event of an id has one step of each tree, which `event_step` computes.
+/// An event of an id has a step of each tree, and only one.
 pub fn an_event_has_one_step()
-    ensures computed { (i : IdTree) (e : EventTree) → IsEventStep i e (event_step i e) }
-    ensures only { (i : IdTree) (e f : EventTree) → IsEventStep i e f → f ≡ event_step i e }
+    ensures some { (i : IdTree) (e : EventTree) → (f : EventTree) × IsEventStep i e f }
+    ensures only { (i : IdTree) (e f g : EventTree) → IsEventStep i e f → IsEventStep i e g → f ≡ g }
 {}
 
 /// The step of an event grows the tree where the id owns, is normal, no deeper than both, and has no value more than one
@@ -228,7 +227,10 @@ pub fn growth_costs_least()
     ensures rightmost { (i : IdTree) (e t : EventTree) (p : Point) → CanGrow i e p (cost i e).opened (cost i e).levels t → IsAtOrRightOf (way i e) p }
 {}
 
-/// Of an id and a tree in normal form, fill is the walk that makes each node normal.
-pub fn fill_makes_each_node_normal()
-    ensures { (i : IdTree) (e : EventTree) → IsNormalId i → IsNormal e → fill i e ≡ filled i e }
+/// Of an id and a tree in normal form, fill raises only points that the id owns, lowers none, and passes the tree's greatest
+/// value at none.
+pub fn fill_raises_only_what_is_owned()
+    ensures same { (i : IdTree) (e : EventTree) (p : Point) → IsNormalId i → IsNormal e → owns i p ≡ false → value_at (fill i e) p ≡ value_at e p }
+    ensures above { (i : IdTree) (e : EventTree) (p : Point) → IsNormalId i → IsNormal e → value_at e p ≤ value_at (fill i e) p }
+    ensures within { (i : IdTree) (e : EventTree) (p : Point) → IsNormalId i → IsNormal e → value_at (fill i e) p ≤ greatest e }
 {}

@@ -1,3 +1,4 @@
 pub mod Texts
 pub mod Cuts
 pub mod Told
+pub mod Joined

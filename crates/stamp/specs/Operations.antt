@@ -8,6 +8,7 @@ use Rattle.event_tree.specs.EventTree.{EventTree}
 use Rattle.event_tree.specs.NormalForm.{IsNormal}
 use Rattle.event_tree.specs.Join.{IsJoin}
 use Rattle.event_tree.specs.Event.{IsEventStep, PassesLimit}
+use Rattle.event_tree.specs.Grown.{IsGrown}
 use Rattle.stamp.specs.declared.stamp.Stamp.{Stamp}
 use Rattle.stamp.specs.declared.fault.StampFault.{StampFault}
 use Rattle.stamp.specs.declared.fault.StampFault.TheVariants.{NothingOwned, ClockFull, TooDeep, Overlap, Memory}
@@ -29,17 +30,19 @@ pub record IsNormalJoin (e f g : EventTree) : Type 0 where
   pub join : IsJoin e f g
   pub normal : IsNormal g
 
--- a receive: the events are joined with those that came, and then an event
+-- a receive: the events are joined with those that came, and then an event, which raises what the id owns
 pub record IsReceive (s : Stamp) (came : EventTree) (t : Stamp) : Type 0 where
   pub id : t.id ≡ s.id
   pub joined : EventTree
   pub is_join : IsNormalJoin s.events came joined
   pub step : IsEventStep s.id joined t.events
+  pub grown : IsGrown s.id joined t.events
 
--- an absorption: an event on the own stamp, and then the retired one joins it
+-- an absorption: an event on the own stamp, which raises what the id owns, and then the retired one joins it
 pub record IsAbsorb (s retired t : Stamp) : Type 0 where
   pub after : EventTree
   pub step : IsEventStep s.id s.events after
+  pub grown : IsGrown s.id s.events after
   pub join : IsJoin after retired.events t.events
   pub disjoint : AreDisjoint s.id retired.id
   pub together : AreTogether s.id retired.id t.id

@@ -5,9 +5,10 @@ ghost use Rattle.id_tree.specs.IdTree.{Zero};
 ghost use Rattle.id_tree.specs.NormalForm.{depth_limit};
 ghost use Rattle.id_tree.specs.Points.{Overlap};
 ghost use Rattle.id_tree.specs.Split.{IsSplit, parts_depth};
+ghost use Rattle.event_tree.specs.EventTree.{EventTree};
 ghost use Rattle.event_tree.specs.Event.{IsEventStep, PassesLimit};
 ghost use Rattle.event_tree.specs.Grown.{IsGrown};
-ghost use Rattle.stamp.specs.Operations.{IsEvent, IsFork, IsReceive, IsAbsorb, IsEventFault, IsForkFault, IsReceiveFault, IsAbsorbFault};
+ghost use Rattle.stamp.specs.Operations.{IsEvent, IsFork, IsNormalJoin, IsReceive, IsAbsorb, IsEventFault, IsForkFault, IsReceiveFault, IsAbsorbFault};
 
 use crate::fault::StampFault;
 use crate::stamp::Stamp;
@@ -75,6 +76,7 @@ impl Stamp {
     pub fn receive(&self, alloc: Global, came: &Events) -> Result<Stamp, StampFault>
         ensures receive { IfOk result (λ t. IsReceive self.now came.now t) }
         ensures err { IfErr result (λ fault. IsReceiveFault fault self.now came.now) }
+        ensures full { (joined : EventTree) → IsNormalJoin self.now.events came.now joined → PassesLimit self.now.id joined → IsErr result }
     {
         match self.events.join(alloc, came) {
             Ok(joined) => {

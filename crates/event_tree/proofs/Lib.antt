@@ -7,6 +7,7 @@ pub mod Spelled
 pub mod Verdicts
 pub mod Normal
 pub mod Joins
+pub mod Raises
 pub mod Fills
 pub mod Growth
 pub mod Costs

@@ -227,10 +227,9 @@ pub fn growth_costs_least()
     ensures rightmost { (i : IdTree) (e t : EventTree) (p : Point) → CanGrow i e p (cost i e).opened (cost i e).levels t → IsAtOrRightOf (way i e) p }
 {}
 
-/// Of an id and a tree in normal form, fill raises only points that the id owns, lowers none, and passes the tree's greatest
-/// value at none.
+/// Fill raises only points that the id owns, lowers none, and passes the tree's greatest value at none.
 pub fn fill_raises_only_what_is_owned()
-    ensures same { (i : IdTree) (e : EventTree) (p : Point) → IsNormalId i → IsNormal e → owns i p ≡ false → value_at (fill i e) p ≡ value_at e p }
-    ensures above { (i : IdTree) (e : EventTree) (p : Point) → IsNormalId i → IsNormal e → value_at e p ≤ value_at (fill i e) p }
-    ensures within { (i : IdTree) (e : EventTree) (p : Point) → IsNormalId i → IsNormal e → value_at (fill i e) p ≤ greatest e }
+    ensures same { (i : IdTree) (e : EventTree) (p : Point) → owns i p ≡ false → value_at (fill i e) p ≡ value_at e p }
+    ensures above { (i : IdTree) (e : EventTree) (p : Point) → value_at e p ≤ value_at (fill i e) p }
+    ensures within { (i : IdTree) (e : EventTree) (p : Point) → value_at (fill i e) p ≤ greatest e }
 {}

@@ -2,6 +2,7 @@ pub mod Names
 pub mod Reports
 pub mod View
 pub mod Codes
+pub mod SessionCodes
 pub mod Spelling
 pub mod Reading
 pub mod Replies

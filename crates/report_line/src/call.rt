@@ -1,8 +1,11 @@
 //! What a client asks.
 
+ghost use Rattle.std.specs.Prelude.{◌≡◌, IfOk};
+
 use crate::name::{Name, Names};
 use crate::packed::PackedReport;
 use crate::shared::Shared;
+use std::alloc::{AllocError, Global};
 
 /// What a line asks for.
 #[derive(Drop)]
@@ -19,4 +22,20 @@ pub enum Call {
     Bad(u8),
     /// A line that memory did not suffice to read.
     Unread,
+}
+
+impl Call {
+    /// The same call once more. It shares a report's block and that of a name.
+    pub fn copy(&self, alloc: Global) -> Result<Call, AllocError>
+        ensures { IfOk result (λ c. c ≡ self.now) }
+    {
+        match self {
+            Call::Report(report) => Ok(Call::Report(report.share()?)),
+            Call::Line(names) => Ok(Call::Line(names.copy(alloc)?)),
+            Call::State(name) => Ok(Call::State(name.share()?)),
+            Call::Bye => Ok(Call::Bye),
+            Call::Bad(number) => Ok(Call::Bad(*number)),
+            Call::Unread => Ok(Call::Unread),
+        }
+    }
 }

@@ -136,6 +136,17 @@ pub struct Names {
     names: Vec<Name>,
 }
 
+// The same names in memory of their own.
+fn copies(alloc: Global, names: &[Name]) -> Result<Vec<Name>, AllocError>
+    ensures { IfOk result (λ c. c.items ≡ names.now) }
+{
+    let mut copies = Vec::with_capacity(alloc, names.len())?;
+    for name in names {
+        copies.push(name.copy())?;
+    }
+    Ok(copies)
+}
+
 impl Model for Names {
     ghost use Rattle.std.specs.Prelude.{List, ℕ};
 
@@ -168,5 +179,12 @@ impl Names {
         ensures { result.now ≡ self.now }
     {
         &self.names
+    }
+    /// The same names once more.
+    pub fn copy(&self, alloc: Global) -> Result<Names, AllocError>
+        ensures { IfOk result (λ c. c ≡ self.now) }
+    {
+        let names = copies(alloc, &self.names)?;
+        Ok(Names { names })
     }
 }

@@ -1,8 +1,11 @@
 //! What a client is told.
 
+ghost use Rattle.std.specs.Prelude.{◌≡◌, IfOk};
+
 use crate::code::Code;
 use crate::name::Name;
 use crate::text::Text;
+use std::alloc::{AllocError, Global};
 
 /// Whether a report whose writing failed is in the file.
 #[derive(Clone, Copy, Debug, PartialEq, Eq)]
@@ -47,4 +50,62 @@ pub enum Reply {
     Bye,
     /// A certificate was asked for at this front. What is shown is found later, so this reply is never written.
     Taken(u32),
+}
+
+// The name once more, where there is one.
+fn name_copy(name: &Option<Name>) -> Option<Name>
+    ensures { result ≡ name.now }
+{
+    match name {
+        Some(name) => Some(name.copy()),
+        None => None,
+    }
+}
+
+// The text once more, where there is one.
+fn text_copy(alloc: Global, text: &Option<Text>) -> Result<Option<Text>, AllocError>
+    ensures { IfOk result (λ t. t ≡ text.now) }
+{
+    match text {
+        Some(text) => Ok(Some(text.copy(alloc)?)),
+        None => Ok(None),
+    }
+}
+
+impl Reply {
+    /// The same reply once more.
+    pub fn copy(&self, alloc: Global) -> Result<Reply, AllocError>
+        ensures { IfOk result (λ r. r ≡ self.now) }
+    {
+        match self {
+            Reply::Accepted(front) => Ok(Reply::Accepted(*front)),
+            Reply::Old(front) => Ok(Reply::Old(*front)),
+            Reply::No { code, name, value } => {
+                let value = text_copy(alloc, value)?;
+                Ok(Reply::No {
+                    code: *code,
+                    name: name_copy(name),
+                    value,
+                })
+            }
+            Reply::Bad(number) => Ok(Reply::Bad(*number)),
+            Reply::Fail(outcome) => Ok(Reply::Fail(*outcome)),
+            Reply::Line(text) => Ok(Reply::Line(text.copy(alloc)?)),
+            Reply::State {
+                name,
+                reports,
+                elements,
+                live,
+                id,
+            } => Ok(Reply::State {
+                name: name.copy(),
+                reports: *reports,
+                elements: *elements,
+                live: *live,
+                id: id.copy(alloc)?,
+            }),
+            Reply::Bye => Ok(Reply::Bye),
+            Reply::Taken(front) => Ok(Reply::Taken(*front)),
+        }
+    }
 }

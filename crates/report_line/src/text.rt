@@ -1,7 +1,8 @@
 //! Bytes that a reply carries.
 
-ghost use Rattle.std.specs.Prelude.{◌≡◌};
+ghost use Rattle.std.specs.Prelude.{◌≡◌, IfOk};
 
+use std::alloc::{AllocError, Global};
 use std::marker::Model;
 
 /// The bytes of a value or of a certificate.
@@ -31,5 +32,12 @@ impl Text {
         ensures { result.now ≡ self.now }
     {
         &self.bytes
+    }
+    /// The same text once more.
+    pub fn copy(&self, alloc: Global) -> Result<Text, AllocError>
+        ensures { IfOk result (λ t. t ≡ self.now) }
+    {
+        let bytes = Vec::from_slice(alloc, &self.bytes)?;
+        Ok(Text { bytes })
     }
 }

@@ -4,17 +4,17 @@ use Rattle.std.specs.Prelude.{◌||◌}
 use Rattle.std.specs.Option.{is_some, unwrap_or}
 use Rattle.std.specs.Str.{bytes_eq}
 use Rattle.std.proofs.lemmas.List.Sums.{sum_by-append}
-use Rattle.stamp.specs.declared.stamp.Stamp.{Stamp}
 use Rattle.report_line.specs.declared.report.Action.{Action}
-use Rattle.report_line.specs.declared.report.Action.TheVariants.{Check, Present, Fork, Retire, Absorb}
+use Rattle.report_line.specs.declared.report.Action.TheVariants.{Check, Fork}
+use Rattle.report_line.specs.declared.report.NumberedReport.{NumberedReport}
 use Rattle.report_line.specs.declared.report.Report.{Report}
 use Rattle.report_line.specs.declared.report.Report.TheVariants.{Numbered}
 use Rattle.chains.specs.Processes.{Name, child_of, first_of, is_numbered_of, is_birth_of, is_absorb_of, reports_of}
-use Rattle.chains.specs.Elements.{lasting_made, only_if}
+use Rattle.chains.specs.Elements.{lasting_made, lasting_by, only_if}
 use Rattle.chains.specs.Keeping.{KeptProcess, kept_of, last_index, indexes_from}
 use Rattle.chains.specs.Noting.{noted, taken, is_check}
 use Rattle.chains.proofs.Lists.{last_index-push}
-use Rattle.chains.proofs.Stepping.{absorbed-push, same_bytes, other_bytes}
+use Rattle.chains.proofs.Stepping.{absorbed-push, same_bytes, other_bytes, doing}
 
 -- ---- one more report
 
@@ -88,23 +88,16 @@ some_if true x = refl
 some_if false x = refl
 
 -- no process is born by it but a new one
-pub no_birth : (q : Name) (a : Action) (p : Name) (n : ℕ) (s : Stamp) → ((child : Name) → child_of a ≡ Some child → q ≢ child) → is_birth_of q (Numbered p n s a) ≡ false
-no_birth q Check p n s f = refl
-no_birth q Present p n s f = refl
-no_birth q (Fork forked) p n s f = other_bytes q forked.child (f forked.child refl)
-no_birth q (Retire target) p n s f = refl
-no_birth q (Absorb retired) p n s f = refl
+pub no_birth : (q : Name) (r : NumberedReport) (a : Action) → ((child : Name) → child_of a ≡ Some child → q ≢ child) → is_birth_of q (Numbered (doing r a)) ≡ false
+no_birth q r (Fork forked) f = other_bytes q forked.child (f forked.child refl)
+no_birth q r _ f = refl
 
-pub own_lasts : (p : Name) (a : Action) (n : ℕ) (s : Stamp) → ((child : Name) → child_of a ≡ Some child → p ≢ child) → is_some (lasting_made p (Numbered p n s a)) ≡ is_check a
-own_lasts p Check n s f = some_if (bytes_eq p p) s ∙ same_bytes p
-own_lasts p Present n s f = refl
-own_lasts p (Fork forked) n s f = some_if (bytes_eq p forked.child) (record { id = forked.given; events = s.events }) ∙ other_bytes p forked.child (f forked.child refl)
-own_lasts p (Retire target) n s f = refl
-own_lasts p (Absorb retired) n s f = refl
+pub own_lasts : (r : NumberedReport) (a : Action) → ((child : Name) → child_of a ≡ Some child → r.process ≢ child) → is_some (lasting_by r.process r a) ≡ is_check a
+own_lasts r Check f = some_if (bytes_eq r.process r.process) r.stamp ∙ same_bytes r.process
+own_lasts r (Fork forked) f = some_if (bytes_eq r.process forked.child) (record { id = forked.given; events = r.stamp.events }) ∙ other_bytes r.process forked.child (f forked.child refl)
+own_lasts r _ f = refl
 
-pub other_lasts : (q p : Name) (a : Action) (n : ℕ) (s : Stamp) → q ≢ p → ((child : Name) → child_of a ≡ Some child → q ≢ child) → is_some (lasting_made q (Numbered p n s a)) ≡ false
-other_lasts q p Check n s d f = some_if (bytes_eq q p) s ∙ other_bytes q p d
-other_lasts q p Present n s d f = refl
-other_lasts q p (Fork forked) n s d f = some_if (bytes_eq q forked.child) (record { id = forked.given; events = s.events }) ∙ other_bytes q forked.child (f forked.child refl)
-other_lasts q p (Retire target) n s d f = refl
-other_lasts q p (Absorb retired) n s d f = refl
+pub other_lasts : (q : Name) (r : NumberedReport) (a : Action) → q ≢ r.process → ((child : Name) → child_of a ≡ Some child → q ≢ child) → is_some (lasting_by q r a) ≡ false
+other_lasts q r Check d f = some_if (bytes_eq q r.process) r.stamp ∙ other_bytes q r.process d
+other_lasts q r (Fork forked) d f = some_if (bytes_eq q forked.child) (record { id = forked.given; events = r.stamp.events }) ∙ other_bytes q forked.child (f forked.child refl)
+other_lasts q r _ d f = refl

@@ -40,9 +40,9 @@ note_room accepted names processes i p h at room =
 
 pub may_be_kept : (k : Kept) (names : List Name) (processes : List Process) (r : Report) (i : ℕ) → AreInOrder k.accepted names processes → k.rooms ≡ map element_room processes → IsNumberOf k.accepted r i → HasRoomFor k r i → MayBeKept names processes r i
 may_be_kept k names processes (Begin p) i h rooms at room = record { complete = ap length h.named ∙ sym (as_many k.accepted processes h.kept); noted = λ e. absurd (true≢false e) }
-may_be_kept k names processes (Numbered p n s a) i h rooms at room = record {
+may_be_kept k names processes (Numbered r) i h rooms at room = record {
   complete = ap length h.named ∙ sym (as_many k.accepted processes h.kept);
-  noted = λ e. note_room k.accepted names processes i p h at (subst (λ (l : List ℕ). 0 < get_or l i 0) rooms room);
+  noted = λ e. note_room k.accepted names processes i r.process h at (subst (λ (l : List ℕ). 0 < get_or l i 0) rooms room);
 }
 
 -- ---- after
@@ -51,14 +51,14 @@ after_numbered : (accepted : List Report) (names names' : List Name) (processes 
     → IsAdmission accepted r (Accepted (length accepted + 1)) → IsNumberOf accepted r i
     → names' ≡ names_after names r → IsKeptBy (map view_of processes) names r i (length accepted) (map view_of processes')
     → (names' ≡ known (accepted ++ r ∷ [])) × (map view_of processes' ≡ map (kept_of (accepted ++ r ∷ [])) (known (accepted ++ r ∷ [])))
-after_numbered accepted names names' processes processes' (Numbered p n s a) i h admitted at is kept =
-    let pass = passed_tests accepted p n s a (length accepted + 1) admitted in
-    let change = noted (length accepted) (is_check a) in
-    let by : IsKeptByAction (known accepted) (changed_at change i (map (kept_of accepted) (known accepted))) a (length accepted) (map view_of processes') =
-    subst (λ (ns : List Name). IsKeptByAction ns (changed_at change i (map (kept_of accepted) (known accepted))) a (length accepted) (map view_of processes')) h.named
-    (subst (λ (v : List KeptProcess). IsKeptByAction names (changed_at change i v) a (length accepted) (map view_of processes')) h.kept kept) in
-    let both = in_order_numbered accepted p n s a i (map view_of processes') h.reachable h.distinct at pass by in
-    (is ∙ ap (λ (ns : List Name). names_after ns (Numbered p n s a)) h.named ∙ both.0, both.1)
+after_numbered accepted names names' processes processes' (Numbered r) i h admitted at is kept =
+    let pass = passed_tests accepted r (length accepted + 1) admitted in
+    let change = noted (length accepted) (is_check r.action) in
+    let by : IsKeptByAction (known accepted) (changed_at change i (map (kept_of accepted) (known accepted))) r.action (length accepted) (map view_of processes') =
+    subst (λ (ns : List Name). IsKeptByAction ns (changed_at change i (map (kept_of accepted) (known accepted))) r.action (length accepted) (map view_of processes')) h.named
+    (subst (λ (v : List KeptProcess). IsKeptByAction names (changed_at change i v) r.action (length accepted) (map view_of processes')) h.kept kept) in
+    let both = in_order_numbered accepted r r.action i (map view_of processes') h.reachable h.distinct at pass by in
+    (is ∙ ap (λ (ns : List Name). names_after ns (Numbered r)) h.named ∙ both.0, both.1)
 after_numbered accepted names names' processes processes' (Begin p) i h admitted at is kept =
     let none : known accepted ≡ [] = begins (known accepted) accepted p (length accepted + 1) admitted in
     let empty : accepted ≡ [] = unbegun accepted h.reachable none in

@@ -8,17 +8,20 @@ use Rattle.std.specs.Cmp.Lexicographic.{nat_list_eq_equiv}
 use Rattle.std.proofs.lemmas.Bool.{true≢false}
 use Rattle.std.proofs.lemmas.Map.Views.{list_any-from_Contains}
 use Rattle.stamp.specs.declared.stamp.Stamp.{Stamp}
-use Rattle.report_line.specs.declared.report.Action.TheVariants.{Check, Present, Fork, Retire, Absorb}
+use Rattle.report_line.specs.declared.report.Action.{Action}
+use Rattle.report_line.specs.declared.report.Action.TheVariants.{Present, Fork}
+use Rattle.report_line.specs.declared.report.NumberedReport.{NumberedReport}
 use Rattle.report_line.specs.declared.report.Report.{Report}
 use Rattle.report_line.specs.declared.report.Report.TheVariants.{Begin, Numbered}
 use Rattle.chains.specs.Processes.{Name, known, is_birth_of, last_report, target_of}
-use Rattle.chains.specs.Elements.{name_of, only_if, lasting_made, lasting_of, present_in, elements_of, elements, lasting}
+use Rattle.chains.specs.Elements.{name_of, only_if, lasting_made, lasting_by, lasting_of, present_in, present_by, elements_of, elements, lasting}
 use Rattle.chains.specs.Positions.{IsSurviving, IsLastSurviving, is_retired, rank}
 use Rattle.chains.specs.Admission.{report_limit}
 use Rattle.chains.specs.declared.position.Position.{Position}
 use Rattle.chains.specs.declared.position.Position.TheVariants.{At, Retired}
 use Rattle.chains.specs.declared.process.Process.{Process}
 use Rattle.chains.specs.Keeping.{KeptProcess, indexes_from}
+use Rattle.chains.proofs.Stepping.{doing}
 use Rattle.chains.proofs.LookUps.{known_from}
 use Rattle.chains.proofs.Keeps.{AreKept, looked_up, any_birth}
 
@@ -47,15 +50,15 @@ pub lasting_there : (accepted : List Report) (processes : List Process) (i : ℕ
 lasting_there accepted processes i p k h is there =
     ap (λ (v : KeptProcess). length v.lasting) (looked_up accepted processes i p k h is there) ∙ indexes-length (lasting_made p) 0 accepted
 
+one_present_by : (s : Stamp) (a : Action) → length (present_by s a) ≤ 1
+one_present_by s Present = omega arith
+one_present_by s _ = omega arith
+
 -- a report stands for at most one present state
 pub one_present : (o : Option Report) → length (present_in o) ≤ 1
 one_present None = omega arith
 one_present (Some (Begin p)) = omega arith
-one_present (Some (Numbered p n s Check)) = omega arith
-one_present (Some (Numbered p n s Present)) = omega arith
-one_present (Some (Numbered p n s (Fork f))) = omega arith
-one_present (Some (Numbered p n s (Retire target))) = omega arith
-one_present (Some (Numbered p n s (Absorb retired))) = omega arith
+one_present (Some (Numbered r)) = one_present_by r.stamp r.action
 
 -- the lasting ones and the present state are all
 pub counted : (accepted : List Report) (p : Name) (m n : ℕ) (o : Option Report) → m ≡ length (lasting_of p accepted) → o ≡ last_report p accepted → n ≡ length (present_in o) → m + n ≡ length (elements_of p accepted)
@@ -67,14 +70,14 @@ counted accepted p m n o lasts last stands =
 some_only : {X : Type 0} (b : Bool) (x : X) → b ≡ true → is_some (only_if b x) ≡ true
 some_only b x e = ap (λ (c : Bool). is_some (only_if c x)) e
 
+child_lasts : (p : Name) (r : NumberedReport) (a : Action) → is_birth_of p (Numbered (doing r a)) ≡ true → is_some (lasting_by p r a) ≡ true
+child_lasts p r (Fork f) e = some_only (bytes_eq p f.child) _ e
+child_lasts p r _ e = absurd (true≢false (sym e))
+
 -- a birth makes a lasting element
 birth_lasts : (p : Name) (r : Report) → is_birth_of p r ≡ true → is_some (lasting_made p r) ≡ true
 birth_lasts p (Begin q) e = some_only (bytes_eq p q) _ e
-birth_lasts p (Numbered q n s Check) e = absurd (true≢false (sym e))
-birth_lasts p (Numbered q n s Present) e = absurd (true≢false (sym e))
-birth_lasts p (Numbered q n s (Fork f)) e = some_only (bytes_eq p f.child) _ e
-birth_lasts p (Numbered q n s (Retire target)) e = absurd (true≢false (sym e))
-birth_lasts p (Numbered q n s (Absorb retired)) e = absurd (true≢false (sym e))
+birth_lasts p (Numbered r) e = child_lasts p r r.action e
 
 some_step : (o : Option Stamp) (a b : Bool) (ys : List Stamp) → (a ≡ true → is_some o ≡ true) → (b ≡ true → 1 ≤ length ys) → (a || b) ≡ true → 1 ≤ length (cons_option o ys)
 some_step (Some y) a b ys f g e = omega arith

@@ -6,7 +6,7 @@ use Rattle.std.proofs.lemmas.Bool.{cases_lt}
 use Rattle.std.proofs.lemmas.List.{get_or_append_left, get_or_default}
 use Rattle.std.proofs.Math.Seq.{get_or-append_seam}
 use Rattle.report_line.specs.declared.report.Action.{Action}
-use Rattle.report_line.specs.declared.report.Action.TheVariants.{Check, Present, Fork, Retire, Absorb}
+use Rattle.report_line.specs.declared.report.Action.TheVariants.{Fork}
 use Rattle.report_line.specs.declared.report.Report.{Report}
 use Rattle.report_line.specs.declared.report.Report.TheVariants.{Begin, Numbered}
 use Rattle.report_line.specs.declared.reply.Reply.TheVariants.{Accepted}
@@ -44,11 +44,8 @@ distinct_with ks (Some q) d n = distinct_push ks q d (n q refl)
 
 -- the child that an accepted report makes was not known
 pub unknown_child : (accepted : List Report) (p : Name) (a : Action) → IsFit accepted p a → (q : Name) → child_of a ≡ Some q → ¬ IsKnown accepted q
-unknown_child accepted p Check fit q e = absurd (none_some q e)
-unknown_child accepted p Present fit q e = absurd (none_some q e)
 unknown_child accepted p (Fork f) fit q e = λ is_known. fit.0 (subst (IsKnown accepted) (sym (some_name f.child q e)) is_known)
-unknown_child accepted p (Retire target) fit q e = absurd (none_some q e)
-unknown_child accepted p (Absorb retired) fit q e = absurd (none_some q e)
+unknown_child accepted p _ fit q e = absurd (none_some q e)
 
 -- the process that an accepted report makes was not known
 pub unknown_newborn : (accepted : List Report) (r : Report) → IsAdmission accepted r (Accepted (length accepted + 1)) → (q : Name) → newborn r ≡ Some q → ¬ IsKnown accepted q
@@ -56,7 +53,7 @@ unknown_newborn accepted (Begin p) admitted q e = λ is_known.
     let none = ap (λ (ks : List Name). length ks) (begins (known accepted) accepted p (length accepted + 1) admitted) in
     let some = is_known.1 in
     omega arith
-unknown_newborn accepted (Numbered p n s a) admitted q e = unknown_child accepted p a (passed_tests accepted p n s a (length accepted + 1) admitted).fit q e
+unknown_newborn accepted (Numbered r) admitted q e = unknown_child accepted r.process r.action (passed_tests accepted r (length accepted + 1) admitted).fit q e
 
 pub distinct_known : (accepted : List Report) → IsReachable accepted → AreDistinctNames (known accepted)
 distinct_known _ nothing_accepted = λ i j p lt lt' e. absurd (omega arith)

@@ -12,13 +12,13 @@ use Rattle.std.proofs.lemmas.Option.{slice_get_within, get_or_from_slice_get}
 use Rattle.std.proofs.lemmas.Map.Views.{Contains-from_any, list_any-from_Contains}
 use Rattle.std.proofs.lemmas.Slice.Eq.{bytes_eq-Decides}
 use Rattle.indexmap.specs.IndexSet.{insert_key}
-use Rattle.stamp.specs.declared.stamp.Stamp.{Stamp}
 use Rattle.report_line.specs.declared.report.Action.{Action}
-use Rattle.report_line.specs.declared.report.Action.TheVariants.{Check, Present, Fork, Retire, Absorb}
+use Rattle.report_line.specs.declared.report.Action.TheVariants.{Check, Fork, Retire, Absorb}
+use Rattle.report_line.specs.declared.report.NumberedReport.{NumberedReport}
 use Rattle.report_line.specs.declared.report.Report.{Report}
 use Rattle.report_line.specs.declared.report.Report.TheVariants.{Begin, Numbered}
 use Rattle.chains.specs.Processes.{Name, newborn, child_of, known, IsKnown, first_of, last_passing, is_numbered_of, is_birth_of, is_absorb_of, is_absorbed, target_after, target_of}
-use Rattle.chains.specs.Elements.{name_of, lasting_made}
+use Rattle.chains.specs.Elements.{name_of, lasting_made, lasting_by}
 use Rattle.report_line.specs.declared.reply.Reply.TheVariants.{Accepted}
 use Rattle.chains.specs.Admission.{IsReachable, IsAdmission, IsActionReply, IsBeginReply, FitsOrNot, report_limit, process_limit}
 use Rattle.chains.specs.Keeping.{KeptProcess, kept_of, last_index, indexes_from}
@@ -27,7 +27,7 @@ use Rattle.chains.specs.Inside.{AreDistinctNames}
 use Rattle.chains.proofs.Lists.{last_index-push}
 use Rattle.chains.proofs.LookUps.{found_name}
 use Rattle.chains.proofs.Keeps.{any_birth}
-use Rattle.chains.proofs.Stepping.{same_bytes, other_bytes, known-push, absorbed-push, none_some}
+use Rattle.chains.proofs.Stepping.{same_bytes, other_bytes, known-push, absorbed-push, none_some, doing}
 use Rattle.chains.proofs.Passed.{Passed, passed, passed_old, standing, stamped, unwaited}
 use Rattle.chains.proofs.Distinct.{unknown_child}
 use Rattle.chains.proofs.Reaching.{well_made}
@@ -67,49 +67,49 @@ one_changed f g change names i p lt here elsewhere =
 
 -- ---- a known process, beside the one that reports
 
-module _ (accepted : List Report) (p : Name) (n : ℕ) (s : Stamp) (a : Action) (i : ℕ) (passed : Passed accepted p s a) (distinct : AreDistinctNames (known accepted)) (at : name_of accepted i ≡ Some p) where
+module _ (accepted : List Report) (r : NumberedReport) (i : ℕ) (passed : Passed accepted r) (distinct : AreDistinctNames (known accepted)) (at : name_of accepted i ≡ Some r.process) where
   within : i < length (known accepted)
-  within = slice_get_within (known accepted) i p at
+  within = slice_get_within (known accepted) i r.process at
 
-  own_name : get_or (known accepted) i p ≡ p
-  own_name = get_or_from_slice_get (known accepted) i p p at
-
-  abbrev pub r : Report
-  r = Numbered p n s a
+  own_name : get_or (known accepted) i r.process ≡ r.process
+  own_name = get_or_from_slice_get (known accepted) i r.process r.process at
 
   -- no known process is the child
-  old : (q : Name) → IsKnown accepted q → (child : Name) → child_of a ≡ Some child → q ≢ child
-  old q is child e same = unknown_child accepted p a passed.fit child e (subst (IsKnown accepted) same is)
+  old : (q : Name) → IsKnown accepted q → (child : Name) → child_of r.action ≡ Some child → q ≢ child
+  old q is child e same = unknown_child accepted r.process r.action passed.fit child e (subst (IsKnown accepted) same is)
 
-  at_known : (j : ℕ) → j < length (known accepted) → IsKnown accepted (get_or (known accepted) j p)
-  at_known j lt = (j, lt, get_or_default (known accepted) j (get_or (known accepted) j p) p lt)
+  at_known : (j : ℕ) → j < length (known accepted) → IsKnown accepted (get_or (known accepted) j r.process)
+  at_known j lt = (j, lt, get_or_default (known accepted) j (get_or (known accepted) j r.process) r.process lt)
 
-  other_name : (j : ℕ) → j < length (known accepted) → j ≢ i → get_or (known accepted) j p ≢ p
-  other_name j lt d e = d (distinct j i p lt within (e ∙ sym own_name))
+  other_name : (j : ℕ) → j < length (known accepted) → j ≢ i → get_or (known accepted) j r.process ≢ r.process
+  other_name j lt d e = d (distinct j i r.process lt within (e ∙ sym own_name))
 
   -- what is kept, but for absorbs
   abbrev pub mid : Name → KeptProcess
-  mid q = merged (length accepted) (is_numbered_of q r) (is_some (lasting_made q r)) false (kept_of accepted q)
+  mid q = merged (length accepted) (is_numbered_of q (Numbered r)) (is_some (lasting_made q (Numbered r))) false (kept_of accepted q)
 
-  mid_own : mid p ≡ noted (length accepted) (is_check a) (kept_of accepted p)
-  mid_own = rw (same_bytes p, own_lasts p a n s (old p passed.is_known)) (merged_own (length accepted) (is_check a) (kept_of accepted p))
+  mid_own : mid r.process ≡ noted (length accepted) (is_check r.action) (kept_of accepted r.process)
+  mid_own = rw (same_bytes r.process, own_lasts r r.action (old r.process passed.is_known)) (merged_own (length accepted) (is_check r.action) (kept_of accepted r.process))
 
-  mid_other : (q : Name) → IsKnown accepted q → q ≢ p → mid q ≡ kept_of accepted q
-  mid_other q is d = rw (other_bytes q p d, other_lasts q p a n s d (old q is)) (merged_other (length accepted) (kept_of accepted q))
+  mid_other : (q : Name) → IsKnown accepted q → q ≢ r.process → mid q ≡ kept_of accepted q
+  mid_other q is d = rw (other_bytes q r.process d, other_lasts q r r.action d (old q is)) (merged_other (length accepted) (kept_of accepted q))
 
-  pub mid_all : map mid (known accepted) ≡ changed_at (noted (length accepted) (is_check a)) i (map (kept_of accepted) (known accepted))
+  pub mid_all : map mid (known accepted) ≡ changed_at (noted (length accepted) (is_check r.action)) i (map (kept_of accepted) (known accepted))
   mid_all =
-      one_changed mid (kept_of accepted) (noted (length accepted) (is_check a)) (known accepted) i p within
+      one_changed mid (kept_of accepted) (noted (length accepted) (is_check r.action)) (known accepted) i r.process within
       (rw own_name mid_own)
-      (λ j lt d. mid_other (get_or (known accepted) j p) (at_known j lt) (other_name j lt d))
+      (λ j lt d. mid_other (get_or (known accepted) j r.process) (at_known j lt) (other_name j lt d))
 
   -- what is kept afterwards of a known process that the report does not absorb
-  pub kept_mid : (q : Name) → IsKnown accepted q → is_absorb_of q r ≡ false → kept_of (accepted ++ r ∷ []) q ≡ mid q
-  kept_mid q is e = kept-push accepted r q (no_birth q a p n s (old q is)) ∙ ap (λ (b : Bool). merged (length accepted) (is_numbered_of q r) (is_some (lasting_made q r)) b (kept_of accepted q)) e
+  pub kept_mid : (q : Name) → IsKnown accepted q → is_absorb_of q (Numbered r) ≡ false → kept_of (accepted ++ Numbered r ∷ []) q ≡ mid q
+  kept_mid q is e =
+      kept-push accepted (Numbered r) q (no_birth q r r.action (old q is))
+      ∙ ap (λ (b : Bool). merged (length accepted) (is_numbered_of q (Numbered r)) (is_some (lasting_made q (Numbered r))) b (kept_of accepted q)) e
 
   -- no process is absorbed
-  pub kept_plain : ((q : Name) → is_absorb_of q r ≡ false) → map (kept_of (accepted ++ r ∷ [])) (known accepted) ≡ changed_at (noted (length accepted) (is_check a)) i (map (kept_of accepted) (known accepted))
-  kept_plain none = same_family (kept_of (accepted ++ r ∷ [])) mid (known accepted) p (λ j lt. kept_mid (get_or (known accepted) j p) (at_known j lt) (none (get_or (known accepted) j p))) ∙ mid_all
+  pub kept_plain : ((q : Name) → is_absorb_of q (Numbered r) ≡ false) → map (kept_of (accepted ++ Numbered r ∷ [])) (known accepted) ≡ changed_at (noted (length accepted) (is_check r.action)) i (map (kept_of accepted) (known accepted))
+  kept_plain none =
+      same_family (kept_of (accepted ++ Numbered r ∷ [])) mid (known accepted) r.process (λ j lt. kept_mid (get_or (known accepted) j r.process) (at_known j lt) (none (get_or (known accepted) j r.process))) ∙ mid_all
 
 -- ---- a process that is born
 
@@ -126,13 +126,14 @@ none_index : {X : Type 0} (test : X → Bool) (xs : List X) → list_any test xs
 none_index test [] e = refl
 none_index test (x ∷ xs) e = let both = or_parts (test x) (list_any test xs) e in rw (both.0, none_index test xs both.1) refl
 
+nothing_by : (q : Name) (r : NumberedReport) (a : Action) → is_birth_of q (Numbered (doing r a)) ≡ false → bytes_eq q r.process ≡ false → is_some (lasting_by q r a) ≡ false
+nothing_by q r Check b e = some_if (bytes_eq q r.process) r.stamp ∙ e
+nothing_by q r (Fork f) b e = some_if (bytes_eq q f.child) _ ∙ b
+nothing_by q r _ b e = refl
+
 nothing_made : (q : Name) (r : Report) → is_birth_of q r ≡ false → is_numbered_of q r ≡ false → is_some (lasting_made q r) ≡ false
 nothing_made q (Begin p) b n = some_if (bytes_eq q p) _ ∙ b
-nothing_made q (Numbered p n s Check) b e = some_if (bytes_eq q p) s ∙ e
-nothing_made q (Numbered p n s Present) b e = refl
-nothing_made q (Numbered p n s (Fork f)) b e = some_if (bytes_eq q f.child) _ ∙ b
-nothing_made q (Numbered p n s (Retire target)) b e = refl
-nothing_made q (Numbered p n s (Absorb retired)) b e = refl
+nothing_made q (Numbered r) b e = nothing_by q r r.action b e
 
 nothing_lasts : (q : Name) (n : ℕ) (xs : List Report) → list_any (is_birth_of q) xs ≡ false → list_any (is_numbered_of q) xs ≡ false → indexes_from (lasting_made q) n xs ≡ []
 nothing_lasts q n [] b e = refl
@@ -181,39 +182,40 @@ new_name accepted q unknown =
 
 -- ---- a retirement that is absorbed
 
-pub kept_taken : (accepted : List Report) (p : Name) (n : ℕ) (s : Stamp) (retired : Name) (i : ℕ) (o : Option ℕ) (after : List KeptProcess) → Passed accepted p s (Absorb retired) → AreDistinctNames (known accepted) → name_of accepted i ≡ Some p
+pub kept_taken : (accepted : List Report) (r : NumberedReport) (retired : Name) (i : ℕ) (o : Option ℕ) (after : List KeptProcess) → Passed accepted (doing r (Absorb retired)) → AreDistinctNames (known accepted) → name_of accepted i ≡ Some r.process
     → position (pointwise nat_eq retired) (known accepted) ≡ o → TakenAt (known accepted) retired o (changed_at (noted (length accepted) false) i (map (kept_of accepted) (known accepted))) after
-    → after ≡ map (kept_of (accepted ++ Numbered p n s (Absorb retired) ∷ [])) (known accepted)
-kept_taken accepted p n s retired i None after passed distinct at e is =
+    → after ≡ map (kept_of (accepted ++ Numbered (doing r (Absorb retired)) ∷ [])) (known accepted)
+kept_taken accepted r retired i None after passed distinct at e is =
     let absent : ¬ IsKnown accepted retired = λ there. true≢false (sym (list_any-from_Contains nat_list_eq_equiv retired (known accepted) there) ∙ is.0) in
-    let kept = kept_of (accepted ++ Numbered p n s (Absorb retired) ∷ []) in
-    let m = mid accepted p n s (Absorb retired) i passed distinct at in
-    is.1 ∙ sym (mid_all accepted p n s (Absorb retired) i passed distinct at)
-    ∙ sym (same_family kept m (known accepted) p (λ k lt.
-    let there : IsKnown accepted (get_or (known accepted) k p) = (k, lt, get_or_default (known accepted) k (get_or (known accepted) k p) p lt) in
-    kept_mid accepted p n s (Absorb retired) i passed distinct at (get_or (known accepted) k p) there (other_bytes (get_or (known accepted) k p) retired (λ f. absent (subst (IsKnown accepted) f there)))))
-kept_taken accepted p n s retired i (Some j) after passed distinct at e is =
+    let own = doing r (Absorb retired) in
+    let kept = kept_of (accepted ++ Numbered own ∷ []) in
+    let m = mid accepted own i passed distinct at in
+    is.1 ∙ sym (mid_all accepted own i passed distinct at)
+    ∙ sym (same_family kept m (known accepted) r.process (λ k lt.
+    let there : IsKnown accepted (get_or (known accepted) k r.process) = (k, lt, get_or_default (known accepted) k (get_or (known accepted) k r.process) r.process lt) in
+    kept_mid accepted own i passed distinct at (get_or (known accepted) k r.process) there (other_bytes (get_or (known accepted) k r.process) retired (λ f. absent (subst (IsKnown accepted) f there)))))
+kept_taken accepted r retired i (Some j) after passed distinct at e is =
     let found = found_name (known accepted) accepted retired j refl e in
-    let r = Numbered p n s (Absorb retired) in
+    let own = doing r (Absorb retired) in
+    let x = Numbered own in
     let here_known : IsKnown accepted retired = (j, found.0, found.1) in
-    let kept = kept_of (accepted ++ r ∷ []) in
-    let m = mid accepted p n s (Absorb retired) i passed distinct at in
+    let kept = kept_of (accepted ++ x ∷ []) in
+    let m = mid accepted own i passed distinct at in
     let here : kept (get_or (known accepted) j retired) ≡ taken (m (get_or (known accepted) j retired)) =
-    rw found.1 (kept-push accepted r retired (no_birth retired (Absorb retired) p n s (λ child f. absurd (none_some child f))) ∙ ap (λ (b : Bool). merged (length accepted) (is_numbered_of retired r) (is_some (lasting_made retired r)) b (kept_of accepted retired)) (same_bytes retired)
-    ∙ merged_absorbed (length accepted) (is_numbered_of retired r) (is_some (lasting_made retired r)) (kept_of accepted retired)) in
+    rw found.1 (kept-push accepted x retired (no_birth retired r (Absorb retired) (λ child f. absurd (none_some child f))) ∙ ap (λ (b : Bool). merged (length accepted) (is_numbered_of retired x) (is_some (lasting_made retired x)) b (kept_of accepted retired)) (same_bytes retired)
+    ∙ merged_absorbed (length accepted) (is_numbered_of retired x) (is_some (lasting_made retired x)) (kept_of accepted retired)) in
     let elsewhere : (k : ℕ) → k < length (known accepted) → k ≢ j → kept (get_or (known accepted) k retired) ≡ m (get_or (known accepted) k retired) =
-    λ k lt d. kept_mid accepted p n s (Absorb retired) i passed distinct at (get_or (known accepted) k retired) (k, lt, get_or_default (known accepted) k (get_or (known accepted) k retired) retired lt)
+    λ k lt d. kept_mid accepted own i passed distinct at (get_or (known accepted) k retired) (k, lt, get_or_default (known accepted) k (get_or (known accepted) k retired) retired lt)
     (other_bytes (get_or (known accepted) k retired) retired (λ f. d (distinct k j retired lt found.0 (f ∙ sym found.1)))) in
-    is ∙ ap (changed_at taken j) (sym (mid_all accepted p n s (Absorb retired) i passed distinct at)) ∙ sym (one_changed kept m taken (known accepted) j retired found.0 here elsewhere)
+    is ∙ ap (changed_at taken j) (sym (mid_all accepted own i passed distinct at)) ∙ sym (one_changed kept m taken (known accepted) j retired found.0 here elsewhere)
 
 -- ---- all together
 
-fits_action : (accepted : List Report) (p : Name) (n : ℕ) (s : Stamp) (a : Action) (front : ℕ) → IsActionReply accepted p n s a (Accepted front) → FitsOrNot accepted (Numbered p n s a) (Accepted front)
-fits_action accepted p n s Check front h = h
-fits_action accepted p n s Present front h = h
-fits_action accepted p n s (Fork f) front h = (passed (passed h).1).1
-fits_action accepted p n s (Retire target) front h = (passed h).1
-fits_action accepted p n s (Absorb retired) front h = (passed h).1
+fits_action : (accepted : List Report) (r : NumberedReport) (a : Action) (front : ℕ) → IsActionReply accepted r a (Accepted front) → FitsOrNot accepted (Numbered r) (Accepted front)
+fits_action accepted r (Fork f) front h = (passed (passed h).1).1
+fits_action accepted r (Retire target) front h = (passed h).1
+fits_action accepted r (Absorb retired) front h = (passed h).1
+fits_action accepted r _ front h = h
 
 fits_begin : (o : Option Name) (accepted : List Report) (p : Name) (front : ℕ) → IsBeginReply o accepted p (Accepted front) → FitsOrNot accepted (Begin p) (Accepted front)
 fits_begin None accepted p front h = h
@@ -223,14 +225,14 @@ not_at_least : (m n : ℕ) → ¬ (m ≤ n) → n < m
 not_at_least m n h = elim (cases_lt n m) [ inl lt ↦ lt | inr le ↦ absurd (h le) ]
 
 -- what is accepted has room
-fits_numbered : (accepted : List Report) (p : Name) (n : ℕ) (s : Stamp) (a : Action) (front : ℕ) → IsAdmission accepted (Numbered p n s a) (Accepted front) → FitsOrNot accepted (Numbered p n s a) (Accepted front)
-fits_numbered accepted p n s a front h =
-    let t = standing (target_of p accepted) accepted p n s a front (passed_old (passed (passed h).1).1).1 in
-    fits_action accepted p n s a front (stamped accepted p n s a front (unwaited accepted p n s a front t.1)).2
+fits_numbered : (accepted : List Report) (r : NumberedReport) (front : ℕ) → IsAdmission accepted (Numbered r) (Accepted front) → FitsOrNot accepted (Numbered r) (Accepted front)
+fits_numbered accepted r front h =
+    let t = standing (target_of r.process accepted) accepted r front (passed_old (passed (passed h).1).1).1 in
+    fits_action accepted r r.action front (stamped accepted r r.action front (unwaited accepted r r.action front t.1)).2
 
 fits : (accepted : List Report) (r : Report) → IsAdmission accepted r (Accepted (length accepted + 1)) → FitsOrNot accepted r (Accepted (length accepted + 1))
 fits accepted (Begin p) h = fits_begin (slice_get (known accepted) 0) accepted p (length accepted + 1) h
-fits accepted (Numbered p n s a) h = fits_numbered accepted p n s a (length accepted + 1) h
+fits accepted (Numbered r) h = fits_numbered accepted r (length accepted + 1) h
 
 pub few_after : (accepted : List Report) (r : Report) → IsAdmission accepted r (Accepted (length accepted + 1)) → length (accepted ++ r ∷ []) ≤ report_limit
 few_after accepted r h = let full = (passed (fits accepted r h)).0 in omega (arith, length-append accepted (r ∷ []), full)
@@ -245,32 +247,29 @@ few_known_after accepted r h few =
     let full = (passed (passed (fits accepted r h)).1).0 in
     known_within accepted r (newborn r) refl few (λ some. not_at_least process_limit (length (known accepted)) (λ le. full (some, le)))
 
-plain : (accepted : List Report) (p : Name) (n : ℕ) (s : Stamp) (a : Action) (i : ℕ) (after : List KeptProcess) → child_of a ≡ None → after ≡ map (kept_of (accepted ++ Numbered p n s a ∷ [])) (known accepted)
-    → (names_with (known accepted) (child_of a) ≡ known (accepted ++ Numbered p n s a ∷ [])) × (after ≡ map (kept_of (accepted ++ Numbered p n s a ∷ [])) (known (accepted ++ Numbered p n s a ∷ [])))
-plain accepted p n s a i after none is =
-    let same : known (accepted ++ Numbered p n s a ∷ []) ≡ known accepted = known-push accepted (Numbered p n s a) ∙ ap (λ (o : Option Name). known accepted ++ cons_option o []) none ∙ append-nil (known accepted) in
-    (ap (names_with (known accepted)) none ∙ sym same, is ∙ sym (ap (map (kept_of (accepted ++ Numbered p n s a ∷ []))) same))
+plain : (accepted : List Report) (r : NumberedReport) (after : List KeptProcess) → child_of r.action ≡ None → after ≡ map (kept_of (accepted ++ Numbered r ∷ [])) (known accepted)
+    → (names_with (known accepted) (child_of r.action) ≡ known (accepted ++ Numbered r ∷ [])) × (after ≡ map (kept_of (accepted ++ Numbered r ∷ [])) (known (accepted ++ Numbered r ∷ [])))
+plain accepted r after none is =
+    let same : known (accepted ++ Numbered r ∷ []) ≡ known accepted = known-push accepted (Numbered r) ∙ ap (λ (o : Option Name). known accepted ++ cons_option o []) none ∙ append-nil (known accepted) in
+    (ap (names_with (known accepted)) none ∙ sym same, is ∙ sym (ap (map (kept_of (accepted ++ Numbered r ∷ []))) same))
 
-pub in_order_numbered : (accepted : List Report) (p : Name) (n : ℕ) (s : Stamp) (a : Action) (i : ℕ) (after : List KeptProcess) → IsReachable accepted → AreDistinctNames (known accepted) → name_of accepted i ≡ Some p
-    → Passed accepted p s a → IsKeptByAction (known accepted) (changed_at (noted (length accepted) (is_check a)) i (map (kept_of accepted) (known accepted))) a (length accepted) after
-    → (names_with (known accepted) (child_of a) ≡ known (accepted ++ Numbered p n s a ∷ [])) × (after ≡ map (kept_of (accepted ++ Numbered p n s a ∷ [])) (known (accepted ++ Numbered p n s a ∷ [])))
-in_order_numbered accepted p n s Check i after reach distinct at passed is =
-    plain accepted p n s Check i after refl (is ∙ sym (kept_plain accepted p n s Check i passed distinct at (λ q. refl)))
-in_order_numbered accepted p n s Present i after reach distinct at passed is =
-    plain accepted p n s Present i after refl (is ∙ sym (kept_plain accepted p n s Present i passed distinct at (λ q. refl)))
-in_order_numbered accepted p n s (Retire target) i after reach distinct at passed is =
-    plain accepted p n s (Retire target) i after refl (is ∙ sym (kept_plain accepted p n s (Retire target) i passed distinct at (λ q. refl)))
-in_order_numbered accepted p n s (Absorb retired) i after reach distinct at passed is =
-    plain accepted p n s (Absorb retired) i after refl (kept_taken accepted p n s retired i (position (pointwise nat_eq retired) (known accepted)) after passed distinct at refl is)
-in_order_numbered accepted p n s (Fork f) i after reach distinct at passed is =
-    let r = Numbered p n s (Fork f) in
+pub in_order_numbered : (accepted : List Report) (r : NumberedReport) (a : Action) (i : ℕ) (after : List KeptProcess) → IsReachable accepted → AreDistinctNames (known accepted) → name_of accepted i ≡ Some r.process
+    → Passed accepted (doing r a) → IsKeptByAction (known accepted) (changed_at (noted (length accepted) (is_check a)) i (map (kept_of accepted) (known accepted))) a (length accepted) after
+    → (names_with (known accepted) (child_of a) ≡ known (accepted ++ Numbered (doing r a) ∷ [])) × (after ≡ map (kept_of (accepted ++ Numbered (doing r a) ∷ [])) (known (accepted ++ Numbered (doing r a) ∷ [])))
+in_order_numbered accepted r (Absorb retired) i after reach distinct at passed is =
+    plain accepted (doing r (Absorb retired)) after refl (kept_taken accepted r retired i (position (pointwise nat_eq retired) (known accepted)) after passed distinct at refl is)
+in_order_numbered accepted r (Fork f) i after reach distinct at passed is =
+    let own = doing r (Fork f) in
+    let x = Numbered own in
     let child = f.child in
     let unknown : ¬ IsKnown accepted child = passed.fit.0 in
-    let other : child ≢ p = λ e. unknown (subst (IsKnown accepted) (sym e) passed.is_known) in
-    let known_is : known (accepted ++ r ∷ []) ≡ known accepted ++ child ∷ [] = known-push accepted r in
-    let last : kept_of (accepted ++ r ∷ []) child ≡ born (length accepted) = kept_born accepted r child reach unknown (same_bytes child) (other_bytes child p other) (some_if (bytes_eq child child) _ ∙ same_bytes child) refl in (
+    let other : child ≢ r.process = λ e. unknown (subst (IsKnown accepted) (sym e) passed.is_known) in
+    let known_is : known (accepted ++ x ∷ []) ≡ known accepted ++ child ∷ [] = known-push accepted x in
+    let last : kept_of (accepted ++ x ∷ []) child ≡ born (length accepted) = kept_born accepted x child reach unknown (same_bytes child) (other_bytes child r.process other) (some_if (bytes_eq child child) _ ∙ same_bytes child) refl in (
       new_name accepted child unknown ∙ sym known_is,
-      is ∙ ap (λ (l : List KeptProcess). l ++ born (length accepted) ∷ []) (sym (kept_plain accepted p n s (Fork f) i passed distinct at (λ q. refl)))
-          ∙ ap (λ (k : KeptProcess). map (kept_of (accepted ++ r ∷ [])) (known accepted) ++ k ∷ []) (sym last)
-          ∙ sym (ap (map (kept_of (accepted ++ r ∷ []))) known_is ∙ map-append (kept_of (accepted ++ r ∷ [])) (known accepted) (child ∷ [])),
+      is ∙ ap (λ (l : List KeptProcess). l ++ born (length accepted) ∷ []) (sym (kept_plain accepted own i passed distinct at (λ q. refl)))
+          ∙ ap (λ (k : KeptProcess). map (kept_of (accepted ++ x ∷ [])) (known accepted) ++ k ∷ []) (sym last)
+          ∙ sym (ap (map (kept_of (accepted ++ x ∷ []))) known_is ∙ map-append (kept_of (accepted ++ x ∷ [])) (known accepted) (child ∷ [])),
     )
+in_order_numbered accepted r a i after reach distinct at passed is =
+    plain accepted (doing r a) after refl (is ∙ sym (kept_plain accepted (doing r a) i passed distinct at (λ q. refl)))

@@ -1,5 +1,5 @@
 -- What each accepted report keeps: who is known, who retired, and the parts of everything.
-use Rattle.std.proofs.Common.{◌≡◌, ◌≢◌, inl, inr, ℕ, true, false, List, [], ◌∷◌, ◌++◌, Option, Some, None, refl, sym, ap, subst, ◌∙◌, arith}
+use Rattle.std.proofs.Common.{◌≡◌, ◌≢◌, inl, inr, true, false, List, [], ◌∷◌, ◌++◌, Option, Some, None, refl, sym, ap, subst, ◌∙◌, arith}
 use Rattle.std.specs.Option.{option_map_or}
 use Rattle.std.specs.Str.{bytes_eq}
 use Rattle.std.proofs.lemmas.Bool.{true≢false, false_from_ne_true, or_cases, or_parts, or_from}
@@ -8,17 +8,17 @@ use Rattle.id_tree.specs.IdTree.{IdTree, One}
 use Rattle.id_tree.specs.Points.{owns, OwnsSome}
 use Rattle.id_tree.specs.Split.{IsSplit}
 use Rattle.id_tree.proofs.Sums.{sum_together}
-use Rattle.stamp.specs.declared.stamp.Stamp.{Stamp}
 use Rattle.report_line.specs.declared.report.Action.{Action}
-use Rattle.report_line.specs.declared.report.Action.TheVariants.{Check, Present, Fork, Retire, Absorb}
+use Rattle.report_line.specs.declared.report.Action.TheVariants.{Fork, Absorb}
 use Rattle.report_line.specs.declared.report.Forked.{Forked}
+use Rattle.report_line.specs.declared.report.NumberedReport.{NumberedReport}
 use Rattle.report_line.specs.declared.report.Report.{Report}
 use Rattle.report_line.specs.declared.report.Report.TheVariants.{Begin, Numbered}
-use Rattle.chains.specs.Processes.{Name, newborn, IsKnown, is_birth_of, is_absorb_of, last_report, id_kept, registered_id, target_after, target_of, is_absorbed}
+use Rattle.chains.specs.Processes.{Name, newborn, IsKnown, is_birth_of, is_absorb_of, absorbs, last_report, id_kept, registered_id, target_after, target_of, is_absorbed}
 use Rattle.chains.specs.Laws.{Holds}
 use Rattle.chains.proofs.Certain.{known_or_not}
 use Rattle.chains.proofs.Passed.{Passed, IsFit}
-use Rattle.chains.proofs.Stepping.{none_some, some_name, same_bytes, other_bytes, same_or_other, still_known, known_new, known_cases, absorbed-push, other_report, other_target, own_id, other_id, child_id}
+use Rattle.chains.proofs.Stepping.{none_some, some_name, same_bytes, other_bytes, same_or_other, still_known, known_new, known_cases, absorbed-push, other_report, other_target, own_id, other_id, child_id, doing}
 use Rattle.chains.proofs.Parts.{AreParts, parts_same, IsForked, parts_fork, IsAbsorbed, parts_absorb}
 
 -- the ids of the processes that hold
@@ -50,80 +50,77 @@ held : (accepted : List Report) (r : Report) (q : Name) → newborn r ≡ None �
 held accepted r q none h = record { is_known = same_known accepted r q none h.is_known; unabsorbed = (unabsorbed accepted r q h.unabsorbed).0 }
 
 -- a process that reports holds
-reporting : (accepted : List Report) (p : Name) (s : Stamp) (a : Action) → IsWellMade accepted → Passed accepted p s a → Holds accepted p
-reporting accepted p s a made h = record { is_known = h.is_known; unabsorbed = false_from_ne_true (is_absorbed p accepted) (λ e. made.retired p e h.living) }
+reporting : (accepted : List Report) (r : NumberedReport) → IsWellMade accepted → Passed accepted r → Holds accepted r.process
+reporting accepted r made h = record { is_known = h.is_known; unabsorbed = false_from_ne_true (is_absorbed r.process accepted) (λ e. made.retired r.process e h.living) }
 
 -- ---- a report with a number
 
-unreported_after : (accepted : List Report) (p q : Name) (n : ℕ) (s : Stamp) (a : Action) → IsWellMade accepted → Passed accepted p s a
-    → ¬ IsKnown (accepted ++ Numbered p n s a ∷ []) q → last_report q (accepted ++ Numbered p n s a ∷ []) ≡ None
-unreported_after accepted p q n s a made h unknown =
-    let before = λ (k : IsKnown accepted q). unknown (still_known accepted (Numbered p n s a) q k) in
-    other_report accepted p q n s a (λ e. before (subst (IsKnown accepted) (sym e) h.is_known)) ∙ made.unreported q before
+unreported_after : (accepted : List Report) (q : Name) (r : NumberedReport) → IsWellMade accepted → Passed accepted r
+    → ¬ IsKnown (accepted ++ Numbered r ∷ []) q → last_report q (accepted ++ Numbered r ∷ []) ≡ None
+unreported_after accepted q r made h unknown =
+    let before = λ (k : IsKnown accepted q). unknown (still_known accepted (Numbered r) q k) in
+    other_report accepted q r (λ e. before (subst (IsKnown accepted) (sym e) h.is_known)) ∙ made.unreported q before
 
-absorbs : (accepted : List Report) (p q : Name) (n : ℕ) (s : Stamp) (a : Action) → IsFit accepted p a → is_absorb_of q (Numbered p n s a) ≡ true → target_of q accepted ≡ Some p
-absorbs accepted p q n s Check fit e = absurd (true≢false (sym e))
-absorbs accepted p q n s Present fit e = absurd (true≢false (sym e))
-absorbs accepted p q n s (Fork f) fit e = absurd (true≢false (sym e))
-absorbs accepted p q n s (Retire target) fit e = absurd (true≢false (sym e))
-absorbs accepted p q n s (Absorb retired) fit e = ap (λ (m : Name). target_of m accepted) ((bytes_eq-Decides q retired).0 e) ∙ fit.0
+absorbed_from : (accepted : List Report) (p q : Name) (a : Action) → IsFit accepted p a → absorbs q a ≡ true → target_of q accepted ≡ Some p
+absorbed_from accepted p q (Absorb retired) fit e = ap (λ (m : Name). target_of m accepted) ((bytes_eq-Decides q retired).0 e) ∙ fit.0
+absorbed_from accepted p q _ fit e = absurd (true≢false (sym e))
 
-retired_before : (accepted : List Report) (p q : Name) (n : ℕ) (s : Stamp) (a : Action) → IsWellMade accepted → Passed accepted p s a
-    → is_absorbed q (accepted ++ Numbered p n s a ∷ []) ≡ true → target_of q accepted ≢ None
-retired_before accepted p q n s a made h e =
-    elim (or_cases (is_absorbed q accepted) (is_absorb_of q (Numbered p n s a)) (sym (absorbed-push q accepted (Numbered p n s a)) ∙ e)) [
+retired_before : (accepted : List Report) (q : Name) (r : NumberedReport) → IsWellMade accepted → Passed accepted r
+    → is_absorbed q (accepted ++ Numbered r ∷ []) ≡ true → target_of q accepted ≢ None
+retired_before accepted q r made h e =
+    elim (or_cases (is_absorbed q accepted) (is_absorb_of q (Numbered r)) (sym (absorbed-push q accepted (Numbered r)) ∙ e)) [
       | inl before ↦ made.retired q before
-      | inr now ↦ λ none. none_some p (sym none ∙ absorbs accepted p q n s a h.fit now)
+      | inr now ↦ λ none. none_some r.process (sym none ∙ absorbed_from accepted r.process q r.action h.fit now)
     ]
 
-retired_after : (accepted : List Report) (p q : Name) (n : ℕ) (s : Stamp) (a : Action) → IsWellMade accepted → Passed accepted p s a
-    → is_absorbed q (accepted ++ Numbered p n s a ∷ []) ≡ true → target_of q (accepted ++ Numbered p n s a ∷ []) ≢ None
-retired_after accepted p q n s a made h e none =
-    let before = retired_before accepted p q n s a made h e in
-    before (sym (other_target accepted p q n s a (λ same. before (ap (λ (m : Name). target_of m accepted) same ∙ h.living))) ∙ none)
+retired_after : (accepted : List Report) (q : Name) (r : NumberedReport) → IsWellMade accepted → Passed accepted r
+    → is_absorbed q (accepted ++ Numbered r ∷ []) ≡ true → target_of q (accepted ++ Numbered r ∷ []) ≢ None
+retired_after accepted q r made h e none =
+    let before = retired_before accepted q r made h e in
+    before (sym (other_target accepted q r (λ same. before (ap (λ (m : Name). target_of m accepted) same ∙ h.living))) ∙ none)
 
 -- ---- the parts after a report with a number
 
 unborn : (q : Name) (r : Report) → newborn r ≡ None → is_birth_of q r ≡ false
 unborn q r none = ap (λ (o : Option Name). option_map_or (λ m. bytes_eq q m) o false) none
 
-same_id : (accepted : List Report) (p q : Name) (n : ℕ) (s : Stamp) (a : Action) → newborn (Numbered p n s a) ≡ None → id_kept s a ≡ registered_id p accepted
-    → registered_id q (accepted ++ Numbered p n s a ∷ []) ≡ registered_id q accepted
-same_id accepted p q n s a none same = elim (same_or_other q p) [
-  | inl e ↦ subst (λ (m : Name). registered_id m (accepted ++ Numbered p n s a ∷ []) ≡ registered_id m accepted) (sym e) (own_id accepted p n s a ∙ same)
-  | inr other ↦ other_id accepted p q n s a other (unborn q (Numbered p n s a) none)
+same_id : (accepted : List Report) (q : Name) (r : NumberedReport) → newborn (Numbered r) ≡ None → id_kept r.stamp r.action ≡ registered_id r.process accepted
+    → registered_id q (accepted ++ Numbered r ∷ []) ≡ registered_id q accepted
+same_id accepted q r none same = elim (same_or_other q r.process) [
+  | inl e ↦ subst (λ (m : Name). registered_id m (accepted ++ Numbered r ∷ []) ≡ registered_id m accepted) (sym e) (own_id accepted r ∙ same)
+  | inr other ↦ other_id accepted q r other (unborn q (Numbered r) none)
 ]
 
 -- nobody is born or absorbed, and the process keeps its id
-after_same : (accepted : List Report) (p : Name) (n : ℕ) (s : Stamp) (a : Action) → newborn (Numbered p n s a) ≡ None → ((q : Name) → is_absorb_of q (Numbered p n s a) ≡ false)
-    → id_kept s a ≡ registered_id p accepted → HoldParts accepted → HoldParts (accepted ++ Numbered p n s a ∷ [])
-after_same accepted p n s a none spared same parts =
+after_same : (accepted : List Report) (r : NumberedReport) → newborn (Numbered r) ≡ None → ((q : Name) → is_absorb_of q (Numbered r) ≡ false)
+    → id_kept r.stamp r.action ≡ registered_id r.process accepted → HoldParts accepted → HoldParts (accepted ++ Numbered r ∷ [])
+after_same accepted r none spared same parts =
     parts_same parts
-    (λ q h. held accepted (Numbered p n s a) q none h)
-    (λ q h. still_holds accepted (Numbered p n s a) q (spared q) h)
-    (λ q. same_id accepted p q n s a none same)
+    (λ q h. held accepted (Numbered r) q none h)
+    (λ q h. still_holds accepted (Numbered r) q (spared q) h)
+    (λ q. same_id accepted q r none same)
 
-fork_step : (accepted : List Report) (p : Name) (n : ℕ) (s : Stamp) (f : Forked) → IsWellMade accepted → Passed accepted p s (Fork f)
-    → IsForked (Holds accepted) (Holds (accepted ++ Numbered p n s (Fork f) ∷ [])) (λ q. registered_id q accepted) (λ q. registered_id q (accepted ++ Numbered p n s (Fork f) ∷ [])) p f.child
-fork_step accepted p n s f made h =
-    let r = Numbered p n s (Fork f) in
+fork_step : (accepted : List Report) (r : NumberedReport) (f : Forked) → IsWellMade accepted → Passed accepted (doing r (Fork f))
+    → IsForked (Holds accepted) (Holds (accepted ++ Numbered (doing r (Fork f)) ∷ [])) (λ q. registered_id q accepted) (λ q. registered_id q (accepted ++ Numbered (doing r (Fork f)) ∷ [])) r.process f.child
+fork_step accepted r f made h =
+    let x = Numbered (doing r (Fork f)) in
     let child = f.child in
     let unreported = made.unreported child h.fit.0 in
-    let other : child ≢ p = λ e. h.fit.0 (subst (IsKnown accepted) (sym e) h.is_known) in
+    let other : child ≢ r.process = λ e. h.fit.0 (subst (IsKnown accepted) (sym e) h.is_known) in
     record {
-      parent = reporting accepted p s (Fork f) made h;
-      back = λ q k. elim (known_cases accepted r q k.is_known) [
-        | inl before ↦ inl (record { is_known = before; unabsorbed = (unabsorbed accepted r q k.unabsorbed).0 })
+      parent = reporting accepted (doing r (Fork f)) made h;
+      back = λ q k. elim (known_cases accepted x q k.is_known) [
+        | inl before ↦ inl (record { is_known = before; unabsorbed = (unabsorbed accepted x q k.unabsorbed).0 })
         | inr e ↦ inr (sym (some_name child q e))
       ];
-      forth = λ q k. still_holds accepted r q refl k;
+      forth = λ q k. still_holds accepted x q refl k;
       born = record {
-        is_known = known_new accepted r child refl;
-        unabsorbed = absorbed-push child accepted r ∙ or_from (is_absorbed child accepted) false (false_from_ne_true (is_absorbed child accepted) (λ e. made.retired child e (ap target_after unreported))) refl;
+        is_known = known_new accepted x child refl;
+        unabsorbed = absorbed-push child accepted x ∙ or_from (is_absorbed child accepted) false (false_from_ne_true (is_absorbed child accepted) (λ e. made.retired child e (ap target_after unreported))) refl;
       };
-      split = subst (λ i. IsSplit (registered_id p accepted) i (registered_id child (accepted ++ r ∷ []))) (sym (own_id accepted p n s (Fork f)))
-          (subst (λ i. IsSplit (registered_id p accepted) f.kept i) (sym (child_id accepted p n s f other unreported)) h.fit.1);
-      others = λ q k m. other_id accepted p q n s (Fork f) m (other_bytes q child (λ e. h.fit.0 (subst (IsKnown accepted) e k.is_known)));
+      split = subst (λ i. IsSplit (registered_id r.process accepted) i (registered_id child (accepted ++ x ∷ []))) (sym (own_id accepted (doing r (Fork f))))
+          (subst (λ i. IsSplit (registered_id r.process accepted) f.kept i) (sym (child_id accepted r f other unreported)) h.fit.1);
+      others = λ q k m. other_id accepted q (doing r (Fork f)) m (other_bytes q child (λ e. h.fit.0 (subst (IsKnown accepted) e k.is_known)));
     }
 
 -- a process whose retirement waits holds
@@ -133,32 +130,30 @@ waiting_holds accepted p retired made target spared = record {
   unabsorbed = spared;
 }
 
-absorb_step : (accepted : List Report) (p retired : Name) (n : ℕ) (s : Stamp) → IsWellMade accepted → Passed accepted p s (Absorb retired)
-    → IsAbsorbed (Holds accepted) (Holds (accepted ++ Numbered p n s (Absorb retired) ∷ [])) (λ q. registered_id q accepted) (λ q. registered_id q (accepted ++ Numbered p n s (Absorb retired) ∷ [])) p retired
-absorb_step accepted p retired n s made h =
-    let r = Numbered p n s (Absorb retired) in
+absorb_step : (accepted : List Report) (r : NumberedReport) (retired : Name) → IsWellMade accepted → Passed accepted (doing r (Absorb retired))
+    → IsAbsorbed (Holds accepted) (Holds (accepted ++ Numbered (doing r (Absorb retired)) ∷ [])) (λ q. registered_id q accepted) (λ q. registered_id q (accepted ++ Numbered (doing r (Absorb retired)) ∷ [])) r.process retired
+absorb_step accepted r retired made h =
+    let x = Numbered (doing r (Absorb retired)) in
     record {
-      absorbing = reporting accepted p s (Absorb retired) made h;
-      waiting = waiting_holds accepted p retired made h.fit.0 h.fit.1;
-      apart = λ e. none_some p (sym h.living ∙ ap (λ (m : Name). target_of m accepted) e ∙ h.fit.0);
-      back = λ q k. (held accepted r q refl k, λ e. true≢false (sym ((bytes_eq-Decides q retired).1 e) ∙ (unabsorbed accepted r q k.unabsorbed).1));
-      forth = λ q k m. still_holds accepted r q (other_bytes q retired m) k;
-      joined = sum_together (registered_id p accepted) (registered_id retired accepted) (registered_id p (accepted ++ r ∷ [])) (own_id accepted p n s (Absorb retired) ∙ h.id);
-      others = λ q k m. other_id accepted p q n s (Absorb retired) m refl;
+      absorbing = reporting accepted (doing r (Absorb retired)) made h;
+      waiting = waiting_holds accepted r.process retired made h.fit.0 h.fit.1;
+      apart = λ e. none_some r.process (sym h.living ∙ ap (λ (m : Name). target_of m accepted) e ∙ h.fit.0);
+      back = λ q k. (held accepted x q refl k, λ e. true≢false (sym ((bytes_eq-Decides q retired).1 e) ∙ (unabsorbed accepted x q k.unabsorbed).1));
+      forth = λ q k m. still_holds accepted x q (other_bytes q retired m) k;
+      joined = sum_together (registered_id r.process accepted) (registered_id retired accepted) (registered_id r.process (accepted ++ x ∷ [])) (own_id accepted (doing r (Absorb retired)) ∙ h.id);
+      others = λ q k m. other_id accepted q (doing r (Absorb retired)) m refl;
     }
 
-parts_after : (accepted : List Report) (p : Name) (n : ℕ) (s : Stamp) (a : Action) → IsWellMade accepted → Passed accepted p s a → HoldParts (accepted ++ Numbered p n s a ∷ [])
-parts_after accepted p n s Check made h = after_same accepted p n s Check refl (λ q. refl) h.id (made.parts h.begun)
-parts_after accepted p n s Present made h = after_same accepted p n s Present refl (λ q. refl) h.id (made.parts h.begun)
-parts_after accepted p n s (Retire target) made h = after_same accepted p n s (Retire target) refl (λ q. refl) h.id (made.parts h.begun)
-parts_after accepted p n s (Fork f) made h = parts_fork (made.parts h.begun) (fork_step accepted p n s f made h)
-parts_after accepted p n s (Absorb retired) made h = parts_absorb (made.parts h.begun) (absorb_step accepted p retired n s made h)
+parts_after : (accepted : List Report) (r : NumberedReport) (a : Action) → IsWellMade accepted → Passed accepted (doing r a) → HoldParts (accepted ++ Numbered (doing r a) ∷ [])
+parts_after accepted r (Fork f) made h = parts_fork (made.parts h.begun) (fork_step accepted r f made h)
+parts_after accepted r (Absorb retired) made h = parts_absorb (made.parts h.begun) (absorb_step accepted r retired made h)
+parts_after accepted r a made h = after_same accepted (doing r a) refl (λ q. refl) h.id (made.parts h.begun)
 
-pub made_after : (accepted : List Report) (p : Name) (n : ℕ) (s : Stamp) (a : Action) → IsWellMade accepted → Passed accepted p s a → IsWellMade (accepted ++ Numbered p n s a ∷ [])
-made_after accepted p n s a made h = record {
-  unreported = λ q unknown. unreported_after accepted p q n s a made h unknown;
-  retired = λ q e. retired_after accepted p q n s a made h e;
-  parts = λ filled. parts_after accepted p n s a made h;
+pub made_after : (accepted : List Report) (r : NumberedReport) → IsWellMade accepted → Passed accepted r → IsWellMade (accepted ++ Numbered r ∷ [])
+made_after accepted r made h = record {
+  unreported = λ q unknown. unreported_after accepted q r made h unknown;
+  retired = λ q e. retired_after accepted q r made h e;
+  parts = λ filled. parts_after accepted r r.action made h;
 }
 
 -- ---- BEGIN

@@ -1,9 +1,8 @@
 -- What holds of each list that admission reaches.
-use Rattle.std.proofs.Common.{◌≡◌, ◌≢◌, ◌⊎◌, inl, inr, ℕ, ◌+◌, List, [], ◌∷◌, ◌++◌, length, refl, sym, ap, subst, ◌∙◌, arith}
+use Rattle.std.proofs.Common.{◌≡◌, ◌≢◌, ◌⊎◌, inl, inr, ◌+◌, List, [], ◌∷◌, ◌++◌, length, refl, sym, ap, subst, ◌∙◌, arith}
 use Rattle.std.proofs.lemmas.Bool.{true≢false}
 use Rattle.event_tree.specs.Values.{IsAtOrBelow}
-use Rattle.stamp.specs.declared.stamp.Stamp.{Stamp}
-use Rattle.report_line.specs.declared.report.Action.{Action}
+use Rattle.report_line.specs.declared.report.NumberedReport.{NumberedReport}
 use Rattle.report_line.specs.declared.report.Report.{Report}
 use Rattle.report_line.specs.declared.report.Report.TheVariants.{Begin, Numbered}
 use Rattle.report_line.specs.declared.reply.Reply.TheVariants.{Accepted}
@@ -22,8 +21,8 @@ no_push (y ∷ ys) x e = cc
 pub unbegun : (accepted : List Report) → IsReachable accepted → known accepted ≡ [] → accepted ≡ []
 unbegun _ nothing_accepted e = refl
 unbegun _ (one_more before (Begin p) reach admitted) e = absurd (no_push (known before) p (sym (known-push before (Begin p)) ∙ e))
-unbegun _ (one_more before (Numbered p n s a) reach admitted) e =
-    let there = still_known before (Numbered p n s a) p (passed_tests before p n s a (length before + 1) admitted).is_known in
+unbegun _ (one_more before (Numbered r) reach admitted) e =
+    let there = still_known before (Numbered r) r.process (passed_tests before r (length before + 1) admitted).is_known in
     let some = there.1 in
     let none = ap (λ (ks : List Name). length ks) e in
     absurd (omega arith)
@@ -39,8 +38,8 @@ well_made _ nothing_accepted = record {
 well_made _ (one_more before (Begin p) reach admitted) =
     let first : before ≡ [] = unbegun before reach (begins (known before) before p (length before + 1) admitted) in
     subst (λ (xs : List Report). IsWellMade (xs ++ Begin p ∷ [])) (sym first) (root_made p)
-well_made _ (one_more before (Numbered p n s a) reach admitted) =
-    made_after before p n s a (well_made before reach) (passed_tests before p n s a (length before + 1) admitted)
+well_made _ (one_more before (Numbered r) reach admitted) =
+    made_after before r (well_made before reach) (passed_tests before r (length before + 1) admitted)
 
 nobody : (p : Name) → ¬ Holds [] p
 nobody p h = let some = h.is_known.1 in omega arith
@@ -87,18 +86,18 @@ last_or_before (a ∷ as') (b ∷ bs) after r x e =
       | inr earlier ↦ inr (earlier.0, cons_same a b as' (bs ++ x ∷ earlier.0) same earlier.1)
     ]
 
-risen : (accepted before : List Report) (p : Name) (n : ℕ) (s : Stamp) (a : Action) (r : Report) → accepted ≡ before → r ≡ Numbered p n s a
-    → IsAdmission accepted r (Accepted (length accepted + 1)) → IsAtOrBelow (last_events p before) s.events × (s.id ≡ expected_id before p a)
-risen accepted before p n s a r e f admitted =
-    let h = subst (λ (xs : List Report). IsAdmission xs (Numbered p n s a) (Accepted (length xs + 1))) e (subst (λ (x : Report). IsAdmission accepted x (Accepted (length accepted + 1))) f admitted) in
-    let passed = passed_tests before p n s a (length before + 1) h in
+risen : (accepted before : List Report) (r : NumberedReport) (x : Report) → accepted ≡ before → x ≡ Numbered r
+    → IsAdmission accepted x (Accepted (length accepted + 1)) → IsAtOrBelow (last_events r.process before) r.stamp.events × (r.stamp.id ≡ expected_id before r.process r.action)
+risen accepted before r x e f admitted =
+    let h = subst (λ (xs : List Report). IsAdmission xs (Numbered r) (Accepted (length xs + 1))) e (subst (λ (y : Report). IsAdmission accepted y (Accepted (length accepted + 1))) f admitted) in
+    let passed = passed_tests before r (length before + 1) h in
     (passed.above, passed.id)
 
 -- the events never fall, and each stamp has the id that is expected
 pub never_fall : (accepted : List Report) → IsReachable accepted → NeverFall accepted
-never_fall _ nothing_accepted before after p n s a e = absurd (nothing_before before after (Numbered p n s a) e)
-never_fall _ (one_more accepted r reach admitted) before after p n s a e =
-    elim (last_or_before accepted before after r (Numbered p n s a) e) [
-      | inl last ↦ risen accepted before p n s a r last.0 last.1 admitted
-      | inr earlier ↦ never_fall accepted reach before earlier.0 p n s a earlier.1
+never_fall _ nothing_accepted before after r e = absurd (nothing_before before after (Numbered r) e)
+never_fall _ (one_more accepted x reach admitted) before after r e =
+    elim (last_or_before accepted before after x (Numbered r) e) [
+      | inl last ↦ risen accepted before r x last.0 last.1 admitted
+      | inr earlier ↦ never_fall accepted reach before earlier.0 r earlier.1
     ]

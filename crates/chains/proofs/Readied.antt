@@ -14,11 +14,11 @@ use Rattle.chains.proofs.Passed.{passed_tests}
 pub readied : (k : Kept) (accepted : List Report) (r : Report) (number : Option ℕ) → k.accepted ≡ accepted → IsNumberIn accepted r number → IsFound r number → HasPlace number k.rooms
     → IsNumberOf k.accepted r (unwrap_or number 0) × HasRoomFor k r (unwrap_or number 0)
 readied k accepted (Begin p) number same is found room = (tt, tt)
-readied k accepted (Numbered p n s a) None same is found room = absurd found
-readied k accepted (Numbered p n s a) (Some i) same is found room = (subst (λ (xs : List Report). IsNumberOf xs (Numbered p n s a) i) (sym same) is, room)
+readied k accepted (Numbered r) None same is found room = absurd found
+readied k accepted (Numbered r) (Some i) same is found room = (subst (λ (xs : List Report). IsNumberOf xs (Numbered r) i) (sym same) is, room)
 
 -- the number of a report that is accepted was found
 pub found : (accepted : List Report) (r : Report) (number : Option ℕ) (front : ℕ) → IsNumberIn accepted r number → IsAdmission accepted r (Accepted front) → IsFound r number
 found accepted (Begin p) number front is admitted = is
-found accepted (Numbered p n s a) None front is admitted = is (passed_tests accepted p n s a front admitted).is_known
-found accepted (Numbered p n s a) (Some i) front is admitted = tt
+found accepted (Numbered r) None front is admitted = is (passed_tests accepted r front admitted).is_known
+found accepted (Numbered r) (Some i) front is admitted = tt

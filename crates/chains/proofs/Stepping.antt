@@ -1,6 +1,6 @@
 -- What one more report changes.
 use Rattle.std.proofs.Common.{◌≡◌, ◌≢◌, ◌⊎◌, inl, inr, Bool, true, false, cond, List, [], ◌∷◌, ◌++◌, Option, Some, None, refl, sym, ap, subst, ◌∙◌, append-nil}
-use Rattle.std.specs.Prelude.{ℕ, ◌||◌, Contains}
+use Rattle.std.specs.Prelude.{◌||◌, Contains}
 use Rattle.std.specs.List.{cons_option}
 use Rattle.std.specs.Str.{bytes_eq}
 use Rattle.std.proofs.Math.Bool.{or-false}
@@ -8,10 +8,10 @@ use Rattle.std.proofs.lemmas.Bool.{cases_Bool, true≢false, false_from_ne_true}
 use Rattle.std.proofs.lemmas.List.Elements.{filter_map-append, Contains-append_left, Contains-push, Contains-push_cases}
 use Rattle.std.proofs.lemmas.List.Folds.{list_any-append}
 use Rattle.std.proofs.lemmas.Slice.Eq.{bytes_eq-Decides}
-use Rattle.stamp.specs.declared.stamp.Stamp.{Stamp}
 use Rattle.report_line.specs.declared.report.Action.{Action}
 use Rattle.report_line.specs.declared.report.Action.TheVariants.{Fork}
 use Rattle.report_line.specs.declared.report.Forked.{Forked}
+use Rattle.report_line.specs.declared.report.NumberedReport.{NumberedReport}
 use Rattle.report_line.specs.declared.report.Report.{Report}
 use Rattle.report_line.specs.declared.report.Report.TheVariants.{Numbered}
 use Rattle.chains.specs.Processes.{Name, newborn, known, IsKnown, first_of, last_passing, is_numbered_of, is_birth_of, is_absorb_of, last_report, birth_report, id_after, id_kept, registered_id, target_after, target_of, is_absorbed}
@@ -78,28 +78,32 @@ known_cases accepted r q h = new_cases (known accepted) (newborn r) q (subst (λ
 pub absorbed-push : (q : Name) (accepted : List Report) (r : Report) → is_absorbed q (accepted ++ r ∷ []) ≡ (is_absorbed q accepted || is_absorb_of q r)
 absorbed-push q accepted r = list_any-append (is_absorb_of q) accepted (r ∷ []) ∙ ap (λ b. is_absorbed q accepted || b) (or-false (is_absorb_of q r))
 
-pub own_report : (accepted : List Report) (p : Name) (n : ℕ) (s : Stamp) (a : Action) → last_report p (accepted ++ Numbered p n s a ∷ []) ≡ Some (Numbered p n s a)
-own_report accepted p n s a = passing (is_numbered_of p) accepted (Numbered p n s a) (same_bytes p)
+-- the report with this action; with its own it is the report itself
+abbrev pub doing : NumberedReport → Action → NumberedReport
+doing r a = record r { action = a }
 
-pub other_report : (accepted : List Report) (p q : Name) (n : ℕ) (s : Stamp) (a : Action) → q ≢ p → last_report q (accepted ++ Numbered p n s a ∷ []) ≡ last_report q accepted
-other_report accepted p q n s a other = failing (is_numbered_of q) accepted (Numbered p n s a) (other_bytes q p other)
+pub own_report : (accepted : List Report) (r : NumberedReport) → last_report r.process (accepted ++ Numbered r ∷ []) ≡ Some (Numbered r)
+own_report accepted r = passing (is_numbered_of r.process) accepted (Numbered r) (same_bytes r.process)
 
-pub other_target : (accepted : List Report) (p q : Name) (n : ℕ) (s : Stamp) (a : Action) → q ≢ p → target_of q (accepted ++ Numbered p n s a ∷ []) ≡ target_of q accepted
-other_target accepted p q n s a other = ap target_after (other_report accepted p q n s a other)
+pub other_report : (accepted : List Report) (q : Name) (r : NumberedReport) → q ≢ r.process → last_report q (accepted ++ Numbered r ∷ []) ≡ last_report q accepted
+other_report accepted q r other = failing (is_numbered_of q) accepted (Numbered r) (other_bytes q r.process other)
+
+pub other_target : (accepted : List Report) (q : Name) (r : NumberedReport) → q ≢ r.process → target_of q (accepted ++ Numbered r ∷ []) ≡ target_of q accepted
+other_target accepted q r other = ap target_after (other_report accepted q r other)
 
 -- the process itself has what its action leaves it
-pub own_id : (accepted : List Report) (p : Name) (n : ℕ) (s : Stamp) (a : Action) → registered_id p (accepted ++ Numbered p n s a ∷ []) ≡ id_kept s a
-own_id accepted p n s a = ap (λ o. id_after o (birth_report p (accepted ++ Numbered p n s a ∷ []))) (own_report accepted p n s a)
+pub own_id : (accepted : List Report) (r : NumberedReport) → registered_id r.process (accepted ++ Numbered r ∷ []) ≡ id_kept r.stamp r.action
+own_id accepted r = ap (λ o. id_after o (birth_report r.process (accepted ++ Numbered r ∷ []))) (own_report accepted r)
 
 -- another one that is not born keeps its id
-pub other_id : (accepted : List Report) (p q : Name) (n : ℕ) (s : Stamp) (a : Action) → q ≢ p → is_birth_of q (Numbered p n s a) ≡ false → registered_id q (accepted ++ Numbered p n s a ∷ []) ≡ registered_id q accepted
-other_id accepted p q n s a other unborn =
-    ap (λ o. id_after o (birth_report q (accepted ++ Numbered p n s a ∷ []))) (other_report accepted p q n s a other)
-    ∙ ap (id_after (last_report q accepted)) (failing (is_birth_of q) accepted (Numbered p n s a) unborn)
+pub other_id : (accepted : List Report) (q : Name) (r : NumberedReport) → q ≢ r.process → is_birth_of q (Numbered r) ≡ false → registered_id q (accepted ++ Numbered r ∷ []) ≡ registered_id q accepted
+other_id accepted q r other unborn =
+    ap (λ o. id_after o (birth_report q (accepted ++ Numbered r ∷ []))) (other_report accepted q r other)
+    ∙ ap (id_after (last_report q accepted)) (failing (is_birth_of q) accepted (Numbered r) unborn)
 
 -- a child with no report has what it was given
-pub child_id : (accepted : List Report) (p : Name) (n : ℕ) (s : Stamp) (forked : Forked) → forked.child ≢ p → last_report forked.child accepted ≡ None
-    → registered_id forked.child (accepted ++ Numbered p n s (Fork forked) ∷ []) ≡ forked.given
-child_id accepted p n s forked other unreported =
-    ap (λ o. id_after o (birth_report forked.child (accepted ++ Numbered p n s (Fork forked) ∷ []))) (other_report accepted p forked.child n s (Fork forked) other ∙ unreported)
-    ∙ ap (id_after None) (passing (is_birth_of forked.child) accepted (Numbered p n s (Fork forked)) (same_bytes forked.child))
+pub child_id : (accepted : List Report) (r : NumberedReport) (forked : Forked) → forked.child ≢ r.process → last_report forked.child accepted ≡ None
+    → registered_id forked.child (accepted ++ Numbered (doing r (Fork forked)) ∷ []) ≡ forked.given
+child_id accepted r forked other unreported =
+    ap (λ o. id_after o (birth_report forked.child (accepted ++ Numbered (doing r (Fork forked)) ∷ []))) (other_report accepted forked.child (doing r (Fork forked)) other ∙ unreported)
+    ∙ ap (id_after None) (passing (is_birth_of forked.child) accepted (Numbered (doing r (Fork forked))) (same_bytes forked.child))

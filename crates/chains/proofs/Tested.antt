@@ -11,9 +11,9 @@ use Rattle.id_tree.proofs.Points.{equal_points}
 use Rattle.id_tree.proofs.Sums as sums
 use Rattle.report_line.specs.declared.code.Code.{Code}
 use Rattle.report_line.specs.declared.code.Code.TheVariants.{OutOfMemory, Full, Ended, NothingBegun}
-use Rattle.stamp.specs.declared.stamp.Stamp.{Stamp}
 use Rattle.report_line.specs.declared.report.Action.{Action}
-use Rattle.report_line.specs.declared.report.Action.TheVariants.{Check, Present, Fork, Retire, Absorb}
+use Rattle.report_line.specs.declared.report.Action.TheVariants.{Absorb}
+use Rattle.report_line.specs.declared.report.NumberedReport.{NumberedReport}
 use Rattle.report_line.specs.declared.report.Report.{Report}
 use Rattle.report_line.specs.declared.report.Report.TheVariants.{Numbered}
 use Rattle.report_line.specs.declared.reply.Reply.{Reply}
@@ -57,38 +57,32 @@ refuses_full F P accepted refusal limit (inl e) h = inl (inl (h, rw e refl))
 refuses_full F P accepted refusal limit (inr e) h = lacking (λ a. Decides F (replies.No Full None (Some (decimal limit))) a (P a)) accepted refusal (replies.No Full None (Some (decimal limit))) e (inl (h, refl)) tt
 
 -- a report with a number is refused where nothing was accepted yet
-pub refuses_first : (accepted : List Report) (report : Report) (p : Name) (n : ℕ) (s : Stamp) (a : Action) → report ≡ Numbered p n s a → length accepted ≡ 0
+pub refuses_first : (accepted : List Report) (report : Report) (r : NumberedReport) → report ≡ Numbered r → length accepted ≡ 0
     → Tests (IsAdmission accepted report) accepted (Err (record { code = NothingBegun; name = None; value = None }))
-refuses_first [] report p n s a is none = rw is (inl (inl (refl, refl)))
-refuses_first (r ∷ rs) report p n s a is none = absurd cc
+refuses_first [] report r is none = rw is (inl (inl (refl, refl)))
+refuses_first (x ∷ xs) report r is none = absurd cc
 
 -- a report that is not the last one of its process is left to the tests behind
-pub not_last : (accepted : List Report) (report : Report) (p : Name) (n : ℕ) (s : Stamp) (a : Action) (r : Result Verdict No) (b : Bool) → b ≡ false → (IsTrue b ↔ (last_report p accepted ≡ Some report)) → report ≡ Numbered p n s a
-    → Tests (IsStandingReply (target_of p accepted) accepted p n s a) accepted r → Tests (IsNumberedReply accepted p n s a) accepted r
-not_last accepted report p n s a r b other last is later =
-    passed_on (last_report p accepted ≡ Some (Numbered p n s a)) (replies.Old (length accepted)) (IsStandingReply (target_of p accepted) accepted p n s a) accepted r
+pub not_last : (accepted : List Report) (report : Report) (r : NumberedReport) (result : Result Verdict No) (b : Bool) → b ≡ false → (IsTrue b ↔ (last_report r.process accepted ≡ Some report)) → report ≡ Numbered r
+    → Tests (IsStandingReply (target_of r.process accepted) accepted r) accepted result → Tests (IsNumberedReply accepted r) accepted result
+not_last accepted report r result b other last is later =
+    passed_on (last_report r.process accepted ≡ Some (Numbered r)) (replies.Old (length accepted)) (IsStandingReply (target_of r.process accepted) accepted r) accepted result
     (λ e. both_ways b other (last.1 (e ∙ ap (λ (x : Report). Some x) (sym is)))) later
 
 -- a refusal since the process ended
-pub refuses_ended : {E : Type 0} (target : Name) (accepted : List Report) (p : Name) (n : ℕ) (s : Stamp) (a : Action) (refusal : No) (r : Result (List ℕ) E)
-    → RefusesWith refusal Ended p r → IfOk r (λ t. t ≡ target) → Tests (IsStandingReply (Some target) accepted p n s a) accepted (Err refusal)
-refuses_ended target accepted p n s a refusal (Ok t) e is = inl (rw (e, is) refl)
-refuses_ended target accepted p n s a refusal (Err x) e is = lacking (IsStandingReply (Some target) accepted p n s a) accepted refusal (replies.No Ended (Some p) (Some target)) e refl tt
+pub refuses_ended : {E : Type 0} (target : Name) (accepted : List Report) (r : NumberedReport) (refusal : No) (value : Result (List ℕ) E)
+    → RefusesWith refusal Ended r.process value → IfOk value (λ t. t ≡ target) → Tests (IsStandingReply (Some target) accepted r) accepted (Err refusal)
+refuses_ended target accepted r refusal (Ok t) e is = inl (rw (e, is) refl)
+refuses_ended target accepted r refusal (Err x) e is = lacking (IsStandingReply (Some target) accepted r) accepted refusal (replies.No Ended (Some r.process) (Some target)) e refl tt
 
 -- an action that is no absorb asks for no retirement
-pub as_own : (accepted : List Report) (p : Name) (n : ℕ) (s : Stamp) (a : Action) (r : Result Verdict No) → IsNoAbsorb a → Tests (IsStampReply accepted p n s a) accepted r → Tests (IsWaitingReply accepted p n s a) accepted r
-as_own accepted p n s Check r own h = h
-as_own accepted p n s Present r own h = h
-as_own accepted p n s (Fork f) r own h = h
-as_own accepted p n s (Retire target) r own h = h
-as_own accepted p n s (Absorb retired) r own h = absurd own
+pub as_own : (accepted : List Report) (r : NumberedReport) (a : Action) (result : Result Verdict No) → IsNoAbsorb a → Tests (IsStampReply accepted r a) accepted result → Tests (IsWaitingReply accepted r a) accepted result
+as_own accepted r (Absorb retired) result own h = absurd own
+as_own accepted r _ result own h = h
 
 pub own_id : (accepted : List Report) (p : Name) (a : Action) → IsNoAbsorb a → expected_id accepted p a ≡ registered_id p accepted
-own_id accepted p Check own = refl
-own_id accepted p Present own = refl
-own_id accepted p (Fork f) own = refl
-own_id accepted p (Retire target) own = refl
 own_id accepted p (Absorb retired) own = absurd own
+own_id accepted p _ own = refl
 
 -- an id with the points of a sum is the sum
 pub is_the_sum : (l r i : IdTree) → IsNormal l → IsNormal r → IsNormal i → AreTogether l r i → i ≡ sum_of l r

@@ -30,7 +30,7 @@ IsRefusal accepted r refusal =
 -- the number is that of the process that reports; the root of a BEGIN has none yet
 abbrev pub IsNumberOf : List Report → Report → ℕ → Type 0
 IsNumberOf accepted (Begin p) i = ⊤
-IsNumberOf accepted (Numbered p n s a) i = name_of accepted i ≡ Some p
+IsNumberOf accepted (Numbered r) i = name_of accepted i ≡ Some r.process
 
 -- the report may be committed: it is to be accepted, and there is room
 pub record MayBeAccepted (k : Kept) (ready : ReadyReport) : Type 0 where

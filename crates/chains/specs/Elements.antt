@@ -7,7 +7,8 @@ use Rattle.id_tree.specs.IdTree.{One}
 use Rattle.event_tree.specs.EventTree.{Leaf}
 use Rattle.stamp.specs.declared.stamp.Stamp.{Stamp}
 use Rattle.report_line.specs.declared.report.Action.{Action}
-use Rattle.report_line.specs.declared.report.Action.TheVariants.{Check, Present, Fork, Retire, Absorb}
+use Rattle.report_line.specs.declared.report.Action.TheVariants.{Check, Present, Fork}
+use Rattle.report_line.specs.declared.report.NumberedReport.{NumberedReport}
 use Rattle.report_line.specs.declared.report.Report.{Report}
 use Rattle.report_line.specs.declared.report.Report.TheVariants.{Begin, Numbered}
 use Rattle.chains.specs.Processes.{Name, known, last_report}
@@ -16,33 +17,32 @@ use Rattle.chains.specs.Processes.{Name, known, last_report}
 abbrev pub only_if : {X : Type 0} → Bool → X → Option X
 only_if b x = if b then Some x else None
 
--- the lasting element of p that q's action under this stamp makes, if it makes one: a checkpoint its own stamp, a child's
--- birth its part of the id with the events of the fork
-abbrev pub lasting_by : Name → Name → Stamp → Action → Option Stamp
-lasting_by p q s Check = only_if (bytes_eq p q) s
-lasting_by p q s Present = None
-lasting_by p q s (Fork f) = only_if (bytes_eq p f.child) (record { id = f.given; events = s.events })
-lasting_by p q s (Retire target) = None
-lasting_by p q s (Absorb retired) = None
+-- the lasting element of p that a report makes by its action, which stands beside it, if it makes one: a checkpoint its own
+-- stamp, a child's birth its part of the id with the events of the fork
+abbrev pub lasting_by : Name → NumberedReport → Action → Option Stamp
+lasting_by p r Check = only_if (bytes_eq p r.process) r.stamp
+lasting_by p r (Fork f) = only_if (bytes_eq p f.child) (record { id = f.given; events = r.stamp.events })
+lasting_by p r _ = None
 
 -- the lasting element of p that a report makes, if it makes one: the root's birth has the stamp 1;0
 abbrev pub lasting_made : Name → Report → Option Stamp
 lasting_made p (Begin q) = only_if (bytes_eq p q) (record { id = One; events = Leaf 0 })
-lasting_made p (Numbered q n s a) = lasting_by p q s a
+lasting_made p (Numbered r) = lasting_by p r r.action
 
 -- the birth and the checkpoints of p, in order
 abbrev pub lasting_of : Name → List Report → List Stamp
 lasting_of p accepted = filter_map (lasting_made p) accepted
 
+-- the element of this stamp, if the action is a present state
+abbrev pub present_by : Stamp → Action → List Stamp
+present_by s Present = s ∷ []
+present_by s _ = []
+
 -- the element of a report that is a present state
 abbrev pub present_in : Option Report → List Stamp
 present_in None = []
 present_in (Some (Begin p)) = []
-present_in (Some (Numbered p n s Check)) = []
-present_in (Some (Numbered p n s Present)) = s ∷ []
-present_in (Some (Numbered p n s (Fork f))) = []
-present_in (Some (Numbered p n s (Retire target))) = []
-present_in (Some (Numbered p n s (Absorb retired))) = []
+present_in (Some (Numbered r)) = present_by r.stamp r.action
 
 -- The elements of the process of this name, in order: its birth, its checkpoints, and its present state, which stands
 -- until its next report. Each is seen as its id and events.

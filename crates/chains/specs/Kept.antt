@@ -13,4 +13,4 @@ pub record Kept : Type 0 where
 -- there is room for one more element of the process of this number, if the report has a number
 abbrev pub HasRoomFor : Kept → Report → ℕ → Type 0
 HasRoomFor k (Begin p) i = ⊤
-HasRoomFor k (Numbered p n s a) i = 0 < slice_index_or k.rooms i 0
+HasRoomFor k (Numbered r) i = 0 < slice_index_or k.rooms i 0

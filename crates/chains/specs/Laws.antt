@@ -1,9 +1,8 @@
 -- What holds of each list that admission reaches.
-use Rattle.std.specs.Prelude.{◌≡◌, ◌≢◌, ℕ, List, [], ◌∷◌, ◌++◌, false, IsTrue}
+use Rattle.std.specs.Prelude.{◌≡◌, ◌≢◌, List, [], ◌∷◌, ◌++◌, false, IsTrue}
 use Rattle.id_tree.specs.Points.{Point, owns, OwnsSome, AreDisjoint}
 use Rattle.event_tree.specs.Values.{IsAtOrBelow}
-use Rattle.stamp.specs.declared.stamp.Stamp.{Stamp}
-use Rattle.report_line.specs.declared.report.Action.{Action}
+use Rattle.report_line.specs.declared.report.NumberedReport.{NumberedReport}
 use Rattle.report_line.specs.declared.report.Report.{Report}
 use Rattle.report_line.specs.declared.report.Report.TheVariants.{Numbered}
 use Rattle.chains.specs.Processes.{Name, IsKnown, registered_id, expected_id, last_events, is_absorbed}
@@ -23,5 +22,5 @@ pub record ArePartsOfAll (accepted : List Report) : Type 0 where
 -- From one report of a process to its next the events never fall, and the stamp has the id that is expected.
 abbrev pub NeverFall : List Report → Type 0
 NeverFall accepted =
-    (before after : List Report) (p : Name) (n : ℕ) (s : Stamp) (a : Action) → accepted ≡ before ++ Numbered p n s a ∷ after
-    → IsAtOrBelow (last_events p before) s.events × (s.id ≡ expected_id before p a)
+    (before after : List Report) (r : NumberedReport) → accepted ≡ before ++ Numbered r ∷ after
+    → IsAtOrBelow (last_events r.process before) r.stamp.events × (r.stamp.id ≡ expected_id before r.process r.action)

@@ -5,7 +5,7 @@ use Rattle.std.specs.List.{position, list_any}
 use Rattle.std.specs.Cmp.Lexicographic.{pointwise}
 use Rattle.indexmap.specs.IndexSet.{insert_key}
 use Rattle.report_line.specs.declared.report.Action.{Action}
-use Rattle.report_line.specs.declared.report.Action.TheVariants.{Check, Present, Fork, Retire, Absorb}
+use Rattle.report_line.specs.declared.report.Action.TheVariants.{Check, Fork, Absorb}
 use Rattle.report_line.specs.declared.report.Report.{Report}
 use Rattle.report_line.specs.declared.report.Report.TheVariants.{Begin, Numbered}
 use Rattle.chains.specs.Processes.{Name, newborn}
@@ -35,10 +35,7 @@ changed_at change i kept = slice_set kept i (change (slice_index_or kept i (born
 
 abbrev pub is_check : Action → Bool
 is_check Check = true
-is_check Present = false
-is_check (Fork f) = false
-is_check (Retire target) = false
-is_check (Absorb retired) = false
+is_check _ = false
 
 -- the names with that of a process that is born
 abbrev pub names_with : List Name → Option Name → List Name
@@ -58,22 +55,20 @@ IsTakenBy names kept retired after = TakenAt names retired (position (pointwise 
 
 -- what is kept after an action, where the process itself was noted
 abbrev pub IsKeptByAction : List Name → List KeptProcess → Action → ℕ → List KeptProcess → Type 0
-IsKeptByAction names noted Check front after = after ≡ noted
-IsKeptByAction names noted Present front after = after ≡ noted
 IsKeptByAction names noted (Fork f) front after = after ≡ noted ++ born front ∷ []
-IsKeptByAction names noted (Retire target) front after = after ≡ noted
 IsKeptByAction names noted (Absorb retired) front after = IsTakenBy names noted retired after
+IsKeptByAction names noted _ front after = after ≡ noted
 
 -- what is kept after a report of the process at this place
 abbrev pub IsKeptBy : List KeptProcess → List Name → Report → ℕ → ℕ → List KeptProcess → Type 0
 IsKeptBy kept names (Begin p) place front after = after ≡ kept ++ born front ∷ []
-IsKeptBy kept names (Numbered p n s a) place front after = IsKeptByAction names (changed_at (noted front (is_check a)) place kept) a front after
+IsKeptBy kept names (Numbered r) place front after = IsKeptByAction names (changed_at (noted front (is_check r.action)) place kept) r.action front after
 
 -- a report with a number is of a known process, whose number was found
 abbrev pub IsFound : Report → Option ℕ → Type 0
 IsFound (Begin p) number = number ≡ None
-IsFound (Numbered p n s a) None = ⊥
-IsFound (Numbered p n s a) (Some i) = ⊤
+IsFound (Numbered r) None = ⊥
+IsFound (Numbered r) (Some i) = ⊤
 
 -- the number, if there is one, is below n
 abbrev pub IsPlaceWithin : Option ℕ → ℕ → Type 0

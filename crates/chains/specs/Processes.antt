@@ -10,7 +10,7 @@ use Rattle.id_tree.specs.Sum.{sum_of}
 use Rattle.event_tree.specs.EventTree.{EventTree, Leaf}
 use Rattle.stamp.specs.declared.stamp.Stamp.{Stamp}
 use Rattle.report_line.specs.declared.report.Action.{Action}
-use Rattle.report_line.specs.declared.report.Action.TheVariants.{Check, Present, Fork, Retire, Absorb}
+use Rattle.report_line.specs.declared.report.Action.TheVariants.{Fork, Retire, Absorb}
 use Rattle.report_line.specs.declared.report.Report.{Report}
 use Rattle.report_line.specs.declared.report.Report.TheVariants.{Begin, Numbered}
 
@@ -20,16 +20,13 @@ Name = List ℕ
 
 -- the child that the action makes, if it makes one
 abbrev pub child_of : Action → Option Name
-child_of Check = None
-child_of Present = None
 child_of (Fork f) = Some f.child
-child_of (Retire target) = None
-child_of (Absorb retired) = None
+child_of _ = None
 
 -- the process that is born by the report, if one is
 abbrev pub newborn : Report → Option Name
 newborn (Begin p) = Some p
-newborn (Numbered p n s a) = child_of a
+newborn (Numbered r) = child_of r.action
 
 -- the known processes, in order of birth: BEGIN's first
 abbrev pub known : List Report → List Name
@@ -43,7 +40,7 @@ IsKnown accepted p = Contains (known accepted) p
 -- whether it is a report of p with a number; BEGIN has none
 abbrev pub is_numbered_of : Name → Report → Bool
 is_numbered_of p (Begin q) = false
-is_numbered_of p (Numbered q n s a) = bytes_eq p q
+is_numbered_of p (Numbered r) = bytes_eq p r.process
 
 -- how many reports with a number are accepted of p
 abbrev pub reports_of : Name → List Report → ℕ
@@ -76,7 +73,7 @@ birth_report p accepted = last_passing (is_birth_of p) accepted
 abbrev pub events_after : Option Report → EventTree
 events_after None = Leaf 0
 events_after (Some (Begin p)) = Leaf 0
-events_after (Some (Numbered p n s a)) = s.events
+events_after (Some (Numbered r)) = r.stamp.events
 
 -- the events that a process has after its last report, or before that at its birth
 abbrev pub last_events : Name → List Report → EventTree
@@ -85,31 +82,25 @@ last_events p accepted = events_after (first_of (last_report p accepted) (birth_
 -- The id that a process has after its action under this stamp: a fork keeps one part, and else it is the stamp's. (The tests
 -- see to it that this is the one registered before, or for an absorb the sum.)
 abbrev pub id_kept : Stamp → Action → IdTree
-id_kept s Check = s.id
-id_kept s Present = s.id
 id_kept s (Fork f) = f.kept
-id_kept s (Retire target) = s.id
-id_kept s (Absorb retired) = s.id
+id_kept s _ = s.id
 
 -- the id that a child begins with
 abbrev pub id_given : Action → IdTree
-id_given Check = Zero
-id_given Present = Zero
 id_given (Fork f) = f.given
-id_given (Retire target) = Zero
-id_given (Absorb retired) = Zero
+id_given _ = Zero
 
 -- the id at birth: a root has everything
 abbrev pub id_at_birth : Option Report → IdTree
 id_at_birth None = Zero
 id_at_birth (Some (Begin p)) = One
-id_at_birth (Some (Numbered p n s a)) = id_given a
+id_at_birth (Some (Numbered r)) = id_given r.action
 
 -- the id after the last report, or before that at birth
 abbrev pub id_after : Option Report → Option Report → IdTree
 id_after None birth = id_at_birth birth
 id_after (Some (Begin p)) birth = One
-id_after (Some (Numbered p n s a)) birth = id_kept s a
+id_after (Some (Numbered r)) birth = id_kept r.stamp r.action
 
 -- the id that is registered of p; of a retired process, the one that goes to its target
 abbrev pub registered_id : Name → List Report → IdTree
@@ -117,28 +108,30 @@ registered_id p accepted = id_after (last_report p accepted) (birth_report p acc
 
 -- ---- retirements
 
+-- the target, if the action is a retirement
+abbrev pub target_in : Action → Option Name
+target_in (Retire target) = Some target
+target_in _ = None
+
 -- the target, if the report is a retirement
 abbrev pub target_after : Option Report → Option Name
 target_after None = None
 target_after (Some (Begin p)) = None
-target_after (Some (Numbered p n s Check)) = None
-target_after (Some (Numbered p n s Present)) = None
-target_after (Some (Numbered p n s (Fork f))) = None
-target_after (Some (Numbered p n s (Retire target))) = Some target
-target_after (Some (Numbered p n s (Absorb retired))) = None
+target_after (Some (Numbered r)) = target_in r.action
 
 -- the process into which p retired, if it did
 abbrev pub target_of : Name → List Report → Option Name
 target_of p accepted = target_after (last_report p accepted)
 
+-- whether the action absorbs the retirement of p
+abbrev pub absorbs : Name → Action → Bool
+absorbs p (Absorb retired) = bytes_eq p retired
+absorbs p _ = false
+
 -- whether the report absorbs the retirement of p
 abbrev pub is_absorb_of : Name → Report → Bool
 is_absorb_of p (Begin q) = false
-is_absorb_of p (Numbered q n s Check) = false
-is_absorb_of p (Numbered q n s Present) = false
-is_absorb_of p (Numbered q n s (Fork f)) = false
-is_absorb_of p (Numbered q n s (Retire target)) = false
-is_absorb_of p (Numbered q n s (Absorb retired)) = bytes_eq p retired
+is_absorb_of p (Numbered r) = absorbs p r.action
 
 abbrev pub is_absorbed : Name → List Report → Bool
 is_absorbed p accepted = list_any (is_absorb_of p) accepted
@@ -149,8 +142,5 @@ Waits accepted r q = (target_of r accepted ≡ Some q) × (is_absorbed r accepte
 
 -- the id that the stamp of a report has to have: the registered one, for an absorb with that of the retirement
 abbrev pub expected_id : List Report → Name → Action → IdTree
-expected_id accepted p Check = registered_id p accepted
-expected_id accepted p Present = registered_id p accepted
-expected_id accepted p (Fork f) = registered_id p accepted
-expected_id accepted p (Retire target) = registered_id p accepted
 expected_id accepted p (Absorb retired) = sum_of (registered_id p accepted) (registered_id retired accepted)
+expected_id accepted p _ = registered_id p accepted

@@ -12,7 +12,7 @@ element_room k = vec_capacity k.lasting - vec_len k.lasting
 -- whether the report is a BEGIN
 abbrev pub is_begin : Report → Bool
 is_begin (Begin p) = true
-is_begin (Numbered p n s a) = false
+is_begin (Numbered r) = false
 
 -- one more report may be noted of the process at this place
 pub record HasNoteRoom (processes : List Process) (i : ℕ) : Type 0 where

@@ -4,7 +4,7 @@ use Rattle.std.specs.Fmt.{decimal}
 use Rattle.report_line.specs.declared.code.Code.{Code}
 use Rattle.report_line.specs.declared.code.Code.TheVariants.{Full, OutOfMemory}
 use Rattle.report_line.specs.declared.report.Action.{Action}
-use Rattle.report_line.specs.declared.report.Action.TheVariants.{Check, Present, Fork, Retire, Absorb}
+use Rattle.report_line.specs.declared.report.Action.TheVariants.{Absorb}
 use Rattle.report_line.specs.declared.report.Report.{Report}
 use Rattle.report_line.specs.declared.report.Report.TheVariants.{Begin, Numbered}
 use Rattle.chains.specs.declared.refusal.No.{No}
@@ -19,14 +19,11 @@ IsPlaceOf accepted p (Some i) = name_of accepted i ≡ Some p
 -- the number of the process that reports; a root that begins has none yet
 abbrev pub IsNumberIn : List Report → Report → Option ℕ → Type 0
 IsNumberIn accepted (Begin p) number = number ≡ None
-IsNumberIn accepted (Numbered p n s a) number = IsPlaceOf accepted p number
+IsNumberIn accepted (Numbered r) number = IsPlaceOf accepted r.process number
 
 abbrev pub IsNoAbsorb : Action → Type 0
-IsNoAbsorb Check = ⊤
-IsNoAbsorb Present = ⊤
-IsNoAbsorb (Fork f) = ⊤
-IsNoAbsorb (Retire target) = ⊤
 IsNoAbsorb (Absorb retired) = ⊥
+IsNoAbsorb _ = ⊤
 
 abbrev pub no_memory : No
 no_memory = record { code = OutOfMemory; name = None; value = None }

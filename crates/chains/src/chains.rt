@@ -534,9 +534,9 @@ fn keep(
 {
     match report.view() {
         ReportView::Begin { process } => add(names, processes, process.copy(), front, lasting),
-        ReportView::Numbered { action, .. } => {
-            note(processes, place, front, is_check(action));
-            match action {
+        ReportView::Numbered(fields) => {
+            note(processes, place, front, is_check(fields.action));
+            match fields.action {
                 ActionView::Fork(forked) => add(
                     names,
                     processes,
@@ -627,11 +627,11 @@ fn target_in(report: &PackedReport) -> Option<&Name>
     ensures { option_copied result ≡ target_after (Some report.now) }
 {
     match report.view() {
-        ReportView::Numbered {
-            action: ActionView::Retire { target },
-            ..
-        } => Some(target),
-        _ => None,
+        ReportView::Begin { .. } => None,
+        ReportView::Numbered(fields) => match fields.action {
+            ActionView::Retire { target } => Some(target),
+            _ => None,
+        },
     }
 }
 
@@ -642,11 +642,11 @@ fn present_count(last: Option<&PackedReport>) -> u32
     match last {
         None => 0,
         Some(last) => match last.view() {
-            ReportView::Numbered {
-                action: ActionView::Present,
-                ..
-            } => 1,
-            _ => 0,
+            ReportView::Begin { .. } => 0,
+            ReportView::Numbered(fields) => match fields.action {
+                ActionView::Present => 1,
+                _ => 0,
+            },
         },
     }
 }
@@ -661,14 +661,14 @@ fn element_made<'a>(report: &'a PackedReport, first: &'a Stamp) -> Element<'a>
             id: &first.id,
             events: &first.events,
         },
-        ReportView::Numbered { stamp, action, .. } => match action {
+        ReportView::Numbered(fields) => match fields.action {
             ActionView::Fork(forked) => Element {
                 id: &forked.given,
-                events: &stamp.events,
+                events: &fields.stamp.events,
             },
             _ => Element {
-                id: &stamp.id,
-                events: &stamp.events,
+                id: &fields.stamp.id,
+                events: &fields.stamp.events,
             },
         },
     }
@@ -681,15 +681,14 @@ fn element_present<'a>(last: Option<&'a PackedReport>) -> Option<Element<'a>>
     match last {
         None => None,
         Some(last) => match last.view() {
-            ReportView::Numbered {
-                stamp,
-                action: ActionView::Present,
-                ..
-            } => Some(Element {
-                id: &stamp.id,
-                events: &stamp.events,
-            }),
-            _ => None,
+            ReportView::Begin { .. } => None,
+            ReportView::Numbered(fields) => match fields.action {
+                ActionView::Present => Some(Element {
+                    id: &fields.stamp.id,
+                    events: &fields.stamp.events,
+                }),
+                _ => None,
+            },
         },
     }
 }
@@ -701,12 +700,9 @@ fn id_kept<'a>(report: &'a PackedReport, first: &'a Id) -> &'a Id
 {
     match report.view() {
         ReportView::Begin { .. } => first,
-        ReportView::Numbered { stamp, action, .. } => match action {
+        ReportView::Numbered(fields) => match fields.action {
             ActionView::Fork(forked) => &forked.kept,
-            ActionView::Check => &stamp.id,
-            ActionView::Present => &stamp.id,
-            ActionView::Retire { .. } => &stamp.id,
-            ActionView::Absorb { .. } => &stamp.id,
+            _ => &fields.stamp.id,
         },
     }
 }
@@ -719,7 +715,7 @@ fn id_at_birth<'a>(report: &'a PackedReport, first: &'a Id) -> &'a Id
 {
     match report.view() {
         ReportView::Begin { .. } => first,
-        ReportView::Numbered { action, .. } => match action {
+        ReportView::Numbered(fields) => match fields.action {
             ActionView::Fork(forked) => &forked.given,
             _ => first,
         },
@@ -733,6 +729,6 @@ fn events_after<'a>(report: &'a PackedReport, first: &'a Events) -> &'a Events
 {
     match report.view() {
         ReportView::Begin { .. } => first,
-        ReportView::Numbered { stamp, .. } => &stamp.events,
+        ReportView::Numbered(fields) => &fields.stamp.events,
     }
 }

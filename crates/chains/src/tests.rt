@@ -7,7 +7,7 @@ ghost use Rattle.id_tree.specs.Points.{AreDisjoint};
 ghost use Rattle.id_tree.specs.Split.{IsSplit};
 ghost use Rattle.id_tree.specs.Sum.{sum_of};
 ghost use Rattle.report_line.specs.declared.report.Report.TheVariants as reports;
-ghost use Rattle.report_line.specs.View.{action_of};
+ghost use Rattle.report_line.specs.View.{action_of, numbered_of};
 ghost use Rattle.report_line.specs.declared.report.Action.TheVariants as actions;
 ghost use Rattle.chains.specs.Processes.{Name as AnyName, known, newborn, IsKnown, last_report, last_events, registered_id, target_of, Waits};
 ghost use Rattle.chains.specs.Elements.{name_of};
@@ -18,7 +18,7 @@ ghost use Rattle.chains.specs.Testing.{IsNumberIn, IsNoAbsorb, RefusesWith, IsFu
 use crate::chains::Chains;
 use crate::refusal::{No, Refusal};
 use id_tree::{Id, SumFault};
-use report_line::{ActionView, Code, Forked, Name, PackedReport, ReportView, Text};
+use report_line::{ActionView, Code, Forked, Name, NumberedView, PackedReport, ReportView, Text};
 use stamp::Stamp;
 use std::alloc::{AllocError, Global};
 
@@ -125,7 +125,7 @@ impl Chains {
     {
         match report.view() {
             ReportView::Begin { .. } => None,
-            ReportView::Numbered { process, .. } => self.number_of(process),
+            ReportView::Numbered(fields) => self.number_of(fields.process),
         }
     }
 
@@ -152,12 +152,7 @@ impl Chains {
     {
         match report.view() {
             ReportView::Begin { process } => self.test_begin(report, process),
-            ReportView::Numbered {
-                process,
-                number: n,
-                stamp,
-                action,
-            } => {
+            ReportView::Numbered(fields) => {
                 if self.front() == 0 {
                     return Err(Refusal {
                         code: Code::NothingBegun,
@@ -166,8 +161,8 @@ impl Chains {
                     });
                 }
                 match number {
-                    None => Err(refusal(Code::UnknownProcess, process)),
-                    Some(place) => self.test_numbered(place, report, process, n, stamp, action),
+                    None => Err(refusal(Code::UnknownProcess, fields.process)),
+                    Some(place) => self.test_numbered(place, report, fields),
                 }
             }
         }
@@ -199,21 +194,22 @@ impl Chains {
         &'a self,
         place: u32,
         report: &PackedReport,
-        name: &'a Name,
-        number: u32,
-        stamp: &Stamp,
-        action: ActionView<'a>,
+        fields: NumberedView<'a>,
     ) -> Result<Verdict, Refusal<'a>>
-        requires place { name_of self.now.accepted place ≡ Some name.now }
-        requires fields { report.now ≡ reports.Numbered name.now number stamp.now (action_of action) }
-        ensures { Tests (IsNumberedReply self.now.accepted name.now number stamp.now (action_of action.entry)) self.now.accepted result }
+        requires place { name_of self.now.accepted place ≡ Some fields.process.now }
+        requires fields { report.now ≡ reports.Numbered (numbered_of fields) }
+        ensures { Tests (IsNumberedReply self.now.accepted (numbered_of fields.entry)) self.now.accepted result }
     {
         if self.is_last(place, report) {
             return Ok(Verdict::Old);
         }
         match self.target_of(place) {
-            Some(target) => Err(refusal_with(Code::Ended, name, name_text(self.alloc(), target))),
-            None => self.test_number(place, report, name, number, stamp, action),
+            Some(target) => Err(refusal_with(
+                Code::Ended,
+                fields.process,
+                name_text(self.alloc(), target),
+            )),
+            None => self.test_number(place, report, fields),
         }
     }
 
@@ -234,28 +230,27 @@ impl Chains {
         &'a self,
         place: u32,
         report: &PackedReport,
-        name: &'a Name,
-        number: u32,
-        stamp: &Stamp,
-        action: ActionView<'a>,
+        fields: NumberedView<'a>,
     ) -> Result<Verdict, Refusal<'a>>
-        requires place { name_of self.now.accepted place ≡ Some name.now }
-        requires fields { report.now ≡ reports.Numbered name.now number stamp.now (action_of action) }
-        requires lives { target_of name.now self.now.accepted ≡ None }
-        ensures { Tests (IsStandingReply None self.now.accepted name.now number stamp.now (action_of action.entry)) self.now.accepted result }
+        requires place { name_of self.now.accepted place ≡ Some fields.process.now }
+        requires fields { report.now ≡ reports.Numbered (numbered_of fields) }
+        requires lives { target_of fields.process.now self.now.accepted ≡ None }
+        ensures { Tests (IsStandingReply None self.now.accepted (numbered_of fields.entry)) self.now.accepted result }
     {
         self.lawful();
         let next = self.reports_of(place) + 1;
-        if number != next {
-            return Err(refusal_with(Code::WrongNumber, name, number_text(self.alloc(), next)));
+        if fields.number != next {
+            return Err(refusal_with(
+                Code::WrongNumber,
+                fields.process,
+                number_text(self.alloc(), next),
+            ));
         }
-        match retired_in(action) {
-            None => self.test_own(place, report, name, number, stamp, action),
-            Some(retired) => match self.waiting(retired, name) {
+        match retired_in(fields.action) {
+            None => self.test_own(place, report, fields),
+            Some(retired) => match self.waiting(retired, fields.process) {
                 None => Err(refusal(Code::NotWaiting, retired)),
-                Some(partner) => {
-                    self.test_absorb(place, partner, report, name, number, stamp, retired)
-                }
+                Some(partner) => self.test_absorb(place, partner, report, fields, retired),
             },
         }
     }
@@ -293,46 +288,42 @@ impl Chains {
         &'a self,
         place: u32,
         report: &PackedReport,
-        name: &'a Name,
-        number: u32,
-        stamp: &Stamp,
-        action: ActionView<'a>,
+        fields: NumberedView<'a>,
     ) -> Result<Verdict, Refusal<'a>>
-        requires place { name_of self.now.accepted place ≡ Some name.now }
-        requires fields { report.now ≡ reports.Numbered name.now number stamp.now (action_of action) }
-        requires own { IsNoAbsorb (action_of action) }
-        ensures { Tests (IsStampReply self.now.accepted name.now number stamp.now (action_of action.entry)) self.now.accepted result }
+        requires place { name_of self.now.accepted place ≡ Some fields.process.now }
+        requires fields { report.now ≡ reports.Numbered (numbered_of fields) }
+        requires own { IsNoAbsorb (action_of fields.action) }
+        ensures { Tests (IsStampReply self.now.accepted (numbered_of fields.entry) (action_of fields.entry.action)) self.now.accepted result }
     {
         let registered = self.registered_id(place);
-        if !stamp.id.equal(registered) {
-            return Err(refusal_with(Code::WrongId, name, id_text(self.alloc(), registered)));
+        if !fields.stamp.id.equal(registered) {
+            return Err(refusal_with(
+                Code::WrongId,
+                fields.process,
+                id_text(self.alloc(), registered),
+            ));
         }
-        if !self.is_grown(place, registered, stamp) {
-            return Err(refusal(Code::NotGrown, name));
+        if !self.is_grown(place, registered, fields.stamp) {
+            return Err(refusal(Code::NotGrown, fields.process));
         }
-        self.test_action(report, name, number, stamp, registered, action)
+        self.test_action(report, fields, registered)
     }
 
     /// The tests of an action that is no absorb, behind those of its stamp.
     fn test_action<'a>(
         &'a self,
         report: &PackedReport,
-        name: &'a Name,
-        number: u32,
-        stamp: &Stamp,
+        fields: NumberedView<'a>,
         registered: &Id,
-        action: ActionView<'a>,
     ) -> Result<Verdict, Refusal<'a>>
-        requires registered { registered.now ≡ registered_id name.now self.now.accepted }
-        requires fields { report.now ≡ reports.Numbered name.now number stamp.now (action_of action) }
-        requires own { IsNoAbsorb (action_of action) }
-        ensures { Tests (IsActionReply self.now.accepted name.now number stamp.now (action_of action.entry)) self.now.accepted result }
+        requires registered { registered.now ≡ registered_id fields.process.now self.now.accepted }
+        requires fields { report.now ≡ reports.Numbered (numbered_of fields) }
+        requires own { IsNoAbsorb (action_of fields.action) }
+        ensures { Tests (IsActionReply self.now.accepted (numbered_of fields.entry) (action_of fields.entry.action)) self.now.accepted result }
     {
-        match action {
-            ActionView::Fork(forked) => {
-                self.test_fork(report, name, number, stamp, registered, forked)
-            }
-            ActionView::Retire { target } => self.test_retire(report, name, number, stamp, target),
+        match fields.action {
+            ActionView::Fork(forked) => self.test_fork(report, fields, registered, forked),
+            ActionView::Retire { target } => self.test_retire(report, fields, target),
             ActionView::Check => self.test_room(report),
             ActionView::Present => self.test_room(report),
             ActionView::Absorb { .. } => unreachable!(),
@@ -343,22 +334,24 @@ impl Chains {
     fn test_fork<'a>(
         &'a self,
         report: &PackedReport,
-        name: &'a Name,
-        number: u32,
-        stamp: &Stamp,
+        fields: NumberedView<'a>,
         registered: &Id,
         forked: &'a Forked,
     ) -> Result<Verdict, Refusal<'a>>
-        requires registered { registered.now ≡ registered_id name.now self.now.accepted }
-        requires fields { report.now ≡ reports.Numbered name.now number stamp.now (actions.Fork forked.now) }
-        ensures { Tests (IsActionReply self.now.accepted name.now number stamp.now (actions.Fork forked.now)) self.now.accepted result }
+        requires registered { registered.now ≡ registered_id fields.process.now self.now.accepted }
+        requires fields { report.now ≡ reports.Numbered (numbered_of fields) }
+        ensures { Tests (IsActionReply self.now.accepted (numbered_of fields.entry) (actions.Fork forked.now)) self.now.accepted result }
     {
         match self.number_of(&forked.child) {
             Some(_) => return Err(refusal(Code::NameTaken, &forked.child)),
             None => {}
         }
         if !is_split(registered, &forked.kept, &forked.given) {
-            return Err(refusal_with(Code::WrongParts, name, id_text(self.alloc(), registered)));
+            return Err(refusal_with(
+                Code::WrongParts,
+                fields.process,
+                id_text(self.alloc(), registered),
+            ));
         }
         self.test_room(report)
     }
@@ -367,15 +360,13 @@ impl Chains {
     fn test_retire<'a>(
         &'a self,
         report: &PackedReport,
-        name: &'a Name,
-        number: u32,
-        stamp: &Stamp,
+        fields: NumberedView<'a>,
         target: &'a Name,
     ) -> Result<Verdict, Refusal<'a>>
-        requires { report.now ≡ reports.Numbered name.now number stamp.now (actions.Retire target.now) }
-        ensures { Tests (IsActionReply self.now.accepted name.now number stamp.now (actions.Retire target.now)) self.now.accepted result }
+        requires { report.now ≡ reports.Numbered (numbered_of fields) }
+        ensures { Tests (IsActionReply self.now.accepted (numbered_of fields.entry) (actions.Retire target.now)) self.now.accepted result }
     {
-        if target.as_bytes() == name.as_bytes() {
+        if target.as_bytes() == fields.process.as_bytes() {
             return Err(refusal(Code::WrongTarget, target));
         }
         match self.number_of(target) {
@@ -390,31 +381,29 @@ impl Chains {
         place: u32,
         partner: u32,
         report: &PackedReport,
-        name: &'a Name,
-        number: u32,
-        stamp: &Stamp,
+        fields: NumberedView<'a>,
         retired: &'a Name,
     ) -> Result<Verdict, Refusal<'a>>
-        requires place { name_of self.now.accepted place ≡ Some name.now }
+        requires place { name_of self.now.accepted place ≡ Some fields.process.now }
         requires partner { name_of self.now.accepted partner ≡ Some retired.now }
-        requires waits { Waits self.now.accepted retired.now name.now }
-        requires apart { AreDisjoint (registered_id name.now self.now.accepted) (registered_id retired.now self.now.accepted) }
-        requires fields { report.now ≡ reports.Numbered name.now number stamp.now (actions.Absorb retired.now) }
-        ensures { Tests (IsStampReply self.now.accepted name.now number stamp.now (actions.Absorb retired.now)) self.now.accepted result }
+        requires waits { Waits self.now.accepted retired.now fields.process.now }
+        requires apart { AreDisjoint (registered_id fields.process.now self.now.accepted) (registered_id retired.now self.now.accepted) }
+        requires fields { report.now ≡ reports.Numbered (numbered_of fields) }
+        ensures { Tests (IsStampReply self.now.accepted (numbered_of fields.entry) (actions.Absorb retired.now)) self.now.accepted result }
     {
         let registered = self.registered_id(place);
         let other = self.registered_id(partner);
-        if !stamp.id.is_sum_of(registered, other) {
+        if !fields.stamp.id.is_sum_of(registered, other) {
             return Err(refusal_with(
                 Code::WrongId,
-                name,
+                fields.process,
                 sum_text(self.alloc(), registered, other),
             ));
         }
-        if !self.is_grown(place, registered, stamp) {
-            return Err(refusal(Code::NotGrown, name));
+        if !self.is_grown(place, registered, fields.stamp) {
+            return Err(refusal(Code::NotGrown, fields.process));
         }
-        if !self.last_events(partner).leq(&stamp.events) {
+        if !self.last_events(partner).leq(&fields.stamp.events) {
             return Err(refusal(Code::NotJoined, retired));
         }
         self.test_room(report)
@@ -464,11 +453,10 @@ pub(crate) fn is_birth(report: &PackedReport) -> bool
 {
     match report.view() {
         ReportView::Begin { .. } => true,
-        ReportView::Numbered {
-            action: ActionView::Fork(_),
-            ..
-        } => true,
-        _ => false,
+        ReportView::Numbered(fields) => match fields.action {
+            ActionView::Fork(_) => true,
+            _ => false,
+        },
     }
 }
 

@@ -12,14 +12,15 @@ use Rattle.event_tree.specs.EventTree.{EventTree, Leaf}
 use Rattle.event_tree.specs.Values.{value_at, IsAtOrBelow}
 use Rattle.stamp.specs.declared.stamp.Stamp.{Stamp}
 use Rattle.report_line.specs.declared.report.Action.{Action}
-use Rattle.report_line.specs.declared.report.Action.TheVariants.{Check, Present, Fork, Retire, Absorb}
+use Rattle.report_line.specs.declared.report.Action.TheVariants.{Check, Present, Fork}
+use Rattle.report_line.specs.declared.report.NumberedReport.{NumberedReport}
 use Rattle.report_line.specs.declared.report.Report.{Report}
 use Rattle.report_line.specs.declared.report.Report.TheVariants.{Begin, Numbered}
 use Rattle.chains.specs.Processes.{Name, IsKnown, first_of, last_passing, is_birth_of, last_report, birth_report, events_after, last_events}
-use Rattle.chains.specs.Elements.{only_if, lasting_made, lasting_of, present_in, elements_of}
+use Rattle.chains.specs.Elements.{only_if, lasting_made, lasting_by, lasting_of, present_in, present_by, elements_of}
 use Rattle.chains.specs.Admission.{IsReachable, nothing_accepted, one_more}
 use Rattle.chains.proofs.Passed.{Passed, passed_tests, begins}
-use Rattle.chains.proofs.Stepping.{same_or_other, other_bytes, own_report, other_report, failing, passing}
+use Rattle.chains.proofs.Stepping.{same_or_other, other_bytes, own_report, other_report, failing, passing, doing}
 use Rattle.chains.proofs.Distinct.{unknown_child}
 use Rattle.chains.proofs.Reaching.{unbegun, well_made}
 use Rattle.chains.proofs.InOrder.{unknown_none}
@@ -83,12 +84,10 @@ only_events : (b : Bool) (s : Stamp) (e : EventTree) → s.events ≡ e → HasE
 only_events true s e same = same
 only_events false s e same = tt
 
-made_events : (p q : Name) (n : ℕ) (s : Stamp) (a : Action) → HasEvents (lasting_made p (Numbered q n s a)) s.events
-made_events p q n s Check = only_events (bytes_eq p q) s s.events refl
-made_events p q n s Present = tt
-made_events p q n s (Fork f) = only_events (bytes_eq p f.child) (record { id = f.given; events = s.events }) s.events refl
-made_events p q n s (Retire target) = tt
-made_events p q n s (Absorb retired) = tt
+made_events : (p : Name) (r : NumberedReport) (a : Action) → HasEvents (lasting_by p r a) r.stamp.events
+made_events p r Check = only_events (bytes_eq p r.process) r.stamp r.stamp.events refl
+made_events p r (Fork f) = only_events (bytes_eq p f.child) (record { id = f.given; events = r.stamp.events }) r.stamp.events refl
+made_events p r _ = tt
 
 rise_with : (low : EventTree) (ss : List Stamp) (o : Option Stamp) (top higher : EventTree) → Rise low ss top → IsAtOrBelow top higher → HasEvents o higher → Rise low (ss ++ cons_option o []) higher
 rise_with low ss None top higher h le same = subst (λ (l : List Stamp). Rise low l higher) (sym (append-nil ss)) (rise_to low ss top higher h le)
@@ -109,21 +108,19 @@ risen_with p accepted r higher h le same last =
     (rise_with (Leaf 0) (lasting_of p accepted) (lasting_made p r) (last_events p accepted) higher h le same))
 
 -- the report of the process itself
-own_last : (p : Name) (accepted : List Report) (n : ℕ) (s : Stamp) (a : Action) → last_events p (accepted ++ Numbered p n s a ∷ []) ≡ s.events
-own_last p accepted n s a = ap (λ (o : Option Report). events_after (first_of o (birth_report p (accepted ++ Numbered p n s a ∷ [])))) (own_report accepted p n s a)
+own_last : (accepted : List Report) (r : NumberedReport) → last_events r.process (accepted ++ Numbered r ∷ []) ≡ r.stamp.events
+own_last accepted r = ap (λ (o : Option Report). events_after (first_of o (birth_report r.process (accepted ++ Numbered r ∷ [])))) (own_report accepted r)
 
 -- the report of another one, of which the process is not born
-other_last : (p q : Name) (accepted : List Report) (n : ℕ) (s : Stamp) (a : Action) → p ≢ q → is_birth_of p (Numbered q n s a) ≡ false → last_events p (accepted ++ Numbered q n s a ∷ []) ≡ last_events p accepted
-other_last p q accepted n s a other unborn =
-    ap (λ (o : Option Report). events_after (first_of o (birth_report p (accepted ++ Numbered q n s a ∷ [])))) (other_report accepted q p n s a other)
-    ∙ ap (λ (o : Option Report). events_after (first_of (last_report p accepted) o)) (failing (is_birth_of p) accepted (Numbered q n s a) unborn)
+other_last : (p : Name) (accepted : List Report) (r : NumberedReport) → p ≢ r.process → is_birth_of p (Numbered r) ≡ false → last_events p (accepted ++ Numbered r ∷ []) ≡ last_events p accepted
+other_last p accepted r other unborn =
+    ap (λ (o : Option Report). events_after (first_of o (birth_report p (accepted ++ Numbered r ∷ [])))) (other_report accepted p r other)
+    ∙ ap (λ (o : Option Report). events_after (first_of (last_report p accepted) o)) (failing (is_birth_of p) accepted (Numbered r) unborn)
 
-other_made : (p q : Name) (n : ℕ) (s : Stamp) (a : Action) → p ≢ q → is_birth_of p (Numbered q n s a) ≡ false → lasting_made p (Numbered q n s a) ≡ None
-other_made p q n s Check other unborn = ap (λ (b : Bool). only_if b s) (other_bytes p q other)
-other_made p q n s Present other unborn = refl
-other_made p q n s (Fork f) other unborn = ap (λ (b : Bool). only_if b (record { id = f.given; events = s.events })) unborn
-other_made p q n s (Retire target) other unborn = refl
-other_made p q n s (Absorb retired) other unborn = refl
+other_made : (p : Name) (r : NumberedReport) (a : Action) → p ≢ r.process → is_birth_of p (Numbered (doing r a)) ≡ false → lasting_by p r a ≡ None
+other_made p r Check other unborn = ap (λ (b : Bool). only_if b r.stamp) (other_bytes p r.process other)
+other_made p r (Fork f) other unborn = ap (λ (b : Bool). only_if b (record { id = f.given; events = r.stamp.events })) unborn
+other_made p r _ other unborn = refl
 
 -- ---- who is not known has no events
 
@@ -140,32 +137,29 @@ no_events p accepted reach unknown =
     ∙ ap (λ (o : Option Report). events_after o) (none_pass (is_birth_of p) accepted (unknown_none accepted p reach unknown).0)
 
 -- a child begins with the events of the fork
-born_last : (p q : Name) (accepted : List Report) (n : ℕ) (s : Stamp) (a : Action) → p ≢ q → last_report p accepted ≡ None → is_birth_of p (Numbered q n s a) ≡ true → last_events p (accepted ++ Numbered q n s a ∷ []) ≡ s.events
-born_last p q accepted n s a other none born =
-    ap (λ (o : Option Report). events_after (first_of o (birth_report p (accepted ++ Numbered q n s a ∷ [])))) (other_report accepted q p n s a other ∙ none)
-    ∙ ap (λ (o : Option Report). events_after o) (passing (is_birth_of p) accepted (Numbered q n s a) born)
+born_last : (p : Name) (accepted : List Report) (r : NumberedReport) → p ≢ r.process → last_report p accepted ≡ None → is_birth_of p (Numbered r) ≡ true → last_events p (accepted ++ Numbered r ∷ []) ≡ r.stamp.events
+born_last p accepted r other none born =
+    ap (λ (o : Option Report). events_after (first_of o (birth_report p (accepted ++ Numbered r ∷ [])))) (other_report accepted p r other ∙ none)
+    ∙ ap (λ (o : Option Report). events_after o) (passing (is_birth_of p) accepted (Numbered r) born)
 
-born_of : (p q : Name) (n : ℕ) (s : Stamp) (a : Action) (accepted : List Report) → Passed accepted q s a → is_birth_of p (Numbered q n s a) ≡ true → ¬ IsKnown accepted p
-born_of p q n s Check accepted passed e = absurd (true≢false (sym e))
-born_of p q n s Present accepted passed e = absurd (true≢false (sym e))
-born_of p q n s (Fork f) accepted passed e = unknown_child accepted q (Fork f) passed.fit p (ap (λ (m : Name). Some m) (sym ((bytes_eq-Decides p f.child).0 e)))
-born_of p q n s (Retire target) accepted passed e = absurd (true≢false (sym e))
-born_of p q n s (Absorb retired) accepted passed e = absurd (true≢false (sym e))
+born_of : (p : Name) (r : NumberedReport) (a : Action) (accepted : List Report) → Passed accepted (doing r a) → is_birth_of p (Numbered (doing r a)) ≡ true → ¬ IsKnown accepted p
+born_of p r (Fork f) accepted passed e = unknown_child accepted r.process (Fork f) passed.fit p (ap (λ (m : Name). Some m) (sym ((bytes_eq-Decides p f.child).0 e)))
+born_of p r _ accepted passed e = absurd (true≢false (sym e))
 
 -- ---- each list that is reached
 
-risen_own : (p : Name) (accepted : List Report) (n : ℕ) (s : Stamp) (a : Action) → HasRisen p accepted → Passed accepted p s a → HasRisen p (accepted ++ Numbered p n s a ∷ [])
-risen_own p accepted n s a h passed = risen_with p accepted (Numbered p n s a) s.events h passed.above (made_events p p n s a) (own_last p accepted n s a)
+risen_own : (accepted : List Report) (r : NumberedReport) → HasRisen r.process accepted → Passed accepted r → HasRisen r.process (accepted ++ Numbered r ∷ [])
+risen_own accepted r h passed = risen_with r.process accepted (Numbered r) r.stamp.events h passed.above (made_events r.process r r.action) (own_last accepted r)
 
-risen_other : (p q : Name) (accepted : List Report) (n : ℕ) (s : Stamp) (a : Action) → IsReachable accepted → HasRisen p accepted → Passed accepted q s a → p ≢ q → HasRisen p (accepted ++ Numbered q n s a ∷ [])
-risen_other p q accepted n s a reach h passed other = elim (cases_Bool (is_birth_of p (Numbered q n s a))) [
+risen_other : (p : Name) (accepted : List Report) (r : NumberedReport) → IsReachable accepted → HasRisen p accepted → Passed accepted r → p ≢ r.process → HasRisen p (accepted ++ Numbered r ∷ [])
+risen_other p accepted r reach h passed other = elim (cases_Bool (is_birth_of p (Numbered r))) [
   | inl born ↦
-      let unknown = born_of p q n s a accepted passed born in
-      let low : IsAtOrBelow (last_events p accepted) s.events = subst (λ (e : EventTree). IsAtOrBelow e s.events) (sym (no_events p accepted reach unknown)) (nothing_below s.events) in
-      risen_with p accepted (Numbered q n s a) s.events h low (made_events p q n s a) (born_last p q accepted n s a other (unreported p accepted reach unknown) born)
+      let unknown = born_of p r r.action accepted passed born in
+      let low : IsAtOrBelow (last_events p accepted) r.stamp.events = subst (λ (e : EventTree). IsAtOrBelow e r.stamp.events) (sym (no_events p accepted reach unknown)) (nothing_below r.stamp.events) in
+      risen_with p accepted (Numbered r) r.stamp.events h low (made_events p r r.action) (born_last p accepted r other (unreported p accepted reach unknown) born)
   | inr unborn ↦
-      risen_with p accepted (Numbered q n s a) (last_events p accepted) h (below_same (last_events p accepted) (last_events p accepted) refl)
-      (subst (λ (o : Option Stamp). HasEvents o (last_events p accepted)) (sym (other_made p q n s a other unborn)) tt) (other_last p q accepted n s a other unborn)
+      risen_with p accepted (Numbered r) (last_events p accepted) h (below_same (last_events p accepted) (last_events p accepted) refl)
+      (subst (λ (o : Option Stamp). HasEvents o (last_events p accepted)) (sym (other_made p r r.action other unborn)) tt) (other_last p accepted r other unborn)
 ]
 
 root_last : (p q : Name) → last_events p (Begin q ∷ []) ≡ Leaf 0
@@ -179,23 +173,23 @@ pub risen : (p : Name) (accepted : List Report) → IsReachable accepted → Has
 risen p _ nothing_accepted = nothing_below (Leaf 0)
 risen p _ (one_more before (Begin q) reach admitted) =
     subst (λ (xs : List Report). HasRisen p (xs ++ Begin q ∷ [])) (sym (unbegun before reach (begins _ before q (length before + 1) admitted))) (root_risen p q)
-risen p _ (one_more before (Numbered q n s a) reach admitted) =
-    let passed = passed_tests before q n s a (length before + 1) admitted in
-    elim (same_or_other p q) [
-      | inl e ↦ subst (λ (m : Name). HasRisen p (before ++ Numbered m n s a ∷ [])) e (risen_own p before n s a (risen p before reach) (subst (λ (m : Name). Passed before m s a) (sym e) passed))
-      | inr other ↦ risen_other p q before n s a reach (risen p before reach) passed other
+risen p _ (one_more before (Numbered r) reach admitted) =
+    let passed = passed_tests before r (length before + 1) admitted in
+    elim (same_or_other p r.process) [
+      | inl e ↦ subst (λ (m : Name). HasRisen m (before ++ Numbered r ∷ [])) (sym e) (risen_own before r (risen r.process before reach) passed)
+      | inr other ↦ risen_other p before r reach (risen p before reach) passed other
     ]
 
 -- ---- with the present state
 
+with_present_by : (low : EventTree) (ss : List Stamp) (s : Stamp) (a : Action) → Rise low ss s.events → Rise low (ss ++ present_by s a) s.events
+with_present_by low ss s Present h = rise_more low ss s.events s h (below_same s.events s.events refl)
+with_present_by low ss s _ h = subst (λ (l : List Stamp). Rise low l s.events) (sym (append-nil ss)) h
+
 with_present : (low : EventTree) (ss : List Stamp) (o birth : Option Report) → Rise low ss (events_after (first_of o birth)) → Rise low (ss ++ present_in o) (events_after (first_of o birth))
 with_present low ss None birth h = subst (λ (l : List Stamp). Rise low l (events_after birth)) (sym (append-nil ss)) h
 with_present low ss (Some (Begin p)) birth h = subst (λ (l : List Stamp). Rise low l (Leaf 0)) (sym (append-nil ss)) h
-with_present low ss (Some (Numbered p n s Check)) birth h = subst (λ (l : List Stamp). Rise low l s.events) (sym (append-nil ss)) h
-with_present low ss (Some (Numbered p n s Present)) birth h = rise_more low ss s.events s h (below_same s.events s.events refl)
-with_present low ss (Some (Numbered p n s (Fork f))) birth h = subst (λ (l : List Stamp). Rise low l s.events) (sym (append-nil ss)) h
-with_present low ss (Some (Numbered p n s (Retire target))) birth h = subst (λ (l : List Stamp). Rise low l s.events) (sym (append-nil ss)) h
-with_present low ss (Some (Numbered p n s (Absorb retired))) birth h = subst (λ (l : List Stamp). Rise low l s.events) (sym (append-nil ss)) h
+with_present low ss (Some (Numbered r)) birth h = with_present_by low ss r.stamp r.action h
 
 pub elements_rise : (p : Name) (accepted : List Report) → IsReachable accepted → Rise (Leaf 0) (elements_of p accepted) (last_events p accepted)
 elements_rise p accepted reach = with_present (Leaf 0) (lasting_of p accepted) (last_report p accepted) (birth_report p accepted) (risen p accepted reach)

@@ -4,14 +4,15 @@ use Rattle.std.specs.Prelude.{slice_index, Contains}
 use Rattle.std.specs.Option.{option_map_or, is_some}
 use Rattle.std.proofs.lemmas.Bool.{cases_lt, true≢false}
 use Rattle.std.proofs.lemmas.List.{ext_get_or, append-nil}
-use Rattle.report_line.specs.declared.report.Action.TheVariants.{Check, Present, Fork, Retire, Absorb}
+use Rattle.report_line.specs.declared.report.Action.{Action}
+use Rattle.report_line.specs.declared.report.Action.TheVariants.{Present}
 use Rattle.report_line.specs.declared.report.Report.{Report}
 use Rattle.report_line.specs.declared.report.Report.TheVariants.{Begin, Numbered}
 use Rattle.stamp.specs.declared.stamp.Stamp.{Stamp}
 use Rattle.chains.specs.declared.position.Position.{Position}
 use Rattle.chains.specs.declared.position.Position.TheVariants.{At, Retired}
-use Rattle.chains.specs.Processes.{Name, target_of, target_after, last_report}
-use Rattle.chains.specs.Elements.{elements, lasting, elements_of, lasting_of, present_in, name_of}
+use Rattle.chains.specs.Processes.{Name, target_of, target_in, target_after, last_report}
+use Rattle.chains.specs.Elements.{elements, lasting, elements_of, lasting_of, present_in, present_by, name_of}
 use Rattle.chains.specs.Positions.{is_retired, rank, position_at, last_rank, position_in, IsSurviving, IsChosen}
 use Rattle.knows_row.specs.Knowing.{KnowsRank, IsLawful}
 use Rattle.propagate.specs.Greatest.{IsConsistentCut}
@@ -22,14 +23,14 @@ use Rattle.propagate.proofs.Ranked.{rank_at, rank_at_below, chosen_position, pos
 
 -- ---- a retired process has no present state
 
+no_present_by : (s : Stamp) (a : Action) → is_some (target_in a) ≡ true → present_by s a ≡ []
+no_present_by s Present e = absurd (true≢false (sym e))
+no_present_by s _ e = refl
+
 no_present : (o : Option Report) → is_some (target_after o) ≡ true → present_in o ≡ []
 no_present None e = refl
 no_present (Some (Begin p)) e = refl
-no_present (Some (Numbered p n s Check)) e = absurd (true≢false (sym e))
-no_present (Some (Numbered p n s Present)) e = absurd (true≢false (sym e))
-no_present (Some (Numbered p n s (Fork f))) e = refl
-no_present (Some (Numbered p n s (Retire target))) e = refl
-no_present (Some (Numbered p n s (Absorb retired))) e = refl
+no_present (Some (Numbered r)) e = no_present_by r.stamp r.action e
 
 retired_named : (accepted : List Report) (name : Option Name) → option_map_or (λ (p : Name). is_some (target_of p accepted)) name false ≡ true
     → option_map_or (λ (p : Name). elements_of p accepted) name [] ≡ option_map_or (λ (p : Name). lasting_of p accepted) name []

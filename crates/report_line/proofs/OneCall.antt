@@ -13,6 +13,7 @@ use Rattle.stamp.specs.Stamps.{stamp_text}
 use Rattle.stamp.proofs.Texts.{one_text}
 use Rattle.report_line.specs.declared.report.Action.{Action}
 use Rattle.report_line.specs.declared.report.Action.TheVariants.{Check, Present, Fork, Retire, Absorb}
+use Rattle.report_line.specs.declared.report.NumberedReport.{NumberedReport}
 use Rattle.report_line.specs.declared.report.Report.TheVariants as reports
 use Rattle.report_line.specs.declared.call.Call.{Call}
 use Rattle.report_line.specs.declared.call.Call.TheVariants as calls
@@ -43,7 +44,7 @@ kind_in (w ∷ ws) =
 
 abbrev kind_of : Call → ℕ
 kind_of (calls.Report (reports.Begin p)) = 1
-kind_of (calls.Report (reports.Numbered p n s a)) = 5
+kind_of (calls.Report (reports.Numbered r)) = 5
 kind_of (calls.Line ns) = 2
 kind_of (calls.State p) = 3
 kind_of calls.Bye = 4
@@ -59,7 +60,7 @@ numbered_kind (Absorb retired) words = refl
 
 kind_is : (c : Call) → kind_in (words_of c) ≡ kind_of c
 kind_is (calls.Report (reports.Begin p)) = refl
-kind_is (calls.Report (reports.Numbered p n s a)) = numbered_kind a (p ∷ decimal n ∷ stamp_text s ∷ action_fields a)
+kind_is (calls.Report (reports.Numbered r)) = numbered_kind r.action (r.process ∷ decimal r.number ∷ stamp_text r.stamp ∷ action_fields r.action)
 kind_is (calls.Line ns) = refl
 kind_is (calls.State p) = refl
 kind_is calls.Bye = refl
@@ -86,28 +87,29 @@ same_action (Retire p) (Retire q) k e = ap Retire (parts p q [] [] e).0
 same_action (Absorb p) (Absorb q) k e = ap Absorb (parts p q [] [] e).0
 same_action a b k e = absurd (omega (arith, k))
 
-same_report : (p q : List ℕ) (n m : ℕ) (s t : Stamp) (a b : Action) → p ≡ q → n ≡ m → s ≡ t → a ≡ b → calls.Report (reports.Numbered p n s a) ≡ calls.Report (reports.Numbered q m t b)
-same_report p q n m s t a b e f g h = cc
+same_fields : (p q : List ℕ) (n m : ℕ) (s t : Stamp) (a b : Action) → p ≡ q → n ≡ m → s ≡ t → a ≡ b
+    → calls.Report (reports.Numbered (record { process = p; number = n; stamp = s; action = a })) ≡ calls.Report (reports.Numbered (record { process = q; number = m; stamp = t; action = b }))
+same_fields p q n m s t a b e f g h = cc
 
-same_numbered : (p q : List ℕ) (n m : ℕ) (s t : Stamp) (a b : Action) → AreFields p n s a → AreFields q m t b → words_of (calls.Report (reports.Numbered p n s a)) ≡ words_of (calls.Report (reports.Numbered q m t b))
-    → calls.Report (reports.Numbered p n s a) ≡ calls.Report (reports.Numbered q m t b)
-same_numbered p q n m s t a b g h e =
+same_numbered : (r t : NumberedReport) → AreFields r → AreFields t → words_of (calls.Report (reports.Numbered r)) ≡ words_of (calls.Report (reports.Numbered t)) → calls.Report (reports.Numbered r) ≡ calls.Report (reports.Numbered t)
+same_numbered r t g h e =
     let kind = parts _ _ _ _ e in
     let process = parts _ _ _ _ kind.1 in
     let number = parts _ _ _ _ process.1 in
     let stamp = parts _ _ _ _ number.1 in
-    same_report p q n m s t a b process.0 (decimal_injective n m (omega (arith, g.count.1)) (omega (arith, h.count.1)) number.0) (one_text s t stamp.0 g.stamped h.stamped) (same_action a b (ap mark kind.0) stamp.1)
+    same_fields r.process t.process r.number t.number r.stamp t.stamp r.action t.action process.0 (decimal_injective r.number t.number (omega (arith, g.count.1)) (omega (arith, h.count.1)) number.0)
+    (one_text r.stamp t.stamp stamp.0 g.stamped h.stamped) (same_action r.action t.action (ap mark kind.0) stamp.1)
 
 same_call : (c d : Call) → HasSpelling c → HasSpelling d → kind_of c ≡ kind_of d → words_of c ≡ words_of d → c ≡ d
 same_call (calls.Bad n) d g h k e = absurd g
 same_call calls.Unread d g h k e = absurd g
 same_call (calls.Report (reports.Begin p)) (calls.Report (reports.Begin q)) g h k e = ap (λ (r : List ℕ). calls.Report (reports.Begin r)) (parts p q [] [] (parts _ _ _ _ e).1).0
-same_call (calls.Report (reports.Numbered p n s a)) (calls.Report (reports.Numbered q m t b)) g h k e = same_numbered p q n m s t a b g h e
+same_call (calls.Report (reports.Numbered r)) (calls.Report (reports.Numbered t)) g h k e = same_numbered r t g h e
 same_call (calls.Line ns) (calls.Line ms) g h k e = ap calls.Line (row_again ns ms g h (parts _ _ [] [] (parts _ _ _ _ e).1).0)
 same_call (calls.State p) (calls.State q) g h k e = ap calls.State (parts p q [] [] (parts _ _ _ _ e).1).0
 same_call calls.Bye calls.Bye g h k e = refl
 same_call c (calls.Report (reports.Begin q)) g h k e = absurd (omega (arith, k))
-same_call c (calls.Report (reports.Numbered q m t b)) g h k e = absurd (omega (arith, k))
+same_call c (calls.Report (reports.Numbered t)) g h k e = absurd (omega (arith, k))
 same_call c d g h k e = absurd (omega (arith, k))
 
 -- ---- one call for each line
@@ -115,7 +117,7 @@ same_call c d g h k e = absurd (omega (arith, k))
 words_again : (c : Call) → HasSpelling c → words_in (spelling c) ≡ words_of c
 unfolding spelling
 words_again (calls.Report (reports.Begin p)) h = joined_words _ _ (plain_words (calls.Report (reports.Begin p)) h)
-words_again (calls.Report (reports.Numbered p n s a)) h = joined_words _ _ (plain_words (calls.Report (reports.Numbered p n s a)) h)
+words_again (calls.Report (reports.Numbered r)) h = joined_words _ _ (plain_words (calls.Report (reports.Numbered r)) h)
 words_again (calls.Line ns) h = joined_words _ _ (plain_words (calls.Line ns) h)
 words_again (calls.State p) h = joined_words _ _ (plain_words (calls.State p) h)
 words_again calls.Bye h = joined_words _ _ (plain_words calls.Bye h)

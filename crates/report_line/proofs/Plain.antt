@@ -82,7 +82,8 @@ plain_fields (Absorb retired) is = (plain_name retired is, tt)
 
 pub plain_words : (c : Call) → HasSpelling c → ArePlain (words_of c)
 plain_words (calls.Report (reports.Begin p)) h = ((refl, (refl, (refl, (refl, (refl, tt))))), (plain_name p h, tt))
-plain_words (calls.Report (reports.Numbered p n s a)) h = (plain_kind a, (plain_name p h.name, (Lacks-decimal 32 n refl h.count.1, (plain_stamp s h.stamped, plain_fields a h.acted))))
+plain_words (calls.Report (reports.Numbered r)) h =
+    (plain_kind r.action, (plain_name r.process h.name, (Lacks-decimal 32 r.number refl h.count.1, (plain_stamp r.stamp h.stamped, plain_fields r.action h.acted))))
 plain_words (calls.Line ns) h = ((refl, (refl, (refl, (refl, tt)))), (plain_names ns h, tt))
 plain_words (calls.State p) h = ((refl, (refl, (refl, (refl, (refl, tt))))), (plain_name p h, tt))
 plain_words calls.Bye h = ((refl, (refl, (refl, tt))), tt)

@@ -7,6 +7,7 @@ use Rattle.event_tree.specs.EventTree.{EventTree, event_tree_code}
 use Rattle.stamp.specs.declared.stamp.Stamp.{Stamp}
 use Rattle.report_line.specs.declared.report.Action.{Action}
 use Rattle.report_line.specs.declared.report.Action.TheVariants.{Check, Present, Fork, Retire, Absorb}
+use Rattle.report_line.specs.declared.report.NumberedReport.{NumberedReport}
 use Rattle.report_line.specs.declared.report.Report.{Report}
 use Rattle.report_line.specs.declared.report.Report.TheVariants.{Begin, Numbered}
 
@@ -41,21 +42,25 @@ abbrev pub action_code : Coded Action
 action_code =
     code_by ActionFields (coded⊎ coded_ℕ (coded⊎ (coded× id_tree_code (coded× (coded_list coded_ℕ) id_tree_code)) (coded⊎ (coded_list coded_ℕ) (coded_list coded_ℕ)))) action_fields action_of action_of-action_fields
 
+abbrev pub numbered_code : Coded NumberedReport
+numbered_code =
+    code_by (List ℕ × (ℕ × (Stamp × Action))) (coded× (coded_list coded_ℕ) (coded× coded_ℕ (coded× stamp_code action_code))) (λ r. (r.process, (r.number, (r.stamp, r.action))))
+    (λ p. record { process = p.0; number = p.1.0; stamp = p.1.1.0; action = p.1.1.1 }) (λ _. refl)
+
 abbrev pub Fields : Type 0
-Fields = List ℕ ⊎ (List ℕ × (ℕ × (Stamp × Action)))
+Fields = List ℕ ⊎ NumberedReport
 
 abbrev pub fields_of : Report → Fields
 fields_of (Begin p) = inl p
-fields_of (Numbered p n s a) = inr (p, (n, (s, a)))
+fields_of (Numbered r) = inr r
 
 abbrev pub report_of : Fields → Report
 report_of (inl p) = Begin p
-report_of (inr f) = Numbered f.0 f.1.0 f.1.1.0 f.1.1.1
+report_of (inr r) = Numbered r
 
 pub report_of-fields_of : (r : Report) → report_of (fields_of r) ≡ r
 report_of-fields_of (Begin p) = refl
-report_of-fields_of (Numbered p n s a) = refl
+report_of-fields_of (Numbered r) = refl
 
 abbrev pub report_code : Coded Report
-report_code =
-    code_by Fields (coded⊎ (coded_list coded_ℕ) (coded× (coded_list coded_ℕ) (coded× coded_ℕ (coded× stamp_code action_code)))) fields_of report_of report_of-fields_of
+report_code = code_by Fields (coded⊎ (coded_list coded_ℕ) numbered_code) fields_of report_of report_of-fields_of

@@ -6,9 +6,9 @@ use Rattle.report_line.specs.declared.report.Report.TheVariants.{Begin, Numbered
 -- the process that reports
 abbrev pub process_of : Report → List ℕ
 process_of (Begin p) = p
-process_of (Numbered p n s a) = p
+process_of (Numbered r) = r.process
 
 -- its number, if it has one
 abbrev pub number_of : Report → Option ℕ
 number_of (Begin p) = None
-number_of (Numbered p n s a) = Some n
+number_of (Numbered r) = Some r.number

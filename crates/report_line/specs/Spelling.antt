@@ -4,10 +4,10 @@ use Rattle.std.specs.List.{join_with_byte, AllByRecursion}
 use Rattle.std.specs.Fmt.{decimal}
 use Rattle.id_tree.specs.NormalForm.{IsId}
 use Rattle.id_tree.specs.Spelling as ids
-use Rattle.stamp.specs.declared.stamp.Stamp.{Stamp}
 use Rattle.stamp.specs.Stamps.{IsStamp, stamp_text}
 use Rattle.report_line.specs.declared.report.Action.{Action}
 use Rattle.report_line.specs.declared.report.Action.TheVariants.{Check, Present, Fork, Retire, Absorb}
+use Rattle.report_line.specs.declared.report.NumberedReport.{NumberedReport}
 use Rattle.report_line.specs.declared.report.Report.TheVariants as reports
 use Rattle.report_line.specs.declared.call.Call.{Call}
 use Rattle.report_line.specs.declared.call.Call.TheVariants as calls
@@ -45,7 +45,7 @@ action_fields (Absorb retired) = retired ∷ []
 -- the words of a call
 abbrev pub words_of : Call → List (List ℕ)
 words_of (calls.Report (reports.Begin p)) = codes "BEGIN" ∷ p ∷ []
-words_of (calls.Report (reports.Numbered p n s a)) = action_word a ∷ p ∷ decimal n ∷ stamp_text s ∷ action_fields a
+words_of (calls.Report (reports.Numbered r)) = action_word r.action ∷ r.process ∷ decimal r.number ∷ stamp_text r.stamp ∷ action_fields r.action
 words_of (calls.Line ns) = codes "LINE" ∷ names_text ns ∷ []
 words_of (calls.State p) = codes "STATE" ∷ p ∷ []
 words_of calls.Bye = codes "BYE" ∷ []
@@ -65,16 +65,16 @@ IsAction (Retire target) = IsTrue (is_name target)
 IsAction (Absorb retired) = IsTrue (is_name retired)
 
 -- what the fields of a report with a number are
-pub record AreFields (process : List ℕ) (number : ℕ) (stamp : Stamp) (action : Action) : Type 0 where
-  pub name : IsTrue (is_name process)
-  pub count : IsCount number
-  pub stamped : IsStamp stamp
-  pub acted : IsAction action
+pub record AreFields (r : NumberedReport) : Type 0 where
+  pub name : IsTrue (is_name r.process)
+  pub count : IsCount r.number
+  pub stamped : IsStamp r.stamp
+  pub acted : IsAction r.action
 
 -- the calls that have a line
 abbrev pub HasSpelling : Call → Type 0
 HasSpelling (calls.Report (reports.Begin p)) = IsTrue (is_name p)
-HasSpelling (calls.Report (reports.Numbered p n s a)) = AreFields p n s a
+HasSpelling (calls.Report (reports.Numbered r)) = AreFields r
 HasSpelling (calls.Line ns) = AreNames ns
 HasSpelling (calls.State p) = IsTrue (is_name p)
 HasSpelling calls.Bye = ⊤

@@ -2,10 +2,10 @@
 
 ghost use Rattle.std.specs.Prelude.{◌≡◌, ◌↔◌, IsTrue, IfOk};
 ghost use Rattle.report_line.specs.Reports.{process_of, number_of};
-ghost use Rattle.report_line.specs.View.{Shows, action_of};
+ghost use Rattle.report_line.specs.View.{Shows, action_of, numbered_of};
 
 use crate::name::Name;
-use crate::report::{Action, Forked, Report};
+use crate::report::{Action, Forked, NumberedReport, Report};
 use crate::shared::Shared;
 use stamp::Stamp;
 use std::alloc::{AllocError, Global};
@@ -80,20 +80,26 @@ pub enum ActionView<'a> {
     Absorb { retired: &'a Name },
 }
 
+/// The fields of a report with a number, by reference.
+#[derive(Clone, Copy)]
+pub struct NumberedView<'a> {
+    /// The process that reports.
+    pub process: &'a Name,
+    /// The number of the report among those of its process, counted from 1.
+    pub number: u32,
+    /// The stamp after the event.
+    pub stamp: &'a Stamp,
+    /// What the process did.
+    pub action: ActionView<'a>,
+}
+
 /// The fields of a report, by reference.
 #[derive(Clone, Copy)]
 pub enum ReportView<'a> {
     /// The process is the root, and begins.
-    Begin {
-        process: &'a Name,
-    },
-    /// The process did this, in its report of this number.
-    Numbered {
-        process: &'a Name,
-        number: u32,
-        stamp: &'a Stamp,
-        action: ActionView<'a>,
-    },
+    Begin { process: &'a Name },
+    /// The process did something, and this report of it has a number.
+    Numbered(NumberedView<'a>),
 }
 
 impl<'a> ActionView<'a> {
@@ -116,6 +122,18 @@ impl<'a> ActionView<'a> {
     }
 }
 
+impl<'a> NumberedView<'a> {
+    /// Whether the two are one report.
+    pub fn equal(self, other: NumberedView<'a>) -> bool
+        ensures { IsTrue result ↔ (numbered_of self.entry ≡ numbered_of other.entry) }
+    {
+        self.number == other.number
+            && self.process.as_bytes() == other.process.as_bytes()
+            && self.stamp.equal(other.stamp)
+            && self.action.equal(other.action)
+    }
+}
+
 impl PackedReport {
     /// The report in this shape. It takes no memory.
     #[inline(always)]
@@ -124,12 +142,14 @@ impl PackedReport {
     {
         let packed = match report {
             Report::Begin { process } => Packed::Begin { process },
-            Report::Numbered {
-                process,
-                number,
-                stamp,
-                action,
-            } => match action {
+            Report::Numbered(
+                NumberedReport {
+                    process,
+                    number,
+                    stamp,
+                    action,
+                },
+            ) => match action {
                 Action::Check => Packed::Check {
                     process,
                     number,
@@ -174,55 +194,55 @@ impl PackedReport {
                 process,
                 number,
                 stamp,
-            } => ReportView::Numbered {
+            } => ReportView::Numbered(NumberedView {
                 process,
                 number: *number,
                 stamp,
                 action: ActionView::Check,
-            },
+            }),
             Packed::Present {
                 process,
                 number,
                 stamp,
-            } => ReportView::Numbered {
+            } => ReportView::Numbered(NumberedView {
                 process,
                 number: *number,
                 stamp,
                 action: ActionView::Present,
-            },
+            }),
             Packed::Fork {
                 process,
                 number,
                 stamp,
                 forked,
-            } => ReportView::Numbered {
+            } => ReportView::Numbered(NumberedView {
                 process,
                 number: *number,
                 stamp,
                 action: ActionView::Fork(forked),
-            },
+            }),
             Packed::Retire {
                 process,
                 number,
                 stamp,
                 target,
-            } => ReportView::Numbered {
+            } => ReportView::Numbered(NumberedView {
                 process,
                 number: *number,
                 stamp,
                 action: ActionView::Retire { target },
-            },
+            }),
             Packed::Absorb {
                 process,
                 number,
                 stamp,
                 retired,
-            } => ReportView::Numbered {
+            } => ReportView::Numbered(NumberedView {
                 process,
                 number: *number,
                 stamp,
                 action: ActionView::Absorb { retired },
-            },
+            }),
         }
     }
 
@@ -232,7 +252,7 @@ impl PackedReport {
     {
         match self.view() {
             ReportView::Begin { process } => process,
-            ReportView::Numbered { process, .. } => process,
+            ReportView::Numbered(report) => report.process,
         }
     }
 
@@ -242,7 +262,7 @@ impl PackedReport {
     {
         match self.view() {
             ReportView::Begin { .. } => None,
-            ReportView::Numbered { number, .. } => Some(number),
+            ReportView::Numbered(report) => Some(report.number),
         }
     }
 
@@ -317,20 +337,7 @@ impl PackedReport {
             (ReportView::Begin { process: p }, ReportView::Begin { process: q }) => {
                 p.as_bytes() == q.as_bytes()
             }
-            (
-                ReportView::Numbered {
-                    process: p,
-                    number: m,
-                    stamp: s,
-                    action: a,
-                },
-                ReportView::Numbered {
-                    process: q,
-                    number: n,
-                    stamp: t,
-                    action: b,
-                },
-            ) => m == n && p.as_bytes() == q.as_bytes() && s.equal(t) && a.equal(b),
+            (ReportView::Numbered(r), ReportView::Numbered(s)) => r.equal(s),
             _ => false,
         }
     }

@@ -16,7 +16,7 @@ use crate::fault::LineFault;
 use crate::name::{Name, Names};
 use crate::number::number_of;
 use crate::packed::PackedReport;
-use crate::report::{Action, Report};
+use crate::report::{Action, NumberedReport, Report};
 use crate::shared::Shared;
 use crate::words::{Words, cut_once};
 use id_tree::{Id, IdFault};
@@ -183,12 +183,12 @@ fn read_numbered(alloc: Global, kind: &[u8], words: &mut Words<'_>) -> Result<Ca
     let number = take_number(words)?;
     let stamp = take_stamp(alloc, words)?;
     let action = read_action(alloc, kind, words)?;
-    let report = PackedReport::of(Report::Numbered {
+    let report = PackedReport::of(Report::Numbered(NumberedReport {
         process,
         number,
         stamp,
         action,
-    });
+    }));
     Ok(Call::Report(Shared::new(alloc, report)?))
 }
 

@@ -34,21 +34,26 @@ pub enum Action {
     Absorb { retired: Shared<Name> },
 }
 
+/// A report with a number.
+#[derive(Drop)]
+pub struct NumberedReport {
+    /// The process that reports.
+    pub process: Name,
+    /// The number of the report among those of its process, counted from 1.
+    pub number: u32,
+    /// The stamp after the event: for a fork before the id is split, for an absorb behind the join.
+    pub stamp: Stamp,
+    /// What the process did.
+    pub action: Action,
+}
+
 /// What a process reports of itself, as it is put together.
 #[derive(Drop)]
 pub enum Report {
     /// The process is the root, and begins.
-    Begin {
-        process: Name,
-    },
-    /// The process did this, in its report of this number, counted from 1. The stamp is the one after the event: for a
-    /// fork before the id is split, for an absorb behind the join.
-    Numbered {
-        process: Name,
-        number: u32,
-        stamp: Stamp,
-        action: Action,
-    },
+    Begin { process: Name },
+    /// The process did something, and this report of it has a number.
+    Numbered(NumberedReport),
 }
 
 impl Forked {

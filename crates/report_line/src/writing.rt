@@ -4,16 +4,15 @@ ghost use Rattle.std.specs.Prelude.{◌≡◌, ◌++◌, ◌∷◌, OnOk, IfOk};
 ghost use Rattle.std.specs.Fmt.{decimal};
 ghost use Rattle.stamp.specs.Stamps.{stamp_text};
 ghost use Rattle.report_line.specs.Spelling.{spelling, action_word, action_fields};
-ghost use Rattle.report_line.specs.View.{action_of};
+ghost use Rattle.report_line.specs.View.{action_of, numbered_of};
 ghost use Rattle.report_line.specs.declared.call.Call.TheVariants as calls;
 ghost use Rattle.report_line.specs.Replies.{or_dash, outcome_word, live_word, reply_text, IsWritten};
 ghost use Rattle.report_line.specs.Cuts.{spaced};
 
 use crate::name::Name;
-use crate::packed::{ActionView, PackedReport, ReportView};
+use crate::packed::{ActionView, NumberedView, PackedReport, ReportView};
 use crate::reply::{Outcome, Reply};
 use crate::text::Text;
-use stamp::Stamp;
 use std::alloc::{AllocError, Global};
 
 fn push_number(out: &mut Vec<u8>, alloc: Global, n: u32) -> Result<(), AllocError>
@@ -36,21 +35,15 @@ fn push_kind(out: &mut Vec<u8>, action: ActionView<'_>) -> Result<(), AllocError
 }
 
 // The words that each report with a number has behind its kind, each with a space in front of it.
-fn push_head(
-    out: &mut Vec<u8>,
-    alloc: Global,
-    process: &Name,
-    number: u32,
-    stamp: &Stamp,
-) -> Result<(), AllocError>
-    ensures { OnOk result (out.new.items ≡ out.old.items ++ 32 ∷ (process.now ++ 32 ∷ (decimal number ++ 32 ∷ stamp_text stamp.now))) }
+fn push_head(out: &mut Vec<u8>, alloc: Global, report: NumberedView<'_>) -> Result<(), AllocError>
+    ensures { OnOk result (out.new.items ≡ out.old.items ++ 32 ∷ (report.entry.process.now ++ 32 ∷ (decimal report.entry.number ++ 32 ∷ stamp_text report.entry.stamp.now))) }
 {
     out.push(b' ')?;
-    out.extend_from_slice(process.as_bytes())?;
+    out.extend_from_slice(report.process.as_bytes())?;
     out.push(b' ')?;
-    push_number(out, alloc, number)?;
+    push_number(out, alloc, report.number)?;
     out.push(b' ')?;
-    stamp.write_to(out)
+    report.stamp.write_to(out)
 }
 
 // The words behind the stamp, each with a space in front of it.
@@ -87,15 +80,10 @@ pub fn write_line(alloc: Global, report: &PackedReport) -> Result<Vec<u8>, Alloc
             out.extend_from_slice(process.as_bytes())?;
             Ok(out)
         }
-        ReportView::Numbered {
-            process,
-            number,
-            stamp,
-            action,
-        } => {
-            push_kind(&mut out, action)?;
-            push_head(&mut out, alloc, process, number, stamp)?;
-            push_fields(&mut out, action)?;
+        ReportView::Numbered(numbered) => {
+            push_kind(&mut out, numbered.action)?;
+            push_head(&mut out, alloc, numbered)?;
+            push_fields(&mut out, numbered.action)?;
             Ok(out)
         }
     }

@@ -1,7 +1,7 @@
 //! A process that reports what it does.
 
 use anyhow::{Result, bail};
-use report_line::{Action, Name, PackedReport, Report};
+use report_line::{Action, Name, NumberedReport, PackedReport, Report};
 use stamp::Stamp;
 use std::alloc::Global;
 
@@ -41,12 +41,12 @@ impl Process {
     // The next report, with this stamp.
     fn report(&mut self, stamp: Stamp, action: Action) -> PackedReport {
         self.reports = self.reports.wrapping_add(1);
-        PackedReport::of(Report::Numbered {
+        PackedReport::of(Report::Numbered(NumberedReport {
             process: self.name.copy(),
             number: self.reports,
             stamp,
             action,
-        })
+        }))
     }
 
     /// It takes a checkpoint.

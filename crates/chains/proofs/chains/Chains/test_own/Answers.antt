@@ -6,7 +6,7 @@ use Rattle.id_tree.specs.IdTree.{IdTree}
 use Rattle.id_tree.specs.Spelling.{spelling}
 use Rattle.report_line.specs.declared.code.Code.TheVariants.{WrongId, NotGrown}
 use Rattle.report_line.specs.declared.reply.Reply.TheVariants.{No}
-use Rattle.report_line.specs.View.{action_of}
+use Rattle.report_line.specs.View.{numbered_of}
 use Rattle.chains.specs.Processes.{known, expected_id, registered_id, last_events}
 use Rattle.chains.specs.Admission.{Decides, AreGrown, IsActionReply}
 use Rattle.chains.proofs.Tested.{refuses, passed_on, own_id}
@@ -15,25 +15,23 @@ use Rattle.chains.proofs.chains.Chains.test_own.Goals as goal
 pub returns-then-not-equal : goal.returns-then-not-equal
 returns-then-not-equal c =
     let accepted = c.args.self.now.accepted in
-    let p = c.args.name.now in
-    let s = c.args.stamp.now in
-    let a = action_of c.args.action in
-    let same : c.registered_id-registered.result.now ≡ expected_id accepted p a = c.registered_id-registered.ensures p c.requires.place ∙ sym (own_id accepted p a c.requires.own) in
-    refuses (s.id ≢ expected_id accepted p a) (λ x. Decides (¬ AreGrown (last_events p accepted) (registered_id p accepted) s.events) (No NotGrown (Some p) None) x (IsActionReply accepted p c.args.number s a x))
-    accepted c.refusal_with.result WrongId p (spelling (expected_id accepted p a)) c.id_text.result c.refusal_with.ensures
+    let r = numbered_of c.args.fields in
+    let p = r.process in
+    let same : c.registered_id-registered.result.now ≡ expected_id accepted p r.action = c.registered_id-registered.ensures p c.requires.place ∙ sym (own_id accepted p r.action c.requires.own) in
+    refuses (r.stamp.id ≢ expected_id accepted p r.action) (λ x. Decides (¬ AreGrown (last_events p accepted) (registered_id p accepted) r.stamp.events) (No NotGrown (Some p) None) x (IsActionReply accepted r r.action x))
+    accepted c.refusal_with.result WrongId p (spelling (expected_id accepted p r.action)) c.id_text.result c.refusal_with.ensures
     (subst (λ (i : IdTree). IfOk c.id_text.result (λ t. t ≡ spelling i)) same c.id_text.ensures) (λ e. both_ways c.equal.result c.if-not-equal.true (c.equal.ensures.1 (e ∙ sym same)))
 
 pub is_grown-requires-clause-place : goal.is_grown-requires-clause-place
-is_grown-requires-clause-place c = slice_get_within (known c.args.self.now.accepted) c.args.place c.args.name.now c.requires.place
+is_grown-requires-clause-place c = slice_get_within (known c.args.self.now.accepted) c.args.place c.args.fields.process.now c.requires.place
 
 pub returns : goal.returns
 returns c =
     let accepted = c.args.self.now.accepted in
-    let p = c.args.name.now in
-    let s = c.args.stamp.now in
-    let a = action_of c.args.action in
-    let grown = AreGrown (last_events p accepted) (registered_id p accepted) s.events in
-    let same : c.registered_id-registered.result.now ≡ expected_id accepted p a = c.registered_id-registered.ensures p c.requires.place ∙ sym (own_id accepted p a c.requires.own) in
-    passed_on (s.id ≢ expected_id accepted p a) (No WrongId (Some p) (Some (spelling (expected_id accepted p a)))) (λ x. Decides (¬ grown) (No NotGrown (Some p) None) x (IsActionReply accepted p c.args.number s a x))
+    let r = numbered_of c.args.fields in
+    let p = r.process in
+    let grown = AreGrown (last_events p accepted) (registered_id p accepted) r.stamp.events in
+    let same : c.registered_id-registered.result.now ≡ expected_id accepted p r.action = c.registered_id-registered.ensures p c.requires.place ∙ sym (own_id accepted p r.action c.requires.own) in
+    passed_on (r.stamp.id ≢ expected_id accepted p r.action) (No WrongId (Some p) (Some (spelling (expected_id accepted p r.action)))) (λ x. Decides (¬ grown) (No NotGrown (Some p) None) x (IsActionReply accepted r r.action x))
     accepted c.test_action.result (λ h. h (c.equal.ensures.0 c.if-not-equal.false ∙ same))
-    (passed_on (¬ grown) (No NotGrown (Some p) None) (IsActionReply accepted p c.args.number s a) accepted c.test_action.result (λ h. h ((c.is_grown.ensures p c.requires.place).0 c.if-not-is_grown.false)) c.test_action.ensures)
+    (passed_on (¬ grown) (No NotGrown (Some p) None) (IsActionReply accepted r r.action) accepted c.test_action.result (λ h. h ((c.is_grown.ensures p c.requires.place).0 c.if-not-is_grown.false)) c.test_action.ensures)

@@ -2,7 +2,7 @@ use Rattle.std.proofs.Common.{◌≡◌, ◌⊎◌, inl, inr, sym, subst, ◌∙
 use Rattle.std.proofs.lemmas.Bool.{true≢false}
 use Rattle.std.proofs.lemmas.Slice.Eq.{bytes_eq-Decides}
 use Rattle.report_line.specs.declared.code.Code.TheVariants.{WrongTarget}
-use Rattle.report_line.specs.declared.report.Action.TheVariants.{Retire}
+use Rattle.report_line.specs.View.{numbered_of}
 use Rattle.report_line.specs.declared.report.Report.{Report}
 use Rattle.report_line.specs.declared.report.Report.TheVariants.{Numbered}
 use Rattle.report_line.specs.declared.reply.Reply.TheVariants.{No}
@@ -16,10 +16,10 @@ use Rattle.chains.proofs.chains.Chains.test_retire.Goals as goal
 pub returns-in-Some : goal.returns-in-Some
 returns-in-Some c =
     let accepted = c.args.self.now.accepted in
-    let p = c.args.name.now in
+    let r = numbered_of c.args.fields in
     let target = c.args.target.now in
-    let tested = subst (λ (r : Report). Tests (FitsOrNot accepted r) accepted c.test_room.result) c.requires c.test_room.ensures in
-    passed_on ((target ≡ p) ⊎ (¬ IsKnown accepted target)) (No WrongTarget (Some target) None) (FitsOrNot accepted (Numbered p c.args.number c.args.stamp.now (Retire target))) accepted c.test_room.result
+    let tested = subst (λ (x : Report). Tests (FitsOrNot accepted x) accepted c.test_room.result) c.requires c.test_room.ensures in
+    passed_on ((target ≡ r.process) ⊎ (¬ IsKnown accepted target)) (No WrongTarget (Some target) None) (FitsOrNot accepted (Numbered r)) accepted c.test_room.result
     (λ h. elim h [
       | inl e ↦ true≢false (sym ((bytes_eq-Decides c.as_bytes.result.now c.as_bytes-2.result.now).1 (c.as_bytes.ensures.value ∙ e ∙ sym c.as_bytes-2.ensures.value)) ∙ sym c.if-eq.ensures)
       | inr unknown ↦ unknown (known_from accepted c.in-Some.field-0 target c.in-Some.ensures)

@@ -24,7 +24,7 @@ use Rattle.chains.proofs.Keeps.{as_many, kept_there}
 use Rattle.chains.proofs.Stepping.{same_bytes}
 use Rattle.chains.proofs.Passed.{passed_tests, begins}
 use Rattle.chains.proofs.Distinct.{distinct_known}
-use Rattle.chains.proofs.Reaching.{unbegun}
+use Rattle.chains.proofs.Folding.{unbegun, reached_folded}
 use Rattle.chains.proofs.InOrder.{few_after, few_known_after, in_order_numbered}
 
 -- ---- before
@@ -57,11 +57,11 @@ after_numbered accepted names names' processes processes' (Numbered r) i h admit
     let by : IsKeptByAction (known accepted) (changed_at change i (map (kept_of accepted) (known accepted))) r.action (length accepted) (map view_of processes') =
     subst (λ (ns : List Name). IsKeptByAction ns (changed_at change i (map (kept_of accepted) (known accepted))) r.action (length accepted) (map view_of processes')) h.named
     (subst (λ (v : List KeptProcess). IsKeptByAction names (changed_at change i v) r.action (length accepted) (map view_of processes')) h.kept kept) in
-    let both = in_order_numbered accepted r r.action i (map view_of processes') h.reachable h.distinct at pass by in
+    let both = in_order_numbered accepted r r.action i (map view_of processes') (reached_folded accepted h.reachable) h.distinct at pass by in
     (is ∙ ap (λ (ns : List Name). names_after ns (Numbered r)) h.named ∙ both.0, both.1)
 after_numbered accepted names names' processes processes' (Begin p) i h admitted at is kept =
     let none : known accepted ≡ [] = begins (known accepted) accepted p (length accepted + 1) admitted in
-    let empty : accepted ≡ [] = unbegun accepted h.reachable none in
+    let empty : accepted ≡ [] = unbegun accepted (reached_folded accepted h.reachable) none in
     let start : kept_of (Begin p ∷ []) p ≡ born 0 = rw (same_bytes p) refl in
     let whole : accepted ++ Begin p ∷ [] ≡ Begin p ∷ [] = ap (λ (xs : List Report). xs ++ Begin p ∷ []) empty in
     let before : map view_of processes ≡ [] = h.kept ∙ ap (map (kept_of accepted)) none in
@@ -81,7 +81,7 @@ after_report accepted after names names' processes processes' r i h admitted at 
       reachable = reach;
       few = few_after accepted r admitted;
       few_known = few_known_after accepted r admitted h.few_known;
-      distinct = distinct_known (accepted ++ r ∷ []) reach;
+      distinct = distinct_known (accepted ++ r ∷ []) (reached_folded (accepted ++ r ∷ []) reach);
       named = both.0;
       kept = both.1;
     })

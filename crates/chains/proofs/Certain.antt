@@ -1,17 +1,19 @@
 -- What is refuted to be false holds, of what a test decides.
-use Rattle.std.proofs.Common.{◌≡◌, ◌≢◌, ◌⊎◌, inl, inr, Bool, true, false, List, [], ◌∷◌, Option, Some, None, refl, ap, sym, ◌∙◌, arith}
+use Rattle.std.proofs.Common.{◌≡◌, ◌≢◌, ◌⊎◌, inl, inr, ℕ, Bool, true, false, List, [], ◌∷◌, Option, Some, None, refl, ap, sym, ◌∙◌, arith}
 use Rattle.std.specs.Prelude.{◌||◌}
 use Rattle.std.specs.Str.{bytes_eq}
 use Rattle.std.specs.List.{list_any}
 use Rattle.std.specs.Cmp.Lexicographic.{nat_list_eq_equiv}
-use Rattle.std.proofs.lemmas.Bool.{true≢false, false_from_ne_true, cases_Bool, cases_lt}
+use Rattle.std.proofs.lemmas.Bool.{true≢false, false_from_ne_true, cases_Bool, cases_eq, cases_lt}
 use Rattle.std.proofs.lemmas.Map.Views.{list_any-from_Contains, Contains-from_any}
 use Rattle.std.proofs.lemmas.Slice.Eq.{bytes_eq-Decides}
 use Rattle.id_tree.specs.IdTree.{IdTree, Zero, One, Pair}
 use Rattle.id_tree.specs.Points.{Point, owns, OwnsSome}
 use Rattle.id_tree.specs.Split.{IsSplit}
 use Rattle.event_tree.specs.EventTree.{EventTree}
-use Rattle.event_tree.specs.Values.{value_at, IsAtOrBelow}
+use Rattle.event_tree.specs.Values.{value_at, IsAtOrBelow, ExceedsOn}
+use Rattle.event_tree.specs.Tests.{exceeds_from}
+use Rattle.event_tree.proofs.Orders.{exceeding_is_pointwise}
 use Rattle.report_line.specs.declared.report.Report.{Report}
 use Rattle.chains.specs.Processes.{Name, known, IsKnown, target_of, is_absorbed, Waits}
 use Rattle.chains.specs.Admission.{AreGrown}
@@ -54,11 +56,23 @@ sure_id One (Pair c d) n = absurd (n (λ e. cc))
 sure_id (Pair a b) Zero n = absurd (n (λ e. cc))
 sure_id (Pair a b) One n = absurd (n (λ e. cc))
 
-pub sure_grown : (last : EventTree) (id : IdTree) (events : EventTree) → ¬ (¬ AreGrown last id events) → IsAtOrBelow last events
-sure_grown last id events n point = elim (cases_lt (value_at events point) (value_at last point)) [
-  | inl lt ↦ absurd (n (λ grown. let le = grown.0 point in omega arith))
+pub sure_number : (m n : ℕ) → ¬ (m ≢ n) → m ≡ n
+sure_number m n refuted = elim (cases_eq m n) [ inl same ↦ same | inr other ↦ absurd (refuted other) ]
+
+pub sure_below : (e f : EventTree) → ¬ (¬ IsAtOrBelow e f) → IsAtOrBelow e f
+sure_below e f n point = elim (cases_lt (value_at f point) (value_at e point)) [
+  | inl lt ↦ absurd (n (λ below. let le = below point in omega arith))
   | inr le ↦ le
 ]
+
+sure_exceeds : (i : IdTree) (e f : EventTree) → ¬ (¬ ExceedsOn i e f) → ExceedsOn i e f
+sure_exceeds i e f n = elim (cases_Bool (exceeds_from i 0 e 0 f)) [
+  | inl is ↦ (exceeding_is_pointwise i e f).0 is
+  | inr is ↦ absurd (n (λ there. true≢false (sym ((exceeding_is_pointwise i e f).1 there) ∙ is)))
+]
+
+pub sure_grown : (last : EventTree) (id : IdTree) (events : EventTree) → ¬ (¬ AreGrown last id events) → AreGrown last id events
+sure_grown last id events n = (sure_below last events (λ m. n (λ grown. m grown.0)), sure_exceeds id events last (λ m. n (λ grown. m grown.1)))
 
 none_in_halves : (l r : IdTree) → ((point : Point) → owns l point ≡ false) → ((point : Point) → owns r point ≡ false) → (point : Point) → owns (Pair l r) point ≡ false
 none_in_halves l r h k [] = h []

@@ -1,5 +1,5 @@
 -- No name is that of two known processes.
-use Rattle.std.proofs.Common.{◌≡◌, ◌⊎◌, inl, inr, ℕ, ◌+◌, ◌<◌, ◌≤◌, List, [], ◌∷◌, ◌++◌, length, get_or, Option, Some, None, refl, sym, ap, subst, ◌∙◌, arith, append-nil, length-append}
+use Rattle.std.proofs.Common.{◌≡◌, ◌⊎◌, inl, inr, ℕ, ◌<◌, ◌≤◌, List, [], ◌∷◌, ◌++◌, length, get_or, Option, Some, None, refl, sym, ap, subst, ◌∙◌, arith, append-nil, length-append}
 use Rattle.std.specs.Prelude.{Contains}
 use Rattle.std.specs.List.{cons_option}
 use Rattle.std.proofs.lemmas.Bool.{cases_lt}
@@ -7,13 +7,12 @@ use Rattle.std.proofs.lemmas.List.{get_or_append_left, get_or_default}
 use Rattle.std.proofs.Math.Seq.{get_or-append_seam}
 use Rattle.report_line.specs.declared.report.Action.{Action}
 use Rattle.report_line.specs.declared.report.Action.TheVariants.{Fork}
+use Rattle.report_line.specs.declared.report.NumberedReport.{NumberedReport}
 use Rattle.report_line.specs.declared.report.Report.{Report}
 use Rattle.report_line.specs.declared.report.Report.TheVariants.{Begin, Numbered}
-use Rattle.report_line.specs.declared.reply.Reply.TheVariants.{Accepted}
 use Rattle.chains.specs.Processes.{Name, newborn, child_of, known, IsKnown}
-use Rattle.chains.specs.Admission.{IsReachable, nothing_accepted, one_more, IsAdmission}
+use Rattle.chains.specs.Folded.{IsFitAction, IsFit, IsFolded, nothing_folded, one_folded}
 use Rattle.chains.specs.Inside.{AreDistinctNames}
-use Rattle.chains.proofs.Passed.{IsFit, passed_tests, begins}
 use Rattle.chains.proofs.Stepping.{none_some, some_name, known-push}
 
 -- ---- lists of names
@@ -43,19 +42,19 @@ distinct_with ks (Some q) d n = distinct_push ks q d (n q refl)
 -- ---- names of processes
 
 -- the child that an accepted report makes was not known
-pub unknown_child : (accepted : List Report) (p : Name) (a : Action) → IsFit accepted p a → (q : Name) → child_of a ≡ Some q → ¬ IsKnown accepted q
-unknown_child accepted p (Fork f) fit q e = λ is_known. fit.0 (subst (IsKnown accepted) (sym (some_name f.child q e)) is_known)
-unknown_child accepted p _ fit q e = absurd (none_some q e)
+pub unknown_child : (accepted : List Report) (r : NumberedReport) (a : Action) → IsFitAction accepted r a → (q : Name) → child_of a ≡ Some q → ¬ IsKnown accepted q
+unknown_child accepted r (Fork f) fit q e = λ is_known. fit.0 (subst (IsKnown accepted) (sym (some_name f.child q e)) is_known)
+unknown_child accepted r _ fit q e = absurd (none_some q e)
 
 -- the process that an accepted report makes was not known
-pub unknown_newborn : (accepted : List Report) (r : Report) → IsAdmission accepted r (Accepted (length accepted + 1)) → (q : Name) → newborn r ≡ Some q → ¬ IsKnown accepted q
-unknown_newborn accepted (Begin p) admitted q e = λ is_known.
-    let none = ap (λ (ks : List Name). length ks) (begins (known accepted) accepted p (length accepted + 1) admitted) in
+pub unknown_newborn : (accepted : List Report) (r : Report) → IsFit accepted r → (q : Name) → newborn r ≡ Some q → ¬ IsKnown accepted q
+unknown_newborn accepted (Begin p) first q e = λ is_known.
+    let none = ap (λ (xs : List Report). length (known xs)) first in
     let some = is_known.1 in
     omega arith
-unknown_newborn accepted (Numbered r) admitted q e = unknown_child accepted r.process r.action (passed_tests accepted r (length accepted + 1) admitted).fit q e
+unknown_newborn accepted (Numbered r) fit q e = unknown_child accepted r r.action fit.fit q e
 
-pub distinct_known : (accepted : List Report) → IsReachable accepted → AreDistinctNames (known accepted)
-distinct_known _ nothing_accepted = λ i j p lt lt' e. absurd (omega arith)
-distinct_known _ (one_more accepted r reach admitted) =
-    subst AreDistinctNames (sym (known-push accepted r)) (distinct_with (known accepted) (newborn r) (distinct_known accepted reach) (unknown_newborn accepted r admitted))
+pub distinct_known : (accepted : List Report) → IsFolded accepted → AreDistinctNames (known accepted)
+distinct_known _ nothing_folded = λ i j p lt lt' e. absurd (omega arith)
+distinct_known _ (one_folded accepted r folded fit) =
+    subst AreDistinctNames (sym (known-push accepted r)) (distinct_with (known accepted) (newborn r) (distinct_known accepted folded) (unknown_newborn accepted r fit))

@@ -1,6 +1,6 @@
 -- What is kept of all processes, after one more report.
 use Rattle.std.proofs.Common.{◌≡◌, ◌≢◌, inl, inr, ℕ, suc, ◌+◌, ◌<◌, ◌≤◌, Bool, true, false, cond, List, [], ◌∷◌, ◌++◌, length, get_or, set, map, Option, Some, None, position, refl, sym, ap, subst, ◌∙◌, arith, append-nil, length-append}
-use Rattle.std.specs.Prelude.{nat_eq, slice_get, count_by}
+use Rattle.std.specs.Prelude.{nat_eq, count_by}
 use Rattle.std.specs.List.{list_any, cons_option, fold}
 use Rattle.std.specs.Option.{is_some, unwrap_or}
 use Rattle.std.specs.Str.{bytes_eq}
@@ -13,14 +13,15 @@ use Rattle.std.proofs.lemmas.Map.Views.{Contains-from_any, list_any-from_Contain
 use Rattle.std.proofs.lemmas.Slice.Eq.{bytes_eq-Decides}
 use Rattle.indexmap.specs.IndexSet.{insert_key}
 use Rattle.report_line.specs.declared.report.Action.{Action}
-use Rattle.report_line.specs.declared.report.Action.TheVariants.{Check, Fork, Retire, Absorb}
+use Rattle.report_line.specs.declared.report.Action.TheVariants.{Check, Fork, Absorb}
 use Rattle.report_line.specs.declared.report.NumberedReport.{NumberedReport}
 use Rattle.report_line.specs.declared.report.Report.{Report}
 use Rattle.report_line.specs.declared.report.Report.TheVariants.{Begin, Numbered}
-use Rattle.chains.specs.Processes.{Name, newborn, child_of, known, IsKnown, first_of, last_passing, is_numbered_of, is_birth_of, is_absorb_of, is_absorbed, target_after, target_of}
+use Rattle.chains.specs.Processes.{Name, newborn, child_of, known, IsKnown, first_of, last_passing, is_numbered_of, is_birth_of, is_absorb_of, is_absorbed, target_after}
 use Rattle.chains.specs.Elements.{name_of, lasting_made, lasting_by}
 use Rattle.report_line.specs.declared.reply.Reply.TheVariants.{Accepted}
-use Rattle.chains.specs.Admission.{IsReachable, IsAdmission, IsActionReply, IsBeginReply, FitsOrNot, report_limit, process_limit}
+use Rattle.chains.specs.Admission.{IsAdmission, report_limit, process_limit}
+use Rattle.chains.specs.Folded.{IsFitReport, IsFolded}
 use Rattle.chains.specs.Keeping.{KeptProcess, kept_of, last_index, indexes_from}
 use Rattle.chains.specs.Noting.{noted, taken, born, is_check, changed_at, names_with, TakenAt, IsKeptByAction}
 use Rattle.chains.specs.Inside.{AreDistinctNames}
@@ -28,7 +29,7 @@ use Rattle.chains.proofs.Lists.{last_index-push}
 use Rattle.chains.proofs.LookUps.{found_name}
 use Rattle.chains.proofs.Keeps.{any_birth}
 use Rattle.chains.proofs.Stepping.{same_bytes, other_bytes, known-push, absorbed-push, none_some, doing}
-use Rattle.chains.proofs.Passed.{Passed, passed, passed_old, standing, stamped, unwaited}
+use Rattle.chains.proofs.Passed.{passed, has_room}
 use Rattle.chains.proofs.Distinct.{unknown_child}
 use Rattle.chains.proofs.Reaching.{well_made}
 use Rattle.chains.proofs.Accepting.{kept_is, reports-push, indexes-push, merged, merged_own, merged_other, merged_absorbed, some_if, kept-push, no_birth, own_lasts, other_lasts}
@@ -67,7 +68,7 @@ one_changed f g change names i p lt here elsewhere =
 
 -- ---- a known process, beside the one that reports
 
-module _ (accepted : List Report) (r : NumberedReport) (i : ℕ) (passed : Passed accepted r) (distinct : AreDistinctNames (known accepted)) (at : name_of accepted i ≡ Some r.process) where
+module _ (accepted : List Report) (r : NumberedReport) (i : ℕ) (fit : IsFitReport accepted r) (distinct : AreDistinctNames (known accepted)) (at : name_of accepted i ≡ Some r.process) where
   within : i < length (known accepted)
   within = slice_get_within (known accepted) i r.process at
 
@@ -76,7 +77,7 @@ module _ (accepted : List Report) (r : NumberedReport) (i : ℕ) (passed : Passe
 
   -- no known process is the child
   old : (q : Name) → IsKnown accepted q → (child : Name) → child_of r.action ≡ Some child → q ≢ child
-  old q is child e same = unknown_child accepted r.process r.action passed.fit child e (subst (IsKnown accepted) same is)
+  old q is child e same = unknown_child accepted r r.action fit.fit child e (subst (IsKnown accepted) same is)
 
   at_known : (j : ℕ) → j < length (known accepted) → IsKnown accepted (get_or (known accepted) j r.process)
   at_known j lt = (j, lt, get_or_default (known accepted) j (get_or (known accepted) j r.process) r.process lt)
@@ -89,7 +90,7 @@ module _ (accepted : List Report) (r : NumberedReport) (i : ℕ) (passed : Passe
   mid q = merged (length accepted) (is_numbered_of q (Numbered r)) (is_some (lasting_made q (Numbered r))) false (kept_of accepted q)
 
   mid_own : mid r.process ≡ noted (length accepted) (is_check r.action) (kept_of accepted r.process)
-  mid_own = rw (same_bytes r.process, own_lasts r r.action (old r.process passed.is_known)) (merged_own (length accepted) (is_check r.action) (kept_of accepted r.process))
+  mid_own = rw (same_bytes r.process, own_lasts r r.action (old r.process fit.is_known)) (merged_own (length accepted) (is_check r.action) (kept_of accepted r.process))
 
   mid_other : (q : Name) → IsKnown accepted q → q ≢ r.process → mid q ≡ kept_of accepted q
   mid_other q is d = rw (other_bytes q r.process d, other_lasts q r r.action d (old q is)) (merged_other (length accepted) (kept_of accepted q))
@@ -153,9 +154,9 @@ none_counted : {X : Type 0} (test : X → Bool) (xs : List X) → list_any test 
 none_counted test xs e = counted_from test 0 xs e
 
 -- what is not known has no report
-pub unknown_none : (accepted : List Report) (q : Name) → IsReachable accepted → ¬ IsKnown accepted q → (list_any (is_birth_of q) accepted ≡ false) × (list_any (is_numbered_of q) accepted ≡ false) × (is_absorbed q accepted ≡ false)
-unknown_none accepted q reach unknown =
-    let made = well_made accepted reach in
+pub unknown_none : (accepted : List Report) (q : Name) → IsFolded accepted → ¬ IsKnown accepted q → (list_any (is_birth_of q) accepted ≡ false) × (list_any (is_numbered_of q) accepted ≡ false) × (is_absorbed q accepted ≡ false)
+unknown_none accepted q folded unknown =
+    let made = well_made accepted folded in
     let unreported = made.unreported q unknown in (
       false_from_ne_true (list_any (is_birth_of q) accepted) (λ e. unknown (Contains-from_any (λ x y h. (bytes_eq-Decides x y).0 h) q (known accepted) (any_birth q accepted ∙ e))),
       none_passes (is_numbered_of q) accepted unreported,
@@ -163,10 +164,10 @@ unknown_none accepted q reach unknown =
     )
 
 -- what is kept of a process that is born
-pub kept_born : (accepted : List Report) (x : Report) (q : Name) → IsReachable accepted → ¬ IsKnown accepted q → is_birth_of q x ≡ true → is_numbered_of q x ≡ false → is_some (lasting_made q x) ≡ true → is_absorb_of q x ≡ false
+pub kept_born : (accepted : List Report) (x : Report) (q : Name) → IsFolded accepted → ¬ IsKnown accepted q → is_birth_of q x ≡ true → is_numbered_of q x ≡ false → is_some (lasting_made q x) ≡ true → is_absorb_of q x ≡ false
     → kept_of (accepted ++ x ∷ []) q ≡ born (length accepted)
-kept_born accepted x q reach unknown birth number lasts absorbs =
-    let none = unknown_none accepted q reach unknown in
+kept_born accepted x q folded unknown birth number lasts absorbs =
+    let none = unknown_none accepted q folded unknown in
     kept_is _ _ _ _ _ _ _ _ _ _
     (reports-push q accepted x ∙ rw (none_counted (is_numbered_of q) accepted none.1, number) refl)
     (last_index-push (is_numbered_of q) accepted x ∙ rw (none_index (is_numbered_of q) accepted none.1, number) refl)
@@ -182,60 +183,40 @@ new_name accepted q unknown =
 
 -- ---- a retirement that is absorbed
 
-pub kept_taken : (accepted : List Report) (r : NumberedReport) (retired : Name) (i : ℕ) (o : Option ℕ) (after : List KeptProcess) → Passed accepted (doing r (Absorb retired)) → AreDistinctNames (known accepted) → name_of accepted i ≡ Some r.process
+pub kept_taken : (accepted : List Report) (r : NumberedReport) (retired : Name) (i : ℕ) (o : Option ℕ) (after : List KeptProcess) → IsFitReport accepted (doing r (Absorb retired)) → AreDistinctNames (known accepted) → name_of accepted i ≡ Some r.process
     → position (pointwise nat_eq retired) (known accepted) ≡ o → TakenAt (known accepted) retired o (changed_at (noted (length accepted) false) i (map (kept_of accepted) (known accepted))) after
     → after ≡ map (kept_of (accepted ++ Numbered (doing r (Absorb retired)) ∷ [])) (known accepted)
-kept_taken accepted r retired i None after passed distinct at e is =
+kept_taken accepted r retired i None after fit distinct at e is =
     let absent : ¬ IsKnown accepted retired = λ there. true≢false (sym (list_any-from_Contains nat_list_eq_equiv retired (known accepted) there) ∙ is.0) in
     let own = doing r (Absorb retired) in
     let kept = kept_of (accepted ++ Numbered own ∷ []) in
-    let m = mid accepted own i passed distinct at in
-    is.1 ∙ sym (mid_all accepted own i passed distinct at)
+    let m = mid accepted own i fit distinct at in
+    is.1 ∙ sym (mid_all accepted own i fit distinct at)
     ∙ sym (same_family kept m (known accepted) r.process (λ k lt.
     let there : IsKnown accepted (get_or (known accepted) k r.process) = (k, lt, get_or_default (known accepted) k (get_or (known accepted) k r.process) r.process lt) in
-    kept_mid accepted own i passed distinct at (get_or (known accepted) k r.process) there (other_bytes (get_or (known accepted) k r.process) retired (λ f. absent (subst (IsKnown accepted) f there)))))
-kept_taken accepted r retired i (Some j) after passed distinct at e is =
+    kept_mid accepted own i fit distinct at (get_or (known accepted) k r.process) there (other_bytes (get_or (known accepted) k r.process) retired (λ f. absent (subst (IsKnown accepted) f there)))))
+kept_taken accepted r retired i (Some j) after fit distinct at e is =
     let found = found_name (known accepted) accepted retired j refl e in
     let own = doing r (Absorb retired) in
     let x = Numbered own in
     let here_known : IsKnown accepted retired = (j, found.0, found.1) in
     let kept = kept_of (accepted ++ x ∷ []) in
-    let m = mid accepted own i passed distinct at in
+    let m = mid accepted own i fit distinct at in
     let here : kept (get_or (known accepted) j retired) ≡ taken (m (get_or (known accepted) j retired)) =
     rw found.1 (kept-push accepted x retired (no_birth retired r (Absorb retired) (λ child f. absurd (none_some child f))) ∙ ap (λ (b : Bool). merged (length accepted) (is_numbered_of retired x) (is_some (lasting_made retired x)) b (kept_of accepted retired)) (same_bytes retired)
     ∙ merged_absorbed (length accepted) (is_numbered_of retired x) (is_some (lasting_made retired x)) (kept_of accepted retired)) in
     let elsewhere : (k : ℕ) → k < length (known accepted) → k ≢ j → kept (get_or (known accepted) k retired) ≡ m (get_or (known accepted) k retired) =
-    λ k lt d. kept_mid accepted own i passed distinct at (get_or (known accepted) k retired) (k, lt, get_or_default (known accepted) k (get_or (known accepted) k retired) retired lt)
+    λ k lt d. kept_mid accepted own i fit distinct at (get_or (known accepted) k retired) (k, lt, get_or_default (known accepted) k (get_or (known accepted) k retired) retired lt)
     (other_bytes (get_or (known accepted) k retired) retired (λ f. d (distinct k j retired lt found.0 (f ∙ sym found.1)))) in
-    is ∙ ap (changed_at taken j) (sym (mid_all accepted own i passed distinct at)) ∙ sym (one_changed kept m taken (known accepted) j retired found.0 here elsewhere)
+    is ∙ ap (changed_at taken j) (sym (mid_all accepted own i fit distinct at)) ∙ sym (one_changed kept m taken (known accepted) j retired found.0 here elsewhere)
 
 -- ---- all together
-
-fits_action : (accepted : List Report) (r : NumberedReport) (a : Action) (front : ℕ) → IsActionReply accepted r a (Accepted front) → FitsOrNot accepted (Numbered r) (Accepted front)
-fits_action accepted r (Fork f) front h = (passed (passed h).1).1
-fits_action accepted r (Retire target) front h = (passed h).1
-fits_action accepted r (Absorb retired) front h = (passed h).1
-fits_action accepted r _ front h = h
-
-fits_begin : (o : Option Name) (accepted : List Report) (p : Name) (front : ℕ) → IsBeginReply o accepted p (Accepted front) → FitsOrNot accepted (Begin p) (Accepted front)
-fits_begin None accepted p front h = h
-fits_begin (Some q) accepted p front h = absurd (let e = (passed h).1 in cc)
 
 not_at_least : (m n : ℕ) → ¬ (m ≤ n) → n < m
 not_at_least m n h = elim (cases_lt n m) [ inl lt ↦ lt | inr le ↦ absurd (h le) ]
 
--- what is accepted has room
-fits_numbered : (accepted : List Report) (r : NumberedReport) (front : ℕ) → IsAdmission accepted (Numbered r) (Accepted front) → FitsOrNot accepted (Numbered r) (Accepted front)
-fits_numbered accepted r front h =
-    let t = standing (target_of r.process accepted) accepted r front (passed_old (passed (passed h).1).1).1 in
-    fits_action accepted r r.action front (stamped accepted r r.action front (unwaited accepted r r.action front t.1)).2
-
-fits : (accepted : List Report) (r : Report) → IsAdmission accepted r (Accepted (length accepted + 1)) → FitsOrNot accepted r (Accepted (length accepted + 1))
-fits accepted (Begin p) h = fits_begin (slice_get (known accepted) 0) accepted p (length accepted + 1) h
-fits accepted (Numbered r) h = fits_numbered accepted r (length accepted + 1) h
-
 pub few_after : (accepted : List Report) (r : Report) → IsAdmission accepted r (Accepted (length accepted + 1)) → length (accepted ++ r ∷ []) ≤ report_limit
-few_after accepted r h = let full = (passed (fits accepted r h)).0 in omega (arith, length-append accepted (r ∷ []), full)
+few_after accepted r h = let full = (passed (has_room accepted r (length accepted + 1) h)).0 in omega (arith, length-append accepted (r ∷ []), full)
 
 -- how many are known is within the limit, where none is born or there was room for one
 known_within : (accepted : List Report) (r : Report) (o : Option Name) → newborn r ≡ o → length (known accepted) ≤ process_limit → ((o ≢ None) → length (known accepted) < process_limit) → length (known (accepted ++ r ∷ [])) ≤ process_limit
@@ -244,7 +225,7 @@ known_within accepted r (Some q) e few room = omega (arith, room (λ f. cc), ap 
 
 pub few_known_after : (accepted : List Report) (r : Report) → IsAdmission accepted r (Accepted (length accepted + 1)) → length (known accepted) ≤ process_limit → length (known (accepted ++ r ∷ [])) ≤ process_limit
 few_known_after accepted r h few =
-    let full = (passed (passed (fits accepted r h)).1).0 in
+    let full = (passed (passed (has_room accepted r (length accepted + 1) h)).1).0 in
     known_within accepted r (newborn r) refl few (λ some. not_at_least process_limit (length (known accepted)) (λ le. full (some, le)))
 
 plain : (accepted : List Report) (r : NumberedReport) (after : List KeptProcess) → child_of r.action ≡ None → after ≡ map (kept_of (accepted ++ Numbered r ∷ [])) (known accepted)
@@ -253,23 +234,23 @@ plain accepted r after none is =
     let same : known (accepted ++ Numbered r ∷ []) ≡ known accepted = known-push accepted (Numbered r) ∙ ap (λ (o : Option Name). known accepted ++ cons_option o []) none ∙ append-nil (known accepted) in
     (ap (names_with (known accepted)) none ∙ sym same, is ∙ sym (ap (map (kept_of (accepted ++ Numbered r ∷ []))) same))
 
-pub in_order_numbered : (accepted : List Report) (r : NumberedReport) (a : Action) (i : ℕ) (after : List KeptProcess) → IsReachable accepted → AreDistinctNames (known accepted) → name_of accepted i ≡ Some r.process
-    → Passed accepted (doing r a) → IsKeptByAction (known accepted) (changed_at (noted (length accepted) (is_check a)) i (map (kept_of accepted) (known accepted))) a (length accepted) after
+pub in_order_numbered : (accepted : List Report) (r : NumberedReport) (a : Action) (i : ℕ) (after : List KeptProcess) → IsFolded accepted → AreDistinctNames (known accepted) → name_of accepted i ≡ Some r.process
+    → IsFitReport accepted (doing r a) → IsKeptByAction (known accepted) (changed_at (noted (length accepted) (is_check a)) i (map (kept_of accepted) (known accepted))) a (length accepted) after
     → (names_with (known accepted) (child_of a) ≡ known (accepted ++ Numbered (doing r a) ∷ [])) × (after ≡ map (kept_of (accepted ++ Numbered (doing r a) ∷ [])) (known (accepted ++ Numbered (doing r a) ∷ [])))
-in_order_numbered accepted r (Absorb retired) i after reach distinct at passed is =
-    plain accepted (doing r (Absorb retired)) after refl (kept_taken accepted r retired i (position (pointwise nat_eq retired) (known accepted)) after passed distinct at refl is)
-in_order_numbered accepted r (Fork f) i after reach distinct at passed is =
+in_order_numbered accepted r (Absorb retired) i after folded distinct at fit is =
+    plain accepted (doing r (Absorb retired)) after refl (kept_taken accepted r retired i (position (pointwise nat_eq retired) (known accepted)) after fit distinct at refl is)
+in_order_numbered accepted r (Fork f) i after folded distinct at fit is =
     let own = doing r (Fork f) in
     let x = Numbered own in
     let child = f.child in
-    let unknown : ¬ IsKnown accepted child = passed.fit.0 in
-    let other : child ≢ r.process = λ e. unknown (subst (IsKnown accepted) (sym e) passed.is_known) in
+    let unknown : ¬ IsKnown accepted child = fit.fit.0 in
+    let other : child ≢ r.process = λ e. unknown (subst (IsKnown accepted) (sym e) fit.is_known) in
     let known_is : known (accepted ++ x ∷ []) ≡ known accepted ++ child ∷ [] = known-push accepted x in
-    let last : kept_of (accepted ++ x ∷ []) child ≡ born (length accepted) = kept_born accepted x child reach unknown (same_bytes child) (other_bytes child r.process other) (some_if (bytes_eq child child) _ ∙ same_bytes child) refl in (
+    let last : kept_of (accepted ++ x ∷ []) child ≡ born (length accepted) = kept_born accepted x child folded unknown (same_bytes child) (other_bytes child r.process other) (some_if (bytes_eq child child) _ ∙ same_bytes child) refl in (
       new_name accepted child unknown ∙ sym known_is,
-      is ∙ ap (λ (l : List KeptProcess). l ++ born (length accepted) ∷ []) (sym (kept_plain accepted own i passed distinct at (λ q. refl)))
+      is ∙ ap (λ (l : List KeptProcess). l ++ born (length accepted) ∷ []) (sym (kept_plain accepted own i fit distinct at (λ q. refl)))
           ∙ ap (λ (k : KeptProcess). map (kept_of (accepted ++ x ∷ [])) (known accepted) ++ k ∷ []) (sym last)
           ∙ sym (ap (map (kept_of (accepted ++ x ∷ []))) known_is ∙ map-append (kept_of (accepted ++ x ∷ [])) (known accepted) (child ∷ [])),
     )
-in_order_numbered accepted r a i after reach distinct at passed is =
-    plain accepted (doing r a) after refl (is ∙ sym (kept_plain accepted (doing r a) i passed distinct at (λ q. refl)))
+in_order_numbered accepted r a i after folded distinct at fit is =
+    plain accepted (doing r a) after refl (is ∙ sym (kept_plain accepted (doing r a) i fit distinct at (λ q. refl)))

@@ -8,11 +8,13 @@ pub mod Partners
 pub mod Stepping
 pub mod Certain
 pub mod Passed
+pub mod Folding
 pub mod Distinct
 pub mod Parts
 pub mod Made
 pub mod Reaching
 pub mod Accepting
+pub mod Numbering
 pub mod InOrder
 pub mod AfterReport
 pub mod Reserved

@@ -15,9 +15,9 @@ use Rattle.report_line.specs.declared.report.NumberedReport.{NumberedReport}
 use Rattle.report_line.specs.declared.report.Report.{Report}
 use Rattle.report_line.specs.declared.report.Report.TheVariants.{Begin, Numbered}
 use Rattle.chains.specs.Processes.{Name, newborn, IsKnown, is_birth_of, is_absorb_of, absorbs, last_report, id_kept, registered_id, target_after, target_of, is_absorbed}
+use Rattle.chains.specs.Folded.{IsFitAction, IsFitReport}
 use Rattle.chains.specs.Laws.{Holds}
 use Rattle.chains.proofs.Certain.{known_or_not}
-use Rattle.chains.proofs.Passed.{Passed, IsFit}
 use Rattle.chains.proofs.Stepping.{none_some, some_name, same_bytes, other_bytes, same_or_other, still_known, known_new, known_cases, absorbed-push, other_report, other_target, own_id, other_id, child_id, doing}
 use Rattle.chains.proofs.Parts.{AreParts, parts_same, IsForked, parts_fork, IsAbsorbed, parts_absorb}
 
@@ -50,30 +50,30 @@ held : (accepted : List Report) (r : Report) (q : Name) → newborn r ≡ None �
 held accepted r q none h = record { is_known = same_known accepted r q none h.is_known; unabsorbed = (unabsorbed accepted r q h.unabsorbed).0 }
 
 -- a process that reports holds
-reporting : (accepted : List Report) (r : NumberedReport) → IsWellMade accepted → Passed accepted r → Holds accepted r.process
+reporting : (accepted : List Report) (r : NumberedReport) → IsWellMade accepted → IsFitReport accepted r → Holds accepted r.process
 reporting accepted r made h = record { is_known = h.is_known; unabsorbed = false_from_ne_true (is_absorbed r.process accepted) (λ e. made.retired r.process e h.living) }
 
 -- ---- a report with a number
 
-unreported_after : (accepted : List Report) (q : Name) (r : NumberedReport) → IsWellMade accepted → Passed accepted r
+unreported_after : (accepted : List Report) (q : Name) (r : NumberedReport) → IsWellMade accepted → IsFitReport accepted r
     → ¬ IsKnown (accepted ++ Numbered r ∷ []) q → last_report q (accepted ++ Numbered r ∷ []) ≡ None
 unreported_after accepted q r made h unknown =
     let before = λ (k : IsKnown accepted q). unknown (still_known accepted (Numbered r) q k) in
     other_report accepted q r (λ e. before (subst (IsKnown accepted) (sym e) h.is_known)) ∙ made.unreported q before
 
-absorbed_from : (accepted : List Report) (p q : Name) (a : Action) → IsFit accepted p a → absorbs q a ≡ true → target_of q accepted ≡ Some p
-absorbed_from accepted p q (Absorb retired) fit e = ap (λ (m : Name). target_of m accepted) ((bytes_eq-Decides q retired).0 e) ∙ fit.0
-absorbed_from accepted p q _ fit e = absurd (true≢false (sym e))
+absorbed_from : (accepted : List Report) (r : NumberedReport) (q : Name) (a : Action) → IsFitAction accepted r a → absorbs q a ≡ true → target_of q accepted ≡ Some r.process
+absorbed_from accepted r q (Absorb retired) fit e = ap (λ (m : Name). target_of m accepted) ((bytes_eq-Decides q retired).0 e) ∙ fit.0.0
+absorbed_from accepted r q _ fit e = absurd (true≢false (sym e))
 
-retired_before : (accepted : List Report) (q : Name) (r : NumberedReport) → IsWellMade accepted → Passed accepted r
+retired_before : (accepted : List Report) (q : Name) (r : NumberedReport) → IsWellMade accepted → IsFitReport accepted r
     → is_absorbed q (accepted ++ Numbered r ∷ []) ≡ true → target_of q accepted ≢ None
 retired_before accepted q r made h e =
     elim (or_cases (is_absorbed q accepted) (is_absorb_of q (Numbered r)) (sym (absorbed-push q accepted (Numbered r)) ∙ e)) [
       | inl before ↦ made.retired q before
-      | inr now ↦ λ none. none_some r.process (sym none ∙ absorbed_from accepted r.process q r.action h.fit now)
+      | inr now ↦ λ none. none_some r.process (sym none ∙ absorbed_from accepted r q r.action h.fit now)
     ]
 
-retired_after : (accepted : List Report) (q : Name) (r : NumberedReport) → IsWellMade accepted → Passed accepted r
+retired_after : (accepted : List Report) (q : Name) (r : NumberedReport) → IsWellMade accepted → IsFitReport accepted r
     → is_absorbed q (accepted ++ Numbered r ∷ []) ≡ true → target_of q (accepted ++ Numbered r ∷ []) ≢ None
 retired_after accepted q r made h e none =
     let before = retired_before accepted q r made h e in
@@ -100,7 +100,7 @@ after_same accepted r none spared same parts =
     (λ q h. still_holds accepted (Numbered r) q (spared q) h)
     (λ q. same_id accepted q r none same)
 
-fork_step : (accepted : List Report) (r : NumberedReport) (f : Forked) → IsWellMade accepted → Passed accepted (doing r (Fork f))
+fork_step : (accepted : List Report) (r : NumberedReport) (f : Forked) → IsWellMade accepted → IsFitReport accepted (doing r (Fork f))
     → IsForked (Holds accepted) (Holds (accepted ++ Numbered (doing r (Fork f)) ∷ [])) (λ q. registered_id q accepted) (λ q. registered_id q (accepted ++ Numbered (doing r (Fork f)) ∷ [])) r.process f.child
 fork_step accepted r f made h =
     let x = Numbered (doing r (Fork f)) in
@@ -130,26 +130,26 @@ waiting_holds accepted p retired made target spared = record {
   unabsorbed = spared;
 }
 
-absorb_step : (accepted : List Report) (r : NumberedReport) (retired : Name) → IsWellMade accepted → Passed accepted (doing r (Absorb retired))
+absorb_step : (accepted : List Report) (r : NumberedReport) (retired : Name) → IsWellMade accepted → IsFitReport accepted (doing r (Absorb retired))
     → IsAbsorbed (Holds accepted) (Holds (accepted ++ Numbered (doing r (Absorb retired)) ∷ [])) (λ q. registered_id q accepted) (λ q. registered_id q (accepted ++ Numbered (doing r (Absorb retired)) ∷ [])) r.process retired
 absorb_step accepted r retired made h =
     let x = Numbered (doing r (Absorb retired)) in
     record {
       absorbing = reporting accepted (doing r (Absorb retired)) made h;
-      waiting = waiting_holds accepted r.process retired made h.fit.0 h.fit.1;
-      apart = λ e. none_some r.process (sym h.living ∙ ap (λ (m : Name). target_of m accepted) e ∙ h.fit.0);
+      waiting = waiting_holds accepted r.process retired made h.fit.0.0 h.fit.0.1;
+      apart = λ e. none_some r.process (sym h.living ∙ ap (λ (m : Name). target_of m accepted) e ∙ h.fit.0.0);
       back = λ q k. (held accepted x q refl k, λ e. true≢false (sym ((bytes_eq-Decides q retired).1 e) ∙ (unabsorbed accepted x q k.unabsorbed).1));
       forth = λ q k m. still_holds accepted x q (other_bytes q retired m) k;
       joined = sum_together (registered_id r.process accepted) (registered_id retired accepted) (registered_id r.process (accepted ++ x ∷ [])) (own_id accepted (doing r (Absorb retired)) ∙ h.id);
       others = λ q k m. other_id accepted q (doing r (Absorb retired)) m refl;
     }
 
-parts_after : (accepted : List Report) (r : NumberedReport) (a : Action) → IsWellMade accepted → Passed accepted (doing r a) → HoldParts (accepted ++ Numbered (doing r a) ∷ [])
+parts_after : (accepted : List Report) (r : NumberedReport) (a : Action) → IsWellMade accepted → IsFitReport accepted (doing r a) → HoldParts (accepted ++ Numbered (doing r a) ∷ [])
 parts_after accepted r (Fork f) made h = parts_fork (made.parts h.begun) (fork_step accepted r f made h)
 parts_after accepted r (Absorb retired) made h = parts_absorb (made.parts h.begun) (absorb_step accepted r retired made h)
 parts_after accepted r a made h = after_same accepted (doing r a) refl (λ q. refl) h.id (made.parts h.begun)
 
-pub made_after : (accepted : List Report) (r : NumberedReport) → IsWellMade accepted → Passed accepted r → IsWellMade (accepted ++ Numbered r ∷ [])
+pub made_after : (accepted : List Report) (r : NumberedReport) → IsWellMade accepted → IsFitReport accepted r → IsWellMade (accepted ++ Numbered r ∷ [])
 made_after accepted r made h = record {
   unreported = λ q unknown. unreported_after accepted q r made h unknown;
   retired = λ q e. retired_after accepted q r made h e;

@@ -1,4 +1,4 @@
--- What holds of each list that admission reaches.
+-- What holds of each folded list.
 use Rattle.std.specs.Prelude.{◌≡◌, ◌≢◌, List, [], ◌∷◌, ◌++◌, false, IsTrue}
 use Rattle.id_tree.specs.Points.{Point, owns, OwnsSome, AreDisjoint}
 use Rattle.event_tree.specs.Values.{IsAtOrBelow}

@@ -1,5 +1,6 @@
 pub mod Processes
 pub mod Admission
+pub mod Folded
 pub mod Elements
 pub mod Positions
 pub mod Knowledge

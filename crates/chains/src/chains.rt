@@ -1,6 +1,6 @@
 //! The accepted reports, and what they say of processes.
 
-ghost use Rattle.std.specs.Prelude.{◌≡◌, ◌≢◌, ◌≤◌, ◌<◌, ◌+◌, ◌∷◌, ◌++◌, ℕ, [], ⊤, IfOk, MatchResult, MatchOption, IsTrue, ◌↔◌, OnOk, length, slice_get, option_copied, Some, None, true, map, min, vec_len, vec_capacity, ◌-◌, ◌^◌, nat_eq, slice_index_or, slice_set};
+ghost use Rattle.std.specs.Prelude.{◌≡◌, ◌≢◌, ◌≤◌, ◌<◌, ◌+◌, ◌∷◌, ◌++◌, ℕ, [], ⊤, IfOk, MatchResult, MatchOption, IsTrue, ◌↔◌, OnOk, List, Contains, length, slice_get, option_copied, Some, None, true, map, min, vec_len, vec_capacity, ◌-◌, ◌^◌, nat_eq, slice_index_or, slice_set};
 ghost use Rattle.std.specs.Option.{option_map};
 ghost use Rattle.report_line.specs.declared.reply.Reply.TheVariants.{Accepted};
 ghost use Rattle.report_line.specs.View.{action_of};
@@ -13,6 +13,7 @@ ghost use Rattle.chains.specs.Positions.{IsLastSurviving};
 ghost use Rattle.chains.specs.Knowledge.{events_at, retired_events};
 ghost use Rattle.chains.specs.States.{IsStateOf};
 ghost use Rattle.chains.specs.Admission.{IsReachable, IsAdmission, report_limit, process_limit};
+ghost use Rattle.chains.specs.Folded.{IsFolded};
 ghost use Rattle.chains.specs.Kept.{Kept, HasRoomFor};
 ghost use Rattle.chains.specs.Inside.{first_stamp};
 ghost use Rattle.chains.specs.Answers.{IsReady, MayBeAccepted, Prepares, Commits, IsNumberOf, reply_of};
@@ -113,6 +114,7 @@ impl Chains {
     /// Tells a proof what holds of all chains.
     pub fn lawful(&self)
         ensures reachable { IsReachable self.now.accepted }
+        ensures folded { IsFolded self.now.accepted }
         ensures few { length self.now.accepted ≤ report_limit }
         ensures few_known { length (known self.now.accepted) ≤ process_limit }
         // The ids of live processes and of retirements that wait.
@@ -153,7 +155,7 @@ impl Chains {
     }
 
     /// The number of the process of this name, counted from 0 in order of birth.
-    pub(crate) fn number_of(&self, name: &Name) -> Option<u32>
+    pub fn number_of(&self, name: &Name) -> Option<u32>
         ensures { MatchOption result (¬ IsKnown self.now.accepted name.now) (λ p. name_of self.now.accepted p ≡ Some name.now) }
     {
         if is_at(&self.names, self.recent, name) {
@@ -347,10 +349,19 @@ impl Chains {
         requires { process < length (known self.now.accepted) }
         ensures { IsLastSurviving self.now.accepted failed.now process result }
     {
+        self.last_surviving_if(process, failed.contains(process))
+    }
+
+    /// The last surviving position of a process by its number, where it is said whether that process failed: for those who
+    /// have no `Failed` and do not make one, as it takes memory.
+    pub fn last_surviving_if(&self, process: u32, is_failed: bool) -> Position
+        requires { process < length (known self.now.accepted) }
+        ensures { (failed : List ℕ) → (IsTrue is_failed ↔ Contains failed process) → IsLastSurviving self.now.accepted failed process result }
+    {
         if self.target_of(process).is_some() {
             return Position::Retired;
         }
-        if failed.contains(process) {
+        if is_failed {
             Position::At(self.lasting_count(process))
         } else {
             Position::At(self.element_count(process))

@@ -16,7 +16,7 @@ use Rattle.chains.specs.Processes.{Name, last_events, target_of}
 use Rattle.chains.specs.Elements.{name_of, elements_of, elements, element}
 use Rattle.chains.specs.Positions.{is_retired, last_rank, position_at, place_at}
 use Rattle.chains.specs.Knowledge.{retired_events, events_at, Knows}
-use Rattle.chains.specs.Admission.{IsReachable}
+use Rattle.chains.specs.Folded.{IsFolded}
 use Rattle.knows_row.specs.Knowing.{KnowsAt, KnowsRank}
 use Rattle.knows_row.proofs.Rising.{Rise, nothing_below, below_same, below_top, below_later, elements_rise}
 
@@ -50,9 +50,9 @@ of_end accepted p x lt = ap (λ (k : Position). events_at accepted (record { pro
 abbrev pub top : List Report → Option Name → EventTree
 top accepted o = option_map_or (λ name. last_events name accepted) o (Leaf 0)
 
-rise_named : (accepted : List Report) (o : Option Name) → IsReachable accepted → Rise (Leaf 0) (option_map_or (λ name. elements_of name accepted) o []) (top accepted o)
-rise_named accepted None reach = nothing_below (Leaf 0)
-rise_named accepted (Some p) reach = elements_rise p accepted reach
+rise_named : (accepted : List Report) (o : Option Name) → IsFolded accepted → Rise (Leaf 0) (option_map_or (λ name. elements_of name accepted) o []) (top accepted o)
+rise_named accepted None folded = nothing_below (Leaf 0)
+rise_named accepted (Some p) folded = elements_rise p accepted folded
 
 end_named : (accepted : List Report) (o : Option Name) (b : Bool) → option_map_or (λ name. is_some (target_of name accepted)) o false ≡ b → b ≡ true → cond b (option_map (λ name. last_events name accepted) o) None ≡ Some (top accepted o)
 end_named accepted None b is e = absurd (true≢false (sym e ∙ sym is))
@@ -71,38 +71,38 @@ read_events None e h = absurd cc
 read_events (Some s) e h = (s, refl, cc)
 
 -- the events of an element are at or below the last ones
-element_below : (accepted : List Report) (p x : ℕ) (e : EventTree) → IsReachable accepted → option_map (λ (y : Stamp). y.events) (element accepted p x) ≡ Some e → IsAtOrBelow e (top accepted (name_of accepted p))
-element_below accepted p zero e reach h = absurd cc
-element_below accepted p (suc i) e reach h =
+element_below : (accepted : List Report) (p x : ℕ) (e : EventTree) → IsFolded accepted → option_map (λ (y : Stamp). y.events) (element accepted p x) ≡ Some e → IsAtOrBelow e (top accepted (name_of accepted p))
+element_below accepted p zero e folded h = absurd cc
+element_below accepted p (suc i) e folded h =
     let s = read_events (slice_get (elements accepted p) i) e h in
-    subst (λ (f : EventTree). IsAtOrBelow f (top accepted (name_of accepted p))) s.2 (below_top (Leaf 0) (elements accepted p) (top accepted (name_of accepted p)) i s.0 (rise_named accepted (name_of accepted p) reach) s.1)
+    subst (λ (f : EventTree). IsAtOrBelow f (top accepted (name_of accepted p))) s.2 (below_top (Leaf 0) (elements accepted p) (top accepted (name_of accepted p)) i s.0 (rise_named accepted (name_of accepted p) folded) s.1)
 
 -- and at or below those of a later element
-element_later : (accepted : List Report) (p x y : ℕ) (e : EventTree) → IsReachable accepted → x ≤ y → y ≤ length (elements accepted p) → option_map (λ (s : Stamp). s.events) (element accepted p x) ≡ Some e
+element_later : (accepted : List Report) (p x y : ℕ) (e : EventTree) → IsFolded accepted → x ≤ y → y ≤ length (elements accepted p) → option_map (λ (s : Stamp). s.events) (element accepted p x) ≡ Some e
     → (f : EventTree) × (option_map (λ (s : Stamp). s.events) (element accepted p y) ≡ Some f) × IsAtOrBelow e f
-element_later accepted p zero y e reach le within h = absurd cc
-element_later accepted p (suc i) zero e reach le within h = absurd (omega arith)
-element_later accepted p (suc i) (suc j) e reach le within h =
+element_later accepted p zero y e folded le within h = absurd cc
+element_later accepted p (suc i) zero e folded le within h = absurd (omega arith)
+element_later accepted p (suc i) (suc j) e folded le within h =
     let s = read_events (slice_get (elements accepted p) i) e h in
     let t = get_or (elements accepted p) j s.0 in
     let there = slice_get-get_or (elements accepted p) j s.0 (omega arith) in (
       t.events,
       ap (λ (o : Option Stamp). option_map (λ (s : Stamp). s.events) o) there,
-      subst (λ (f : EventTree). IsAtOrBelow f t.events) s.2 (below_later (Leaf 0) (elements accepted p) (top accepted (name_of accepted p)) i j s.0 t (rise_named accepted (name_of accepted p) reach) (omega arith) s.1 there),
+      subst (λ (f : EventTree). IsAtOrBelow f t.events) s.2 (below_later (Leaf 0) (elements accepted p) (top accepted (name_of accepted p)) i j s.0 t (rise_named accepted (name_of accepted p) folded) (omega arith) s.1 there),
     )
 
-later_events : (accepted : List Report) (p x y : ℕ) (e : EventTree) → IsReachable accepted → x ≤ y → y ≤ last_rank accepted p → events_of_rank accepted p x ≡ Some e
+later_events : (accepted : List Report) (p x y : ℕ) (e : EventTree) → IsFolded accepted → x ≤ y → y ≤ last_rank accepted p → events_of_rank accepted p x ≡ Some e
     → (f : EventTree) × (events_of_rank accepted p y ≡ Some f) × IsAtOrBelow e f
-later_events accepted p x y e reach le within h = elim (cases_lt (length (elements accepted p)) y) [
+later_events accepted p x y e folded le within h = elim (cases_lt (length (elements accepted p)) y) [
   | inl past ↦
       let is_last = retired_top accepted p (retired_rank (is_retired accepted p) (length (elements accepted p)) y within past) in
       let end = of_end accepted p y past ∙ is_last in
       elim (cases_lt (length (elements accepted p)) x) [
         | inl also ↦ (top accepted (name_of accepted p), end, below_same e (top accepted (name_of accepted p)) (same_Some e _ (sym h ∙ of_end accepted p x also ∙ is_last)))
-        | inr before ↦ (top accepted (name_of accepted p), end, element_below accepted p x e reach (sym (of_element accepted p x before) ∙ h))
+        | inr before ↦ (top accepted (name_of accepted p), end, element_below accepted p x e folded (sym (of_element accepted p x before) ∙ h))
       ]
   | inr before ↦
-      let later = element_later accepted p x y e reach le before (sym (of_element accepted p x (omega arith)) ∙ h) in
+      let later = element_later accepted p x y e folded le before (sym (of_element accepted p x (omega arith)) ∙ h) in
       (later.0, of_element accepted p y before ∙ later.1, later.2)
 ]
 
@@ -110,9 +110,9 @@ exceeds_more : (i : IdTree) (e f g : EventTree) → IsAtOrBelow e f → ExceedsO
 exceeds_more i e f g le h = (h.0, h.1, let a = le h.0 in let b = h.2 in omega arith)
 
 -- what is known at a place is known at each later one
-pub later_at : (accepted : List Report) (p x y q k : ℕ) → IsReachable accepted → x ≤ y → y ≤ last_rank accepted p → KnowsAt accepted (place_at accepted p x) q k → KnowsAt accepted (place_at accepted p y) q k
-later_at accepted p x y q k reach le within h =
-    let later = later_events accepted p x y h.beyond.events reach le within h.beyond.there in
+pub later_at : (accepted : List Report) (p x y q k : ℕ) → IsFolded accepted → x ≤ y → y ≤ last_rank accepted p → KnowsAt accepted (place_at accepted p x) q k → KnowsAt accepted (place_at accepted p y) q k
+later_at accepted p x y q k folded le within h =
+    let later = later_events accepted p x y h.beyond.events folded le within h.beyond.there in
     record {
       other = h.other;
       stamp = h.stamp;
@@ -141,10 +141,10 @@ at_from_rank accepted p x q j h = elim (cases_lt (length (elements accepted q)) 
   | inr before ↦ at_from_knows accepted (place_at accepted p x) q j (subst (λ (at : Position). Knows accepted (place_at accepted p x) q at) (at_element accepted q j before) h)
 ]
 
-pub later : (accepted : List Report) (p x y q k : ℕ) → IsReachable accepted → x ≤ y → y ≤ last_rank accepted p → KnowsRank accepted p x q k → KnowsRank accepted p y q k
-later accepted p x y q k reach le within h =
+pub later : (accepted : List Report) (p x y q k : ℕ) → IsFolded accepted → x ≤ y → y ≤ last_rank accepted p → KnowsRank accepted p x q k → KnowsRank accepted p y q k
+later accepted p x y q k folded le within h =
     let at = at_from_rank accepted p x q k h in
-    rank_from_at accepted p y q k at.0 at.1 (later_at accepted p x y q at.0 reach le within at.2)
+    rank_from_at accepted p y q k at.0 at.1 (later_at accepted p x y q at.0 folded le within at.2)
 
 pub earlier : (accepted : List Report) (p x q j k : ℕ) → j ≤ k → KnowsRank accepted p x q k → KnowsRank accepted p x q j
 earlier accepted p x q j k le h =

@@ -1,5 +1,5 @@
 -- The events of a process from element to element.
-use Rattle.std.proofs.Common.{◌≡◌, ◌≢◌, inl, inr, ℕ, zero, suc, ◌+◌, ◌≤◌, Bool, true, false, List, [], ◌∷◌, ◌++◌, length, Option, Some, None, refl, sym, ap, subst, ◌∙◌, arith, append-nil}
+use Rattle.std.proofs.Common.{◌≡◌, ◌≢◌, inl, inr, ℕ, zero, suc, ◌≤◌, Bool, true, false, List, [], ◌∷◌, ◌++◌, Option, Some, None, refl, sym, ap, subst, ◌∙◌, arith, append-nil}
 use Rattle.std.specs.Prelude.{⊤, slice_get}
 use Rattle.std.specs.List.{list_any, cons_option}
 use Rattle.std.specs.Str.{bytes_eq}
@@ -18,11 +18,10 @@ use Rattle.report_line.specs.declared.report.Report.{Report}
 use Rattle.report_line.specs.declared.report.Report.TheVariants.{Begin, Numbered}
 use Rattle.chains.specs.Processes.{Name, IsKnown, first_of, last_passing, is_birth_of, last_report, birth_report, events_after, last_events}
 use Rattle.chains.specs.Elements.{only_if, lasting_made, lasting_by, lasting_of, present_in, present_by, elements_of}
-use Rattle.chains.specs.Admission.{IsReachable, nothing_accepted, one_more}
-use Rattle.chains.proofs.Passed.{Passed, passed_tests, begins}
+use Rattle.chains.specs.Folded.{IsFitReport, IsFolded, nothing_folded, one_folded}
 use Rattle.chains.proofs.Stepping.{same_or_other, other_bytes, own_report, other_report, failing, passing, doing}
 use Rattle.chains.proofs.Distinct.{unknown_child}
-use Rattle.chains.proofs.Reaching.{unbegun, well_made}
+use Rattle.chains.proofs.Reaching.{well_made}
 use Rattle.chains.proofs.InOrder.{unknown_none}
 
 -- ---- events in order
@@ -128,13 +127,13 @@ none_pass : {X : Type 0} (test : X → Bool) (xs : List X) → list_any test xs 
 none_pass test [] e = refl
 none_pass test (x ∷ xs) e = let both = or_parts (test x) (list_any test xs) e in rw (none_pass test xs both.1, both.0) refl
 
-unreported : (p : Name) (accepted : List Report) → IsReachable accepted → ¬ IsKnown accepted p → last_report p accepted ≡ None
-unreported p accepted reach unknown = (well_made accepted reach).unreported p unknown
+unreported : (p : Name) (accepted : List Report) → IsFolded accepted → ¬ IsKnown accepted p → last_report p accepted ≡ None
+unreported p accepted folded unknown = (well_made accepted folded).unreported p unknown
 
-no_events : (p : Name) (accepted : List Report) → IsReachable accepted → ¬ IsKnown accepted p → last_events p accepted ≡ Leaf 0
-no_events p accepted reach unknown =
-    ap (λ (o : Option Report). events_after (first_of o (birth_report p accepted))) (unreported p accepted reach unknown)
-    ∙ ap (λ (o : Option Report). events_after o) (none_pass (is_birth_of p) accepted (unknown_none accepted p reach unknown).0)
+no_events : (p : Name) (accepted : List Report) → IsFolded accepted → ¬ IsKnown accepted p → last_events p accepted ≡ Leaf 0
+no_events p accepted folded unknown =
+    ap (λ (o : Option Report). events_after (first_of o (birth_report p accepted))) (unreported p accepted folded unknown)
+    ∙ ap (λ (o : Option Report). events_after o) (none_pass (is_birth_of p) accepted (unknown_none accepted p folded unknown).0)
 
 -- a child begins with the events of the fork
 born_last : (p : Name) (accepted : List Report) (r : NumberedReport) → p ≢ r.process → last_report p accepted ≡ None → is_birth_of p (Numbered r) ≡ true → last_events p (accepted ++ Numbered r ∷ []) ≡ r.stamp.events
@@ -142,21 +141,21 @@ born_last p accepted r other none born =
     ap (λ (o : Option Report). events_after (first_of o (birth_report p (accepted ++ Numbered r ∷ [])))) (other_report accepted p r other ∙ none)
     ∙ ap (λ (o : Option Report). events_after o) (passing (is_birth_of p) accepted (Numbered r) born)
 
-born_of : (p : Name) (r : NumberedReport) (a : Action) (accepted : List Report) → Passed accepted (doing r a) → is_birth_of p (Numbered (doing r a)) ≡ true → ¬ IsKnown accepted p
-born_of p r (Fork f) accepted passed e = unknown_child accepted r.process (Fork f) passed.fit p (ap (λ (m : Name). Some m) (sym ((bytes_eq-Decides p f.child).0 e)))
-born_of p r _ accepted passed e = absurd (true≢false (sym e))
+born_of : (p : Name) (r : NumberedReport) (a : Action) (accepted : List Report) → IsFitReport accepted (doing r a) → is_birth_of p (Numbered (doing r a)) ≡ true → ¬ IsKnown accepted p
+born_of p r (Fork f) accepted fit e = unknown_child accepted r (Fork f) fit.fit p (ap (λ (m : Name). Some m) (sym ((bytes_eq-Decides p f.child).0 e)))
+born_of p r _ accepted fit e = absurd (true≢false (sym e))
 
--- ---- each list that is reached
+-- ---- each folded list
 
-risen_own : (accepted : List Report) (r : NumberedReport) → HasRisen r.process accepted → Passed accepted r → HasRisen r.process (accepted ++ Numbered r ∷ [])
-risen_own accepted r h passed = risen_with r.process accepted (Numbered r) r.stamp.events h passed.above (made_events r.process r r.action) (own_last accepted r)
+risen_own : (accepted : List Report) (r : NumberedReport) → HasRisen r.process accepted → IsFitReport accepted r → HasRisen r.process (accepted ++ Numbered r ∷ [])
+risen_own accepted r h fit = risen_with r.process accepted (Numbered r) r.stamp.events h fit.grown.0 (made_events r.process r r.action) (own_last accepted r)
 
-risen_other : (p : Name) (accepted : List Report) (r : NumberedReport) → IsReachable accepted → HasRisen p accepted → Passed accepted r → p ≢ r.process → HasRisen p (accepted ++ Numbered r ∷ [])
-risen_other p accepted r reach h passed other = elim (cases_Bool (is_birth_of p (Numbered r))) [
+risen_other : (p : Name) (accepted : List Report) (r : NumberedReport) → IsFolded accepted → HasRisen p accepted → IsFitReport accepted r → p ≢ r.process → HasRisen p (accepted ++ Numbered r ∷ [])
+risen_other p accepted r folded h fit other = elim (cases_Bool (is_birth_of p (Numbered r))) [
   | inl born ↦
-      let unknown = born_of p r r.action accepted passed born in
-      let low : IsAtOrBelow (last_events p accepted) r.stamp.events = subst (λ (e : EventTree). IsAtOrBelow e r.stamp.events) (sym (no_events p accepted reach unknown)) (nothing_below r.stamp.events) in
-      risen_with p accepted (Numbered r) r.stamp.events h low (made_events p r r.action) (born_last p accepted r other (unreported p accepted reach unknown) born)
+      let unknown = born_of p r r.action accepted fit born in
+      let low : IsAtOrBelow (last_events p accepted) r.stamp.events = subst (λ (e : EventTree). IsAtOrBelow e r.stamp.events) (sym (no_events p accepted folded unknown)) (nothing_below r.stamp.events) in
+      risen_with p accepted (Numbered r) r.stamp.events h low (made_events p r r.action) (born_last p accepted r other (unreported p accepted folded unknown) born)
   | inr unborn ↦
       risen_with p accepted (Numbered r) (last_events p accepted) h (below_same (last_events p accepted) (last_events p accepted) refl)
       (subst (λ (o : Option Stamp). HasEvents o (last_events p accepted)) (sym (other_made p r r.action other unborn)) tt) (other_last p accepted r other unborn)
@@ -169,15 +168,13 @@ root_risen : (p q : Name) → HasRisen p (Begin q ∷ [])
 root_risen p q =
     risen_with p [] (Begin q) (Leaf 0) (nothing_below (Leaf 0)) (nothing_below (Leaf 0)) (only_events (bytes_eq p q) (record { id = One; events = Leaf 0 }) (Leaf 0) refl) (root_last p q)
 
-pub risen : (p : Name) (accepted : List Report) → IsReachable accepted → HasRisen p accepted
-risen p _ nothing_accepted = nothing_below (Leaf 0)
-risen p _ (one_more before (Begin q) reach admitted) =
-    subst (λ (xs : List Report). HasRisen p (xs ++ Begin q ∷ [])) (sym (unbegun before reach (begins _ before q (length before + 1) admitted))) (root_risen p q)
-risen p _ (one_more before (Numbered r) reach admitted) =
-    let passed = passed_tests before r (length before + 1) admitted in
+pub risen : (p : Name) (accepted : List Report) → IsFolded accepted → HasRisen p accepted
+risen p _ nothing_folded = nothing_below (Leaf 0)
+risen p _ (one_folded before (Begin q) folded first) = subst (λ (xs : List Report). HasRisen p (xs ++ Begin q ∷ [])) (sym first) (root_risen p q)
+risen p _ (one_folded before (Numbered r) folded fit) =
     elim (same_or_other p r.process) [
-      | inl e ↦ subst (λ (m : Name). HasRisen m (before ++ Numbered r ∷ [])) (sym e) (risen_own before r (risen r.process before reach) passed)
-      | inr other ↦ risen_other p before r reach (risen p before reach) passed other
+      | inl e ↦ subst (λ (m : Name). HasRisen m (before ++ Numbered r ∷ [])) (sym e) (risen_own before r (risen r.process before folded) fit)
+      | inr other ↦ risen_other p before r folded (risen p before folded) fit other
     ]
 
 -- ---- with the present state
@@ -191,5 +188,5 @@ with_present low ss None birth h = subst (λ (l : List Stamp). Rise low l (event
 with_present low ss (Some (Begin p)) birth h = subst (λ (l : List Stamp). Rise low l (Leaf 0)) (sym (append-nil ss)) h
 with_present low ss (Some (Numbered r)) birth h = with_present_by low ss r.stamp r.action h
 
-pub elements_rise : (p : Name) (accepted : List Report) → IsReachable accepted → Rise (Leaf 0) (elements_of p accepted) (last_events p accepted)
-elements_rise p accepted reach = with_present (Leaf 0) (lasting_of p accepted) (last_report p accepted) (birth_report p accepted) (risen p accepted reach)
+pub elements_rise : (p : Name) (accepted : List Report) → IsFolded accepted → Rise (Leaf 0) (elements_of p accepted) (last_events p accepted)
+elements_rise p accepted folded = with_present (Leaf 0) (lasting_of p accepted) (last_report p accepted) (birth_report p accepted) (risen p accepted folded)

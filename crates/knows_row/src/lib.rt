@@ -6,7 +6,7 @@ ghost use Rattle.report_line.specs.declared.report.Report.{Report};
 ghost use Rattle.chains.specs.Processes.{known};
 ghost use Rattle.chains.specs.Positions.{last_rank};
 ghost use Rattle.chains.specs.Knowledge.{Knows, events_at};
-ghost use Rattle.chains.specs.Admission.{IsReachable};
+ghost use Rattle.chains.specs.Folded.{IsFolded};
 ghost use Rattle.knows_row.specs.Knowing.{KnowsAt, IsLawful, KnowsRank, IsNeed, IsLastKnown};
 ghost use Rattle.knows_row.specs.Beyond.{IsBeyondAt, IsBeyondFrom, IsLastBeyond};
 
@@ -53,10 +53,10 @@ pub fn last_known(chains: &Chains, place: Place, process: u32, from: u32, to: u3
     }
 }
 
-/// What holds of the knowledge over accepted reports: among others, that what is known at a place is known at each later
+/// What holds of the knowledge over each folded list: among others, that what is known at a place is known at each later
 /// place of its process.
 pub fn knowledge_is_lawful()
-    ensures { (accepted : List Report) → IsReachable accepted → IsLawful accepted }
+    ensures { (accepted : List Report) → IsFolded accepted → IsLawful accepted }
 {}
 
 /// The events of the place, if it has some and the process is another known one.

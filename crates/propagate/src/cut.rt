@@ -5,7 +5,7 @@ ghost use Rattle.std.specs.List.{range_with_len};
 ghost use Rattle.chains.specs.Processes.{known};
 ghost use Rattle.report_line.specs.declared.report.Report.{Report};
 ghost use Rattle.chains.specs.Positions.{last_rank};
-ghost use Rattle.chains.specs.Admission.{IsReachable};
+ghost use Rattle.chains.specs.Folded.{IsFolded};
 ghost use Rattle.chains.specs.declared.position.Place.{Place as AnyPlace};
 ghost use Rattle.reasons.specs.declared.certificate.Certificate.{Certificate as AnyCertificate};
 ghost use Rattle.reasons.specs.Certificates.{AreReasons, Certifies, positions_of};
@@ -139,7 +139,7 @@ pub fn certificate(chains: &Chains, failed: &Failed) -> Result<Certificate, Allo
     })
 }
 
-/// What certifies is the greatest stamp-consistent cut.
+/// What certifies for a folded list is its greatest stamp-consistent cut.
 pub fn certified_lines_are_the_greatest()
-    ensures { (accepted : List Report) (c : AnyCertificate) → IsReachable accepted → Certifies accepted c → IsGreatestCut accepted c.failed (positions_of c.line) }
+    ensures { (accepted : List Report) (c : AnyCertificate) → IsFolded accepted → Certifies accepted c → IsGreatestCut accepted c.failed (positions_of c.line) }
 {}

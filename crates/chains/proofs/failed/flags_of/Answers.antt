@@ -12,7 +12,7 @@ index_mut-requires c = omega (arith, c.loop-name.flags.ok.0, flag_there c.args.c
 pub loop-name-preserved : goal.loop-name-preserved
 loop-name-preserved c =
     marked_more c.args.chains.now.accepted c.args.names.now c.loop-name.name-index c.in-Some.number c.name-item.result c.loop-name.flags.items c.loop-name.invariant
-    (distinct_known c.args.chains.now.accepted c.lawful.ensures.reachable) c.loop-name-test.true c.name-item.is c.in-Some.ensures
+    (distinct_known c.args.chains.now.accepted c.lawful.ensures.folded) c.loop-name-test.true c.name-item.is c.in-Some.ensures
 
 pub returns : goal.returns
 returns c = all_marked c.args.chains.now.accepted c.args.names.now c.loop-name.name-index c.loop-name.flags.items c.loop-name-test.false c.loop-name.invariant

@@ -3,4 +3,4 @@ use Rattle.propagate.proofs.Certified.{certified_is_greatest}
 use Rattle.propagate.proofs.cut.certified_lines_are_the_greatest.Goals as goal
 
 pub returns : goal.returns
-returns c = λ accepted certificate reachable h. certified_is_greatest accepted certificate (lawful accepted reachable) h
+returns c = λ accepted certificate folded h. certified_is_greatest accepted certificate (lawful accepted folded) h

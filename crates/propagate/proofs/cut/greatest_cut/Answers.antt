@@ -21,7 +21,7 @@ module _ (c : goal.After-drop-tops-2) where
   tops = subst (AreTops c.args.chains.now.accepted c.args.failed.now) (sym c.deref.ensures.value) c.in_ok-tops.ensures.tops
 
   laws : IsLawful c.args.chains.now.accepted
-  laws = lawful c.args.chains.now.accepted c.lawful.ensures.reachable
+  laws = lawful c.args.chains.now.accepted c.lawful.ensures.folded
 
   line : c.in_ok-line.line ≡ places_from c.args.chains.now.accepted 0 c.in_ok-settled.settled.stage.cut.items
   line = c.in_ok-line.ensures ∙ ap (places_from c.args.chains.now.accepted 0) c.deref-2.ensures.value

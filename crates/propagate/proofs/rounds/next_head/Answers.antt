@@ -55,9 +55,9 @@ returns-clause-grounded c = IfOk-weaker c.prolong.result _ _ (λ head h.
     let chain = before ++ c.place_at-place.result ∷ [] in
     rw (added c.if-after-tops.arena c.prolong.new.self chain head h.0 h.1) (elim c.if-after-tops.branch [
       | then-after-tops+in_ok-before w ↦ let first : before ≡ w.place_at.result ∷ [] = rw w.before-is (added arena c.if-after-tops.arena (w.place_at.result ∷ []) w.in_ok-before.before w.in_ok-before.ensures.ok.0 (w.arena-is ∙ w.in_ok-before.ensures.ok.1)) in
-          head_starts accepted tops cut heads fell arena p r s c.requires.process q chain (lawful accepted c.lawful.ensures.reachable) cause (sym (after_is c) ∙ w.if-after-tops.true)
+          head_starts accepted tops cut heads fell arena p r s c.requires.process q chain (lawful accepted c.lawful.ensures.folded) cause (sym (after_is c) ∙ w.if-after-tops.true)
           (rw (first, w.place_at.ensures, c.place_at-place.ensures, after_is c) refl)
       | else-after-tops w ↦ let there : before ≡ get_or arena (slice_index heads q) [] = rw (w.before-is, w.arena-is) (rw (w.index-else-after-tops.ensures ∙ get_or_default heads q w.index-else-after-tops.result.now 0 (omega (arith, s.headed, cause.1))) refl) in
-          head_prolongs accepted tops cut heads fell arena p r s c.requires.process q chain (lawful accepted c.lawful.ensures.reachable) c.requires.grounded cause (λ e. w.if-after-tops.false (after_is c ∙ e))
+          head_prolongs accepted tops cut heads fell arena p r s c.requires.process q chain (lawful accepted c.lawful.ensures.folded) c.requires.grounded cause (λ e. w.if-after-tops.false (after_is c ∙ e))
           (rw (there, c.place_at-place.ensures) refl)
     ])) c.prolong.ensures.ok

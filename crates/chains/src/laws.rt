@@ -1,0 +1,35 @@
+//! Laws of accepted lists.
+
+ghost use Rattle.std.specs.Prelude.{◌≡◌, ◌∷◌, ◌++◌, List, Some};
+ghost use Rattle.report_line.specs.declared.report.NumberedReport.{NumberedReport};
+ghost use Rattle.report_line.specs.declared.report.Report.{Report};
+ghost use Rattle.report_line.specs.declared.report.Report.TheVariants.{Numbered};
+ghost use Rattle.report_line.specs.declared.call.Call.{Call};
+ghost use Rattle.report_line.specs.declared.reply.Reply.{Reply};
+ghost use Rattle.chains.specs.Admission.{IsReachable, IsAdmission, accepted_after};
+ghost use Rattle.chains.specs.Processes.{Name, reports_of, last_report};
+ghost use Rattle.chains.specs.Folded.{IsFit, IsFolded};
+ghost use Rattle.chains.specs.Turns.{IsTurn};
+ghost use Rattle.chains.specs.Laws.{ArePartsOfAll, NeverFall};
+
+/// What admission reaches is folded.
+pub fn reachable_lists_are_folded()
+    ensures { (accepted : List Report) → IsReachable accepted → IsFolded accepted }
+{}
+
+/// What holds of each folded list: each report is fit behind those before it, the number of a process's last report is how many
+/// it has, the ids of live processes and of retirements that wait are parts of everything, and from one report of a process to
+/// its next the events never fall.
+pub fn folded_lists_are_lawful()
+    ensures fit { (accepted before after : List Report) (r : Report) → IsFolded accepted → accepted ≡ before ++ r ∷ after → IsFit before r }
+    ensures numbered { (accepted : List Report) (p : Name) (r : NumberedReport) → IsFolded accepted → last_report p accepted ≡ Some (Numbered r) → r.number ≡ reports_of p accepted }
+    ensures parts { (accepted : List Report) → IsFolded accepted → ArePartsOfAll accepted }
+    ensures rising { (accepted : List Report) → IsFolded accepted → NeverFall accepted }
+{}
+
+/// From a list that admission reaches, whatever it replies to a report, it reaches what is accepted then; and so it is with
+/// each turn, whatever its call.
+pub fn replies_keep_lists_reachable()
+    ensures report { (accepted : List Report) (r : Report) (answer : Reply) → IsReachable accepted → IsAdmission accepted r answer → IsReachable (accepted_after accepted r answer) }
+    ensures turn { (accepted after : List Report) (call : Call) (reply : Reply) → IsReachable accepted → IsTurn accepted call reply after → IsReachable after }
+{}

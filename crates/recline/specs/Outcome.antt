@@ -1,47 +1,41 @@
 -- What the program answers when a session ended.
-use Rattle.std.specs.Prelude.{◌≡◌, ◌⊎◌, ℕ, List, [], ◌++◌, Option, codes}
-use Rattle.std.specs.Io.KnownBytes.{Appends, Consumes}
+use Rattle.std.specs.Prelude.{◌≡◌, ◌⊎◌, ℕ, List, [], ◌++◌, codes}
+use Rattle.std.specs.Io.KnownBytes.{Appends}
 use Rattle.report_line.specs.declared.report.Report.{Report}
 use Rattle.report_line.specs.Cutting.{ended}
 use Rattle.session.specs.declared.kind.Kind.{Kind}
 use Rattle.session.specs.declared.kind.Kind.TheVariants as kinds
-use Rattle.session.specs.SessionText.{IsSession}
+use Rattle.session.specs.Links.{LinkState, IsSound, IsFault}
+use Rattle.session.specs.Ends.{Ended, Leaves}
 
--- the status and the fault lines
-abbrev pub Answer : Type 0
-Answer = ℕ × List ℕ
+-- The status of the process: the client's input was answered to an end that is its own, or a device or memory failed, or
+-- the input had no end.
+abbrev pub status_of : Kind → ℕ
+status_of kinds.End = 0
+status_of kinds.Bye = 0
+status_of kinds.TooLong = 0
+status_of kinds.Endless = 5
+status_of _ = 3
 
-abbrev pub device_fault : Answer
-device_fault = (3, ended (codes "recline: device"))
+-- the fault line; most ends have none
+abbrev pub fault_line : Kind → List ℕ
+fault_line kinds.Memory = ended (codes "recline: memory")
+fault_line kinds.ReadFailed = ended (codes "recline: device")
+fault_line kinds.WriteFailed = ended (codes "recline: device")
+fault_line _ = []
 
-abbrev pub memory_fault : Answer
-memory_fault = (3, ended (codes "recline: memory"))
+-- all of the line was written and handed on, or a part, or all but the hand-on, and a call failed; nothing was read
+pub record Tells (old new : LinkState) (line : List ℕ) : Type 0 where
+  pub left : new.left ≡ old.left
+  pub reads : new.reads ≡ old.reads
+  pub told : (Appends old.held new.held line × (new.waiting ≡ []) × IsSound old new)
+      ⊎ ((part more : List ℕ) × (line ≡ part ++ more) × Appends old.held new.held part × IsFault old new)
 
--- What is answered for each end. Output that could not be handed on at the end of all is a fault of the device, too.
-abbrev pub IsAnswer : Kind → Answer → Type 0
-IsAnswer kinds.End answer = (answer ≡ (0, [])) ⊎ (answer ≡ device_fault)
-IsAnswer kinds.Bye answer = (answer ≡ (0, [])) ⊎ (answer ≡ device_fault)
-IsAnswer kinds.TooLong answer = (answer ≡ (0, [])) ⊎ (answer ≡ device_fault)
-IsAnswer kinds.Memory answer = answer ≡ memory_fault
-IsAnswer kinds.ReadFailed answer = answer ≡ device_fault
-IsAnswer kinds.WriteFailed answer = answer ≡ device_fault
-IsAnswer kinds.Endless answer = answer ≡ (5, [])
-
--- a line is told to its end, or cut
-abbrev pub Tells : Option (List ℕ) → Option (List ℕ) → List ℕ → Type 0
-Tells faults faults_after line = (told untold : List ℕ) × (line ≡ told ++ untold) × Appends faults faults_after told
-
--- From an accepted list, what was read was answered on the output, and the status and the fault lines say how it ended,
--- as far as the fault lines could be written.
-pub record Runs (accepted after : List Report) (left left_after output output_after faults faults_after : Option (List ℕ)) (status : ℕ) : Type 0 where
-  pub read : List ℕ
-  pub consumed : Consumes left left_after read
-  pub text : List ℕ
-  pub written : Appends output output_after text
+-- A session with the client ended so, from an accepted list; the status and the fault line say how.
+pub record Runs {K F : Type 0} (client_told : K → LinkState) (faults_told : F → LinkState) (client client_after : K) (faults faults_after : F) (accepted after : List Report) (status : ℕ) : Type 0 where
   pub kind : Kind
   pub replies : ℕ
-  pub session : IsSession accepted read kind after text replies
-  pub told : List ℕ
-  pub untold : List ℕ
-  pub answer : IsAnswer kind (status, told ++ untold)
-  pub faults_are : Appends faults faults_after told
+  pub session : Ended client_told client client_after accepted after kind replies
+  pub leaves : Leaves kind (client_told client) (client_told client_after)
+  pub status_is : status ≡ status_of kind
+  pub faults_are : Tells (faults_told faults) (faults_told faults_after) (fault_line kind)

@@ -1,7 +1,11 @@
 //! The words of the command line.
 
+ghost use Rattle.std.specs.Prelude.{◌≡◌, IfOk, map};
+ghost use Rattle.clap.specs.Words.{FailsBy, app_of};
+ghost use Rattle.recline.specs.Arguments.{AsksFor, program, refusals};
+
 use clap::{Command as Program, Error};
-use std::alloc::Global;
+use std::alloc::{AllocError, Global};
 use std::convert::AsStr;
 
 /// What the program is asked to do.
@@ -11,18 +15,29 @@ pub enum Command {
     Run,
 }
 
-/// The command that the words ask for, after the word that the program was called by. Help and the version are errors,
-/// too; `clap::Error` says where its text goes and with which status.
-pub fn read_args<'a, S: AsStr>(alloc: Global, words: &'a [S]) -> Result<Command, Error> {
+/// The command line, with the texts of its help.
+fn command_line<'a>(alloc: Global) -> Result<Program<'a>, AllocError>
+    ensures { IfOk result (λ made. app_of made ≡ program) }
+{
     let run = Program::new(alloc, "run").about(
         "Answers each line of standard input on standard output",
     );
-    let program = Program::new(alloc, "recline")
+    Program::new(alloc, "recline")
         .bin_name("recline")?
         .version("0.1.0")
         .about("Says where processes that failed have to recover from")
         .subcommand_required(true)
-        .subcommand(run)?;
+        .subcommand(run)
+}
+
+/// The command that the words ask for, after the word that the program was called by. Help and the version are errors,
+/// too; `clap::Error` says where its text goes and with which status. Words that ask for a command are refused for want of
+/// memory alone.
+pub fn read_args<'a, S: AsStr>(alloc: Global, words: &'a [S]) -> Result<Command, Error>
+    ensures asked { IfOk result (λ command. AsksFor (map S.text words.entry.now) command) }
+    ensures refused { FailsBy (refusals (map S.text words.entry.now)) result }
+{
+    let program = command_line(alloc)?;
     let _matches = program.try_get_matches_from(words)?;
     Ok(Command::Run)
 }

@@ -1,90 +1,61 @@
 //! The command `run`.
 
-ghost use Rattle.std.specs.Prelude.{◌≡◌, ◌++◌, [], ℕ, List, Option};
+ghost use Rattle.std.specs.Prelude.{◌≡◌, [], List};
 ghost use Rattle.report_line.specs.declared.report.Report.{Report};
-ghost use Rattle.recline.specs.Outcome.{IsAnswer, Tells, Runs};
+ghost use Rattle.recline.specs.Outcome.{Runs, Tells, fault_line, status_of};
 
 use chains::Chains;
-use session::{Kind, Reader, Writer, put, run_lines};
+use session::{Kind, Link, put, run_lines};
 use std::alloc::Global;
-use std::io::{Read, Write};
 
-/// A run that ended: the status of the process, and the streams as they were left.
-#[derive(Drop)]
-pub struct Ran<R, W, F> {
-    /// The status of the process.
-    pub status: u8,
-    /// What was read.
-    pub input: R,
-    /// What the replies were written to.
-    pub output: W,
-    /// What the fault line was written to.
-    pub faults: F,
-}
-
-/// Writes a fault line, as far as it can be written.
-fn tell<F: Write>(faults: F, line: &[u8]) -> F
-    ensures { Tells (F.contents faults) (F.contents result) line.now }
+/// Writes a fault line and hands it on, as far as that can be done.
+fn tell<F: Link>(faults: &mut F, line: &[u8])
+    ensures { Tells (F.told faults.old) (F.told faults.new) line.now }
 {
-    let mut writer = Writer::new(faults);
-    match put(&mut writer, line) {
-        Ok(()) => writer.into_inner(),
-        Err(_) => writer.into_inner(),
+    let Ok(()) = put(faults, line) else {
+        return;
+    };
+    match faults.hand_on() {
+        Ok(()) => {}
+        Err(_) => {}
     }
 }
 
-/// The status for a session that ended so, whose output was handed on or not, and its fault line.
-fn status_of(kind: Kind, handed_on: bool) -> (u8, &'static [u8])
-    ensures { IsAnswer kind (result.0, result.1.now) }
+/// The status of the process for a session that ended so.
+fn status_for(kind: Kind) -> u8
+    ensures { result ≡ status_of kind }
 {
     match kind {
-        Kind::End | Kind::Bye | Kind::TooLong => {
-            if handed_on {
-                (0, b"".as_slice())
-            } else {
-                (3, b"recline: device\n".as_slice())
-            }
-        }
-        Kind::Memory => (3, b"recline: memory\n".as_slice()),
-        Kind::ReadFailed | Kind::WriteFailed => (3, b"recline: device\n".as_slice()),
-        Kind::Endless => (5, b"".as_slice()),
+        Kind::End | Kind::Bye | Kind::TooLong => 0,
+        Kind::Memory | Kind::ReadFailed | Kind::WriteFailed => 3,
+        Kind::Endless => 5,
     }
 }
 
-/// Serves one client over these chains, from a reader to a writer, hands the output on, and tells of a fault on another
-/// writer.
-pub fn run_over<R: Read, W: Write, F: Write>(
-    chains: &mut Chains,
-    input: R,
-    output: W,
-    faults: F,
-) -> Ran<R, W, F>
-    ensures { Runs chains.old.accepted chains.new.accepted (R.remaining input) (R.remaining result.input) (W.contents output) (W.contents result.output) (F.contents faults) (F.contents result.faults) result.status }
+/// The fault line for a session that ended so, if it has one.
+fn fault_for(kind: Kind) -> &'static [u8]
+    ensures { result.now ≡ fault_line kind }
 {
-    let mut reader = Reader::new(input);
-    let mut writer = Writer::new(output);
-    let end = run_lines(chains, &mut reader, &mut writer);
-    let mut output = writer.into_inner();
-    let handed_on = output.flush().is_ok();
-    let (status, line) = status_of(end.kind, handed_on);
-    Ran {
-        status,
-        input: reader.into_inner(),
-        output,
-        faults: tell(faults, line),
+    match kind {
+        Kind::Memory => b"recline: memory\n".as_slice(),
+        Kind::ReadFailed | Kind::WriteFailed => b"recline: device\n".as_slice(),
+        Kind::End | Kind::Bye | Kind::TooLong | Kind::Endless => b"".as_slice(),
     }
 }
 
-/// The command `run`: `run_over` over fresh chains, of which only the status is kept.
-pub fn run_on<R: Read + Drop, W: Write + Drop, F: Write + Drop>(
-    alloc: Global,
-    input: R,
-    output: W,
-    faults: F,
-) -> u8
-    ensures { (after : List Report) × (left output_after faults_after : Option (List ℕ)) × Runs [] after (R.remaining input) left (W.contents output) output_after (F.contents faults) faults_after result }
+/// Serves one client over these chains, tells how it ended where that was a fault, and answers the status of the process.
+pub fn run_over<K: Link, F: Link>(chains: &mut Chains, client: &mut K, faults: &mut F) -> u8
+    ensures { Runs K.told F.told client.old client.new faults.old faults.new chains.old.accepted chains.new.accepted result }
+{
+    let end = run_lines(chains, client);
+    tell(faults, fault_for(end.kind));
+    status_for(end.kind)
+}
+
+/// The command `run`: `run_over` over fresh chains.
+pub fn run_on<K: Link, F: Link>(alloc: Global, client: &mut K, faults: &mut F) -> u8
+    ensures { (after : List Report) × Runs K.told F.told client.old client.new faults.old faults.new [] after result }
 {
     let mut chains = Chains::new(alloc);
-    let ran = run_over(&mut chains, input, output, faults);
-    ran.status
+    run_over(&mut chains, client, faults)
 }

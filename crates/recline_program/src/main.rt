@@ -4,8 +4,9 @@
 use clap::Error;
 use clap::error::ErrorKind;
 use recline::{Command, read_args, run_on};
+use session::Streams;
 use std::env;
-use std::io::{self, LineWriter};
+use std::io::{self, BufWriter};
 use std::process::ExitCode;
 
 /// The words of the command line.
@@ -47,12 +48,21 @@ fn show(rt: &HostRuntime, error: &Error) -> u8 {
     }
 }
 
-/// Answers the lines of standard input. Each reply is handed on with its line feed.
+/// Answers the lines of standard input. Fault lines are written through at once.
 fn run(rt: &HostRuntime) -> u8 {
-    match LineWriter::new(rt.alloc(), rt.stdout()) {
-        Ok(output) => run_on(rt.alloc(), rt.reader(), output, rt.stderr()),
-        Err(_) => fault(rt, "memory"),
-    }
+    let Ok(output) = BufWriter::new(rt.alloc(), rt.stdout()) else {
+        return fault(rt, "memory");
+    };
+    let Ok(errors) = BufWriter::with_capacity(rt.alloc(), 0, rt.stderr()) else {
+        return fault(rt, "memory");
+    };
+    let mut client = Streams::new(rt.reader(), output);
+    let mut faults = Streams::new(io::empty(), errors);
+    let status = run_on(rt.alloc(), &mut client, &mut faults);
+    let (_input, output) = client.into_inner();
+    // What could not be handed on is not tried once more, as it would be where the buffer is dropped.
+    let (_stdout, _unwritten) = output.into_parts();
+    status
 }
 
 fn main(rt: HostRuntime) -> ExitCode {

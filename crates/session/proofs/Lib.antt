@@ -1,5 +1,7 @@
-pub mod Sent
-pub mod TurnSteps
-pub mod Served
-pub mod ServeSteps
-pub mod Steps
+mod Sent
+mod Served
+mod ServeSteps
+mod Steps
+mod Ending
+mod Places
+mod TurnSteps

@@ -1,138 +1,170 @@
 -- Lines that are served, one after the other.
-use Rattle.std.proofs.Common.{◌≡◌, ℕ, ◌+◌, get_or, take, drop, List, [], ◌∷◌, ◌++◌, length, Option, Some, Err, refl, sym, ap, subst, ◌∙◌, append_assoc, arith}
-use Rattle.std.specs.Io.KnownBytes.{Appends}
+use Rattle.std.proofs.Common.{◌≡◌, ℕ, ◌+◌, get_or, take, drop, List, [], ◌∷◌, ◌++◌, Option, Some, None, Ok, Err, refl, sym, ap, subst, ◌∙◌, append_assoc, append-nil}
 use Rattle.std.specs.List.{slice_get}
 use Rattle.std.proofs.lemmas.Option.{slice_get_within, get_or_from_slice_get}
-use Rattle.std.proofs.lemmas.List.{append-nil, length-append, take-append-drop, drop_more, take_more}
-use Rattle.std.proofs.lemmas.List.Concat.{flat_map-append}
+use Rattle.std.proofs.lemmas.List.{take-append-drop, drop_more, take_more}
 use Rattle.report_line.specs.declared.report.Report.{Report}
 use Rattle.report_line.specs.declared.call.Call.{Call}
-use Rattle.report_line.specs.declared.reply.Reply.{Reply}
-use Rattle.session.specs.declared.serving.LinesEnd.{LinesEnd}
-use Rattle.session.specs.declared.serving.LinesEnd.TheVariants as lines_ends
 use Rattle.report_line.specs.declared.call.Call.TheVariants as calls
+use Rattle.report_line.specs.declared.reply.Reply.{Reply}
 use Rattle.report_line.specs.Cutting.{ended}
 use Rattle.report_line.specs.Replies.{reply_text}
-use Rattle.session.specs.Links.{up, Sends}
-use Rattle.session.specs.SessionText.{Exchange, Means, exchange_line, session_text}
-use Rattle.session.specs.Parts.{Shows, Turned, ServesLine, LinesTo, ServesLines, unsaid}
-use Rattle.session.proofs.Sent.{appends_none, appends_then}
-use Rattle.session.proofs.Served.{answered_none, answered_one, turns_first, front_none, lines_then}
+use Rattle.session.specs.declared.kind.Kind.{Kind}
+use Rattle.session.specs.declared.kind.Kind.TheVariants as kinds
+use Rattle.session.specs.Links.{LinkState, IsSound, Puts}
+use Rattle.session.specs.SessionText.{Exchange, Means, IsQuestion, exchange_line, session_text}
+use Rattle.session.specs.Turned.{Shows}
+use Rattle.session.specs.Parts.{FaultsAt, Serves}
+use Rattle.session.proofs.Sent.{appends_none, appends_then, sound_none, sound_then, fault_then}
+use Rattle.session.proofs.Served.{served_then, mean_then, far_then}
 
-abbrev turned_to : (held held_after : Option (List ℕ)) (accepted after : List Report) (line : List ℕ) (call : Call) (shown : Reply) (turns turns_after : ℕ) → Means line call → Shows accepted call after shown × (turns_after ≡ up 1 turns)
-    → (part : List ℕ) → Appends held held_after part → Turned held held_after accepted line after turns turns_after
-turned_to held held_after accepted after line call shown turns turns_after means made part sent =
+pub faults_then : (end : Option Kind) (r s t : LinkState) → IsSound r s → FaultsAt end s t → FaultsAt end r t
+faults_then None r s t p q = sound_then r s t p q
+faults_then (Some kinds.End) r s t p q = sound_then r s t p q
+faults_then (Some kinds.Bye) r s t p q = sound_then r s t p q
+faults_then (Some kinds.TooLong) r s t p q = sound_then r s t p q
+faults_then (Some kinds.Memory) r s t p q = sound_then r s t p q
+faults_then (Some kinds.ReadFailed) r s t p q = (rw p.failures at q.0, q.1 ∙ p.stalls)
+faults_then (Some kinds.WriteFailed) r s t p q = fault_then r s t p q
+faults_then (Some kinds.Endless) r s t p q = sound_then r s t p q
+
+-- ---- one line
+
+one_text : (e : Exchange) → exchange_line e ≡ session_text (e ∷ [])
+one_text e = sym (append-nil (exchange_line e))
+
+-- a line whose reply was written whole, and which was no bye, or was one
+pub said_on : {E : Type 0} (old new : LinkState) (line : List ℕ) (accepted after : List Report) (call : Call) (shown : Reply) (u : Unit {0}) → Means line call → Shows accepted call after shown
+    → Puts {E = E} old new (Ok u) (ended (reply_text shown)) → ¬ (call ≡ calls.Bye) → Serves old new (line ∷ []) accepted after None 1
+said_on old new line accepted after call shown u means turned puts on =
+    let e : Exchange = record { call = call; shown = shown } in
     record {
-      exchange = record { call = call; shown = shown };
-      turn = record { means = means; reply = made.0.0; turned = made.0.1; shown = made.0.2 };
-      counted = made.1;
-      part = part;
-      written = sent;
+      front = line ∷ [];
+      later = [];
+      turned = e ∷ [];
+      text = exchange_line e;
+      lines_are = refl;
+      mean = (means, tt);
+      served = (after, turned, refl);
+      how = ((on, tt), refl, (one_text e, refl));
+      written = puts.sent;
+      faults = puts.faults;
+      left = puts.left;
+      reads = puts.reads;
     }
 
-pub said_on : (held held_after : Option (List ℕ)) (accepted after : List Report) (line : List ℕ) (call : Call) (shown : Reply) (turns turns_after : ℕ) → Means line call → Shows accepted call after shown × (turns_after ≡ up 1 turns)
-    → Appends held held_after (ended (reply_text shown)) → ¬ (call ≡ calls.Bye) → ServesLine lines_ends.All held held_after accepted line after turns turns_after
-said_on held held_after accepted after line call shown turns turns_after means made sent on =
-    (turned_to held held_after accepted after line call shown turns turns_after means made (ended (reply_text shown)) sent, refl, on)
+pub said_bye : {E : Type 0} (old new : LinkState) (line : List ℕ) (accepted after : List Report) (call : Call) (shown : Reply) (u : Unit {0}) → Means line call → Shows accepted call after shown
+    → Puts {E = E} old new (Ok u) (ended (reply_text shown)) → call ≡ calls.Bye → Serves old new (line ∷ []) accepted after (Some kinds.Bye) 1
+said_bye old new line accepted after call shown u means turned puts bye =
+    let e : Exchange = record { call = call; shown = shown } in
+    record {
+      front = line ∷ [];
+      later = [];
+      turned = e ∷ [];
+      text = exchange_line e;
+      lines_are = refl;
+      mean = (means, tt);
+      served = (after, turned, refl);
+      how = (record { before = []; last = e; exchanges_are = refl; none_before = tt; bye = bye }, (one_text e, refl));
+      written = puts.sent;
+      faults = puts.faults;
+      left = puts.left;
+      reads = puts.reads;
+    }
 
-pub said_bye : (held held_after : Option (List ℕ)) (accepted after : List Report) (line : List ℕ) (call : Call) (shown : Reply) (turns turns_after : ℕ) → Means line call → Shows accepted call after shown × (turns_after ≡ up 1 turns)
-    → Appends held held_after (ended (reply_text shown)) → call ≡ calls.Bye → ServesLine lines_ends.Bye held held_after accepted line after turns turns_after
-said_bye held held_after accepted after line call shown turns turns_after means made sent bye =
-    (turned_to held held_after accepted after line call shown turns turns_after means made (ended (reply_text shown)) sent, refl, bye)
+-- a line whose reply was cut
+pub said_part : {E : Type 0} (old new : LinkState) (line : List ℕ) (accepted after : List Report) (call : Call) (shown : Reply) (fault : E) → Means line call → Shows accepted call after shown
+    → Puts old new (Err fault) (ended (reply_text shown)) → Serves old new (line ∷ []) accepted after (Some kinds.WriteFailed) 0
+said_part old new line accepted after call shown fault means turned puts =
+    let e : Exchange = record { call = call; shown = shown } in
+    let sent = puts.sent in
+    record {
+      front = line ∷ [];
+      later = [];
+      turned = e ∷ [];
+      text = sent.0;
+      lines_are = refl;
+      mean = (means, tt);
+      served = (after, turned, refl);
+      how = record { before = []; last = e; turned_are = refl; none_before = tt; part = sent.0; short = (sent.1, sent.2, sent.3); text_is = refl; count_is = refl };
+      written = sent.4;
+      faults = puts.faults;
+      left = puts.left;
+      reads = puts.reads;
+    }
 
-pub said_part : {E : Type 0} (held held_after : Option (List ℕ)) (e : E) (accepted after : List Report) (line : List ℕ) (call : Call) (shown : Reply) (turns turns_after : ℕ) → Means line call → Shows accepted call after shown × (turns_after ≡ up 1 turns)
-    → Sends held held_after (Err e) (ended (reply_text shown)) → ServesLine lines_ends.WriteFailed held held_after accepted line after turns turns_after
-said_part held held_after e accepted after line call shown turns turns_after means made sends =
-    (turned_to held held_after accepted after line call shown turns turns_after means made sends.0 sends.4, (sends.1, sends.2, sends.3))
-
--- ---- two parts of a text
-
-text_then : (es fs : List Exchange) (nothing ending : List ℕ) → nothing ≡ [] → (session_text es ++ nothing) ++ (session_text fs ++ ending) ≡ session_text (es ++ fs) ++ ending
-text_then es fs nothing ending none =
-    ap (λ (l : List ℕ). (session_text es ++ l) ++ (session_text fs ++ ending)) none ∙ ap (λ (l : List ℕ). l ++ (session_text fs ++ ending)) (append-nil (session_text es))
-    ∙ sym (append_assoc (session_text es) (session_text fs) ending) ∙ ap (λ (l : List ℕ). l ++ ending) (sym (flat_map-append exchange_line es fs))
-
-pub written_then : (held held_now held_after : Option (List ℕ)) (es fs : List Exchange) (nothing ending : List ℕ) → nothing ≡ [] → Appends held held_now (session_text es ++ nothing)
-    → Appends held_now held_after (session_text fs ++ ending) → Appends held held_after (session_text (es ++ fs) ++ ending)
-written_then held held_now held_after es fs nothing ending none before more =
-    subst (λ (text : List ℕ). Appends held held_after text) (text_then es fs nothing ending none)
-    (appends_then held held_now held_after (session_text es ++ nothing) (session_text fs ++ ending) before more)
-
-text_one : (exchange : Exchange) → session_text (exchange ∷ []) ++ [] ≡ exchange_line exchange
-text_one exchange = append-nil (session_text (exchange ∷ [])) ∙ append-nil (exchange_line exchange)
-
-one_written : (held held_after : Option (List ℕ)) (exchange : Exchange) (part : List ℕ) → part ≡ exchange_line exchange → Appends held held_after part → Appends held held_after (session_text (exchange ∷ []) ++ [])
-one_written held held_after exchange part whole sent = subst (λ (text : List ℕ). Appends held held_after text) (whole ∙ sym (text_one exchange)) sent
-
-pub count_then : (es fs : List Exchange) (count more total : ℕ) → count ≡ length es → more ≡ length fs → total ≡ count + more → total ≡ length (es ++ fs)
-count_then es fs count more total e f t = omega (arith, length-append es fs)
-
-pub up_then : (es fs : List Exchange) (extra turns turns_now turns_after : ℕ) → turns_now ≡ up (length es) turns → turns_after ≡ up (length fs + extra) turns_now → turns_after ≡ up (length (es ++ fs) + extra) turns
-up_then es fs extra turns turns_now turns_after e f = omega (arith, length-append es fs)
+-- a question without memory
+pub unsaid : (s : LinkState) (line : List ℕ) (accepted after : List Report) (call : Call) → Means line call → IsQuestion call → after ≡ accepted → Serves s s (line ∷ []) accepted after (Some kinds.Memory) 0
+unsaid s line accepted after call means question same =
+    record {
+      front = [];
+      later = line ∷ [];
+      turned = [];
+      text = [];
+      lines_are = refl;
+      mean = tt;
+      served = same;
+      how = (tt, record { line = line; later = []; call = call; lines_are = refl; means = means; question = question }, (refl, refl));
+      written = appends_none s.held;
+      faults = sound_none s;
+      left = refl;
+      reads = refl;
+    }
 
 -- ---- a loop over lines
 
-pub serves_none : (held : Option (List ℕ)) (accepted : List Report) (turns : ℕ) → ServesLines lines_ends.All held held [] accepted accepted turns turns 0
-serves_none held accepted turns =
-    record { exchanges = []; ending = []; written = appends_none held; count_is = refl; turned = omega arith; to = (refl, answered_none accepted) }
-
--- more lines behind some that were all answered
-serves_more : (end : LinesEnd) (held held_now held_after : Option (List ℕ)) (lines more : List (List ℕ)) (accepted now after : List Report) (turns turns_now turns_after count total : ℕ) (fs : List Exchange) (ending : List ℕ)
-    → ServesLines lines_ends.All held held_now lines accepted now turns turns_now count → Appends held_now held_after (session_text fs ++ ending) → total ≡ count + length fs → turns_after ≡ up (length fs + unsaid end) turns_now
-    → LinesTo end more now fs after ending → ServesLines end held held_after (lines ++ more) accepted after turns turns_after total
-serves_more end held held_now held_after lines more accepted now after turns turns_now turns_after count total fs ending s sent counted up to =
+pub serves_none : (s : LinkState) (accepted : List Report) → Serves s s [] accepted accepted None 0
+serves_none s accepted =
     record {
-      exchanges = s.exchanges ++ fs;
-      ending = ending;
-      written = written_then held held_now held_after s.exchanges fs s.ending ending s.to.0 s.written sent;
-      count_is = count_then s.exchanges fs count (length fs) total s.count_is refl counted;
-      turned = up_then s.exchanges fs (unsaid end) turns turns_now turns_after (omega (arith, s.turned)) up;
-      to = lines_then end accepted now after lines more s.exchanges fs ending s.to.1 to;
+      front = [];
+      later = [];
+      turned = [];
+      text = [];
+      lines_are = refl;
+      mean = tt;
+      served = refl;
+      how = (tt, refl, (refl, refl));
+      written = appends_none s.held;
+      faults = sound_none s;
+      left = refl;
+      reads = refl;
     }
 
-pub serves_all : (held held_now held_after : Option (List ℕ)) (lines : List (List ℕ)) (line : List ℕ) (accepted now after : List Report) (turns turns_now turns_after count : ℕ)
-    → ServesLines lines_ends.All held held_now lines accepted now turns turns_now count → ServesLine lines_ends.All held_now held_after now line after turns_now turns_after
-    → ServesLines lines_ends.All held held_after (lines ++ line ∷ []) accepted after turns turns_after (count + 1)
-serves_all held held_now held_after lines line accepted now after turns turns_now turns_after count s t =
-    serves_more lines_ends.All held held_now held_after lines (line ∷ []) accepted now after turns turns_now turns_after count (count + 1) (t.0.exchange ∷ []) [] s
-    (one_written held_now held_after t.0.exchange t.0.part t.1 t.0.written) refl t.0.counted (refl, answered_one now after line t.0.exchange t.0.turn t.2)
+-- one more line behind some that were all answered; later ones follow only where it ends
+serves_then : (end : Option Kind) (old mid new : LinkState) (lines more later : List (List ℕ)) (accepted now after : List Report) (m n : ℕ) → Serves old mid lines accepted now None m → Serves mid new more now after end n
+    → (end ≡ None → later ≡ []) → Serves old new (lines ++ (more ++ later)) accepted after end (m + n)
+serves_then end old mid new lines more later accepted now after m n s t none =
+    record {
+      front = s.front ++ t.front;
+      later = t.later ++ later;
+      turned = s.turned ++ t.turned;
+      text = s.text ++ t.text;
+      lines_are = ap (λ (l : List (List ℕ)). l ++ (more ++ later)) (s.lines_are ∙ ap (λ (l : List (List ℕ)). s.front ++ l) s.how.1 ∙ append-nil s.front)
+          ∙ ap (λ (l : List (List ℕ)). s.front ++ (l ++ later)) t.lines_are ∙ ap (λ (l : List (List ℕ)). s.front ++ l) (append_assoc t.front t.later later)
+          ∙ sym (append_assoc s.front t.front (t.later ++ later));
+      mean = mean_then s.front t.front s.turned t.turned s.mean t.mean;
+      served = served_then accepted now after s.turned t.turned s.served t.served;
+      how = far_then end t.later later s.turned t.turned s.text t.text m n s.how.0 s.how.2 none t.how;
+      written = appends_then old.held mid.held new.held s.text t.text s.written t.written;
+      faults = faults_then end old mid new s.faults t.faults;
+      left = t.left ∙ s.left;
+      reads = t.reads ∙ s.reads;
+    }
 
-pub serves_bye : (held held_now held_after : Option (List ℕ)) (lines later : List (List ℕ)) (line : List ℕ) (accepted now after : List Report) (turns turns_now turns_after count : ℕ)
-    → ServesLines lines_ends.All held held_now lines accepted now turns turns_now count → ServesLine lines_ends.Bye held_now held_after now line after turns_now turns_after
-    → ServesLines lines_ends.Bye held held_after (lines ++ line ∷ later) accepted after turns turns_after (count + 1)
-serves_bye held held_now held_after lines later line accepted now after turns turns_now turns_after count s t =
-    serves_more lines_ends.Bye held held_now held_after lines (line ∷ later) accepted now after turns turns_now turns_after count (count + 1) (t.0.exchange ∷ []) [] s
-    (one_written held_now held_after t.0.exchange t.0.part t.1 t.0.written) refl t.0.counted
-    (refl, record { before = []; last = t.0.exchange; exchanges_are = refl; bye = t.2; turns = turns_first now after line later t.0.exchange t.0.turn })
-
-pub serves_memory : (held held_now held_after : Option (List ℕ)) (lines later : List (List ℕ)) (line : List ℕ) (accepted now after : List Report) (turns turns_now turns_after count : ℕ)
-    → ServesLines lines_ends.All held held_now lines accepted now turns turns_now count → ServesLine lines_ends.Memory held_now held_after now line after turns_now turns_after
-    → ServesLines lines_ends.Memory held held_after (lines ++ line ∷ later) accepted after turns turns_after count
-serves_memory held held_now held_after lines later line accepted now after turns turns_now turns_after count s t =
-    serves_more lines_ends.Memory held held_now held_after lines (line ∷ later) accepted now after turns turns_now turns_after count count [] [] s
-    t.written (omega arith) (omega (arith, t.no_turn)) (refl, front_none now after (line ∷ later) t.same)
-
-pub serves_cut : (held held_now held_after : Option (List ℕ)) (lines later : List (List ℕ)) (line : List ℕ) (accepted now after : List Report) (turns turns_now turns_after count : ℕ)
-    → ServesLines lines_ends.All held held_now lines accepted now turns turns_now count → ServesLine lines_ends.WriteFailed held_now held_after now line after turns_now turns_after
-    → ServesLines lines_ends.WriteFailed held held_after (lines ++ line ∷ later) accepted after turns turns_after count
-serves_cut held held_now held_after lines later line accepted now after turns turns_now turns_after count s t =
-    serves_more lines_ends.WriteFailed held held_now held_after lines (line ∷ later) accepted now after turns turns_now turns_after count count [] t.0.part s
-    t.0.written (omega arith) t.0.counted (record { last = t.0.exchange; turns = turns_first now after line later t.0.exchange t.0.turn; short = t.1 })
-
--- ---- a line by its index
-
--- what is served to a line is served of all
-pub served_to : (end : LinesEnd) (held held_after : Option (List ℕ)) (lines : List (List ℕ)) (i : ℕ) (line : List ℕ) (accepted after : List Report) (turns turns_after count : ℕ) → slice_get lines i ≡ Some line
-    → ServesLines end held held_after (take i lines ++ line ∷ drop (i + 1) lines) accepted after turns turns_after count → ServesLines end held held_after lines accepted after turns turns_after count
-served_to end held held_after lines i line accepted after turns turns_after count at s =
+-- the line at an index, where those before it were answered, and it is the last that is served
+pub serves_to : (end : Option Kind) (old mid new : LinkState) (lines : List (List ℕ)) (i : ℕ) (line : List ℕ) (accepted now after : List Report) (m n : ℕ) → slice_get lines i ≡ Some line
+    → Serves old mid (take i lines) accepted now None m → Serves mid new (line ∷ []) now after end n → ¬ (end ≡ None) → Serves old new lines accepted after end (m + n)
+serves_to end old mid new lines i line accepted now after m n at s t stops =
     let is : line ≡ get_or lines i line = sym (get_or_from_slice_get lines i line line at) in
     let whole : take i lines ++ line ∷ drop (i + 1) lines ≡ lines =
     ap (λ (l : List ℕ). take i lines ++ l ∷ drop (i + 1) lines) is ∙ ap (λ (l : List (List ℕ)). take i lines ++ l) (sym (drop_more lines i line (slice_get_within lines i line at))) ∙ take-append-drop i lines in
-    subst (λ (l : List (List ℕ)). ServesLines end held held_after l accepted after turns turns_after count) whole s
+    subst (λ (l : List (List ℕ)). Serves old new l accepted after end (m + n)) whole
+    (serves_then end old mid new (take i lines) (line ∷ []) (drop (i + 1) lines) accepted now after m n s t (λ none. absurd (stops none)))
 
-pub served_on : (held held_after : Option (List ℕ)) (lines : List (List ℕ)) (i : ℕ) (line : List ℕ) (accepted after : List Report) (turns turns_after count : ℕ) → slice_get lines i ≡ Some line
-    → ServesLines lines_ends.All held held_after (take i lines ++ line ∷ []) accepted after turns turns_after count → ServesLines lines_ends.All held held_after (take (i + 1) lines) accepted after turns turns_after count
-served_on held held_after lines i line accepted after turns turns_after count at s =
+-- the line at an index, where those before it were answered, and it was too
+pub serves_on : (old mid new : LinkState) (lines : List (List ℕ)) (i : ℕ) (line : List ℕ) (accepted now after : List Report) (m n : ℕ) → slice_get lines i ≡ Some line
+    → Serves old mid (take i lines) accepted now None m → Serves mid new (line ∷ []) now after None n → Serves old new (take (i + 1) lines) accepted after None (m + n)
+serves_on old mid new lines i line accepted now after m n at s t =
     let is : line ≡ get_or lines i line = sym (get_or_from_slice_get lines i line line at) in
-    let more : take i lines ++ line ∷ [] ≡ take (i + 1) lines = ap (λ (l : List ℕ). take i lines ++ l ∷ []) is ∙ sym (take_more lines i line (slice_get_within lines i line at)) in
-    subst (λ (l : List (List ℕ)). ServesLines lines_ends.All held held_after l accepted after turns turns_after count) more s
+    let more : take i lines ++ (line ∷ [] ++ []) ≡ take (i + 1) lines = ap (λ (l : List ℕ). take i lines ++ l ∷ []) is ∙ sym (take_more lines i line (slice_get_within lines i line at)) in
+    subst (λ (l : List (List ℕ)). Serves old new l accepted after None (m + n)) more (serves_then None old mid new (take i lines) (line ∷ []) [] accepted now after m n s t (λ none. refl))

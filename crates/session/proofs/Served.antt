@@ -1,88 +1,97 @@
--- Lines that take turns, one after the other.
-use Rattle.std.proofs.Common.{◌≡◌, ℕ, List, [], ◌∷◌, ◌++◌, refl, sym, ap, subst, ◌∙◌, append_assoc}
-use Rattle.std.specs.List.{AllByRecursion}
+-- Lines that are answered, one after the other.
+use Rattle.std.proofs.Common.{◌≡◌, ℕ, ◌+◌, List, [], ◌∷◌, ◌++◌, length, Option, Some, None, refl, sym, ap, subst, ◌∙◌, append_assoc, append-nil, arith}
+use Rattle.std.proofs.lemmas.List.{length-append}
+use Rattle.std.proofs.lemmas.List.Concat.{flat_map-append}
 use Rattle.report_line.specs.declared.report.Report.{Report}
-use Rattle.session.specs.declared.serving.LinesEnd.{LinesEnd}
-use Rattle.session.specs.declared.serving.LinesEnd.TheVariants as lines_ends
-use Rattle.session.specs.SessionText.{Exchange, TakesTurn, SaysBye, Served, Answered, AnsweredFront, TurnsTo, EndsWithBye, CutInReply}
-use Rattle.session.specs.Parts.{LinesTo}
+use Rattle.session.specs.declared.kind.Kind.{Kind}
+use Rattle.session.specs.declared.kind.Kind.TheVariants as kinds
+use Rattle.session.specs.SessionText.{Exchange, Mean, NoBye, LastSaysBye, StartsWithQuestion, exchange_line, session_text, IsCutInReply}
+use Rattle.session.specs.Turned.{Served}
+use Rattle.session.specs.Parts.{IsSaid, HowFar}
 
--- the lines and the exchanges of two parts of a session
 abbrev Lines : Type 0
 Lines = List (List ℕ)
 
 abbrev Exchanges : Type 0
 Exchanges = List Exchange
 
-served_then : (accepted mid after : List Report) (lines more : Lines) (es fs : Exchanges) → Served accepted lines es mid → Served mid more fs after → Served accepted (lines ++ more) (es ++ fs) after
-served_then accepted mid after [] more [] fs s t = subst (λ (x : List Report). Served x more fs after) s t
-served_then accepted mid after (l ∷ ls) more (e ∷ es) fs s t = (s.0, s.1, served_then s.0 mid after ls more es fs s.2 t)
-served_then accepted mid after [] more (e ∷ es) fs s t = absurd s
-served_then accepted mid after (l ∷ ls) more [] fs s t = absurd s
+pub served_then : (accepted mid after : List Report) (es fs : Exchanges) → Served accepted es mid → Served mid fs after → Served accepted (es ++ fs) after
+served_then accepted mid after [] fs s t = subst (λ (x : List Report). Served x fs after) s t
+served_then accepted mid after (e ∷ es) fs s t = (s.0, s.1, served_then s.0 mid after es fs s.2 t)
 
-abbrev NoBye : Exchanges → Type 0
-NoBye es = AllByRecursion (λ e. ¬ SaysBye e) es
+pub mean_then : (lines more : Lines) (es fs : Exchanges) → Mean lines es → Mean more fs → Mean (lines ++ more) (es ++ fs)
+mean_then [] more [] fs p q = q
+mean_then (l ∷ ls) more (e ∷ es) fs p q = (p.0, mean_then ls more es fs p.1 q)
+mean_then [] more (e ∷ es) fs p q = absurd p
+mean_then (l ∷ ls) more [] fs p q = absurd p
 
-no_bye_then : (es fs : Exchanges) → NoBye es → NoBye fs → NoBye (es ++ fs)
+-- as many lines as exchanges
+pub mean_length : (lines : Lines) (es : Exchanges) → Mean lines es → length lines ≡ length es
+mean_length [] [] p = refl
+mean_length (l ∷ ls) (e ∷ es) p = let h = mean_length ls es p.1 in omega arith
+mean_length [] (e ∷ es) p = absurd p
+mean_length (l ∷ ls) [] p = absurd p
+
+pub no_bye_then : (es fs : Exchanges) → NoBye es → NoBye fs → NoBye (es ++ fs)
 no_bye_then [] fs p q = q
 no_bye_then (e ∷ es) fs p q = (p.0, no_bye_then es fs p.1 q)
 
-pub answered_none : (accepted : List Report) → Answered accepted [] [] accepted
-answered_none accepted = record { served = refl; no_bye = tt }
-
-pub answered_one : (accepted after : List Report) (line : List ℕ) (exchange : Exchange) → TakesTurn accepted line exchange after → ¬ SaysBye exchange → Answered accepted (line ∷ []) (exchange ∷ []) after
-answered_one accepted after line exchange turn on = record { served = (after, turn, refl); no_bye = (on, tt) }
-
-pub answered_then : (accepted mid after : List Report) (lines more : Lines) (es fs : Exchanges) → Answered accepted lines es mid → Answered mid more fs after → Answered accepted (lines ++ more) (es ++ fs) after
-answered_then accepted mid after lines more es fs s t =
-    record { served = served_then accepted mid after lines more es fs s.served t.served; no_bye = no_bye_then es fs s.no_bye t.no_bye }
-
-pub front_then : (accepted mid after : List Report) (lines more : Lines) (es fs : Exchanges) → Answered accepted lines es mid → AnsweredFront mid more fs after → AnsweredFront accepted (lines ++ more) (es ++ fs) after
-front_then accepted mid after lines more es fs s t =
+pub bye_then : (es fs : Exchanges) → NoBye es → LastSaysBye fs → LastSaysBye (es ++ fs)
+bye_then es fs none b =
     record {
-      front = lines ++ t.front;
-      later = t.later;
-      lines_are = ap (λ (l : Lines). lines ++ l) t.lines_are ∙ sym (append_assoc lines t.front t.later);
-      answered = answered_then accepted mid after lines t.front es fs s t.answered;
+      before = es ++ b.before;
+      last = b.last;
+      exchanges_are = ap (λ (l : Exchanges). es ++ l) b.exchanges_are ∙ sym (append_assoc es b.before (b.last ∷ []));
+      none_before = no_bye_then es b.before none b.none_before;
+      bye = b.bye;
     }
 
-turns_then : (accepted mid after : List Report) (lines more : Lines) (es fs : Exchanges) (last : Exchange) → Answered accepted lines es mid → TurnsTo mid more fs last after → TurnsTo accepted (lines ++ more) (es ++ fs) last after
-turns_then accepted mid after lines more es fs last s t =
+text_then : (es fs : Exchanges) → session_text es ++ session_text fs ≡ session_text (es ++ fs)
+text_then es fs = sym (flat_map-append exchange_line es fs)
+
+pub said_then : (es fs : Exchanges) (text more : List ℕ) (m n : ℕ) → IsSaid es text m → IsSaid fs more n → IsSaid (es ++ fs) (text ++ more) (m + n)
+said_then es fs text more m n p q = (
+  ap (λ (t : List ℕ). t ++ more) p.0 ∙ ap (λ (t : List ℕ). session_text es ++ t) q.0 ∙ text_then es fs,
+  omega (arith, length-append es fs, p.1, q.1),
+)
+
+pub cut_then : (es fs : Exchanges) (text more : List ℕ) (m n : ℕ) → NoBye es → IsSaid es text m → IsCutInReply fs more n → IsCutInReply (es ++ fs) (text ++ more) (m + n)
+cut_then es fs text more m n none p c =
     record {
-      front = lines ++ t.front;
-      line = t.line;
-      later = t.later;
-      lines_are = ap (λ (l : Lines). lines ++ l) t.lines_are ∙ sym (append_assoc lines t.front (t.line ∷ t.later));
-      between = t.between;
-      answered = answered_then accepted mid t.between lines t.front es fs s t.answered;
-      turn = t.turn;
+      before = es ++ c.before;
+      last = c.last;
+      turned_are = ap (λ (l : Exchanges). es ++ l) c.turned_are ∙ sym (append_assoc es c.before (c.last ∷ []));
+      none_before = no_bye_then es c.before none c.none_before;
+      part = c.part;
+      short = c.short;
+      text_is = ap (λ (t : List ℕ). t ++ more) p.0 ∙ ap (λ (t : List ℕ). session_text es ++ t) c.text_is ∙ sym (append_assoc (session_text es) (session_text c.before) c.part)
+          ∙ ap (λ (t : List ℕ). t ++ c.part) (text_then es c.before);
+      count_is = omega (arith, length-append es c.before, p.1, c.count_is);
     }
 
-pub bye_then : (accepted mid after : List Report) (lines more : Lines) (es fs : Exchanges) → Answered accepted lines es mid → EndsWithBye mid more fs after → EndsWithBye accepted (lines ++ more) (es ++ fs) after
-bye_then accepted mid after lines more es fs s t =
+pub question_then : (lines more : Lines) → StartsWithQuestion lines → StartsWithQuestion (lines ++ more)
+question_then lines more q =
     record {
-      before = es ++ t.before;
-      last = t.last;
-      exchanges_are = ap (λ (l : Exchanges). es ++ l) t.exchanges_are ∙ sym (append_assoc es t.before (t.last ∷ []));
-      bye = t.bye;
-      turns = turns_then accepted mid after lines more es t.before t.last s t.turns;
+      line = q.line;
+      later = q.later ++ more;
+      call = q.call;
+      lines_are = ap (λ (l : Lines). l ++ more) q.lines_are;
+      means = q.means;
+      question = q.question;
     }
 
-pub cut_then : (accepted mid after : List Report) (lines more : Lines) (es fs : Exchanges) (ending : List ℕ) → Answered accepted lines es mid → CutInReply mid more fs after ending
-    → CutInReply accepted (lines ++ more) (es ++ fs) after ending
-cut_then accepted mid after lines more es fs ending s t = record { last = t.last; turns = turns_then accepted mid after lines more es fs t.last s t.turns; short = t.short }
-
-pub turns_first : (accepted after : List Report) (line : List ℕ) (later : Lines) (last : Exchange) → TakesTurn accepted line last after → TurnsTo accepted (line ∷ later) [] last after
-turns_first accepted after line later last turn =
-    record { front = []; line = line; later = later; lines_are = refl; between = accepted; answered = answered_none accepted; turn = turn }
-
-pub front_none : (accepted after : List Report) (lines : Lines) → after ≡ accepted → AnsweredFront accepted lines [] after
-front_none accepted after lines same = record { front = []; later = lines; lines_are = refl; answered = record { served = same; no_bye = tt } }
-
--- the lines of two parts, as far as the second one comes
-pub lines_then : (end : LinesEnd) (accepted mid after : List Report) (lines more : Lines) (es fs : Exchanges) (ending : List ℕ) → Answered accepted lines es mid → LinesTo end more mid fs after ending
-    → LinesTo end (lines ++ more) accepted (es ++ fs) after ending
-lines_then lines_ends.All accepted mid after lines more es fs ending s t = (t.0, answered_then accepted mid after lines more es fs s t.1)
-lines_then lines_ends.Bye accepted mid after lines more es fs ending s t = (t.0, bye_then accepted mid after lines more es fs s t.1)
-lines_then lines_ends.Memory accepted mid after lines more es fs ending s t = (t.0, front_then accepted mid after lines more es fs s t.1)
-lines_then lines_ends.WriteFailed accepted mid after lines more es fs ending s t = cut_then accepted mid after lines more es fs ending s t
+-- where some lines were all answered, and the next ones as far as this, so were both; more lines follow only where it ends
+pub far_then : (end : Option Kind) (later more : Lines) (es fs : Exchanges) (text line : List ℕ) (m n : ℕ) → NoBye es → IsSaid es text m → (end ≡ None → more ≡ []) → HowFar end later fs line n
+    → HowFar end (later ++ more) (es ++ fs) (text ++ line) (m + n)
+far_then None later more es fs text line m n none said nothing far = (
+  no_bye_then es fs none far.0,
+  ap (λ (l : Lines). later ++ l) (nothing refl) ∙ append-nil later ∙ far.1,
+  said_then es fs text line m n said far.2,
+)
+far_then (Some kinds.Bye) later more es fs text line m n none said nothing far = (bye_then es fs none far.0, said_then es fs text line m n said far.1)
+far_then (Some kinds.Memory) later more es fs text line m n none said nothing far = (no_bye_then es fs none far.0, question_then later more far.1, said_then es fs text line m n said far.2)
+far_then (Some kinds.WriteFailed) later more es fs text line m n none said nothing far = cut_then es fs text line m n none said far
+far_then (Some kinds.End) later more es fs text line m n none said nothing far = absurd far
+far_then (Some kinds.TooLong) later more es fs text line m n none said nothing far = absurd far
+far_then (Some kinds.ReadFailed) later more es fs text line m n none said nothing far = absurd far
+far_then (Some kinds.Endless) later more es fs text line m n none said nothing far = absurd far

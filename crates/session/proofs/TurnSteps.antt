@@ -24,7 +24,8 @@ use Rattle.reasons.specs.declared.certificate.Certificate.{Certificate}
 use Rattle.reasons.specs.Certificates.{Certifies}
 use Rattle.reasons.specs.CertificateText.{certificate_text}
 use Rattle.session.specs.SessionText.{Means}
-use Rattle.session.specs.Parts.{Shows, call_read, id_text}
+use Rattle.session.specs.Turned.{Shows}
+use Rattle.session.specs.Parts.{call_read, id_text}
 
 nothing_of : (accepted : List Report) → length accepted ≡ 0 → accepted ≡ []
 nothing_of [] e = refl
@@ -34,17 +35,17 @@ something_of : (accepted : List Report) → 0 < length accepted → ¬ (accepted
 something_of accepted lt e = let none : length accepted ≡ 0 = ap length e in absurd (omega arith)
 
 pub nothing_begun : (accepted : List Report) (names : List Name) → length accepted ≡ 0 → Shows accepted (calls.Line names) accepted (replies.No NothingBegun None None)
-nothing_begun accepted names none = (replies.No NothingBegun None None, (fine, (inl (nothing_of accepted none, refl), refl)), refl)
+nothing_begun accepted names none = record { reply = replies.No NothingBegun None None; turned = (fine, (inl (nothing_of accepted none, refl), refl)); fits = refl }
 
 pub unknown_name : (accepted : List Report) (names : List Name) (name : Name) → 0 < length accepted → IsFirstUnknown accepted names name
     → Shows accepted (calls.Line names) accepted (replies.No UnknownProcess (Some name) None)
 unknown_name accepted names name some first =
-    (replies.No UnknownProcess (Some name) None, (fine, (inr (something_of accepted some, inl (name, first, refl)), refl)), refl)
+    record { reply = replies.No UnknownProcess (Some name) None; turned = (fine, (inr (something_of accepted some, inl (name, first, refl)), refl)); fits = refl }
 
 taken : (accepted : List Report) (names : List Name) (shown : Reply) → 0 < length accepted → All (IsKnown accepted) names
     → (((text : List ℕ) × (shown ≡ replies.Line text) × IsLineText accepted names text) ⊎ (shown ≡ no_memory)) → Shows accepted (calls.Line names) accepted shown
 taken accepted names shown some known shows =
-    (replies.Taken (length accepted), (fine, (inr (something_of accepted some, inr (known, refl)), refl)), shows)
+    record { reply = replies.Taken (length accepted); turned = (fine, (inr (something_of accepted some, inr (known, refl)), refl)); fits = shows }
 
 pub shown_text : (accepted : List Report) (names : List Name) (text : List ℕ) → 0 < length accepted → All (IsKnown accepted) names → IsLineText accepted names text
     → Shows accepted (calls.Line names) accepted (replies.Line text)
@@ -54,14 +55,14 @@ pub shown_none : (accepted : List Report) (names : List Name) → 0 < length acc
 shown_none accepted names some known = taken accepted names no_memory some known (inr refl)
 
 pub bad_line : (accepted after : List Report) (n : ℕ) → after ≡ accepted → Shows accepted (calls.Bad n) after (replies.Bad n)
-bad_line accepted after n same = (replies.Bad n, (fine, (refl, same)), refl)
+bad_line accepted after n same = record { reply = replies.Bad n; turned = (fine, (refl, same)); fits = refl }
 
 pub nothing_begun_state : (accepted : List Report) (p : Name) → length accepted ≡ 0 → Shows accepted (calls.State p) accepted (replies.No NothingBegun None None)
-nothing_begun_state accepted p none = (replies.No NothingBegun None None, (fine, (inl (nothing_of accepted none, refl), refl)), refl)
+nothing_begun_state accepted p none = record { reply = replies.No NothingBegun None None; turned = (fine, (inl (nothing_of accepted none, refl), refl)); fits = refl }
 
 pub unknown_state : (accepted : List Report) (p : Name) → 0 < length accepted → ¬ IsKnown accepted p → Shows accepted (calls.State p) accepted (replies.No UnknownProcess (Some p) None)
 unknown_state accepted p some unknown =
-    (replies.No UnknownProcess (Some p) None, (fine, (inr (something_of accepted some, inl (unknown, refl)), refl)), refl)
+    record { reply = replies.No UnknownProcess (Some p) None; turned = (fine, (inr (something_of accepted some, inl (unknown, refl)), refl)); fits = refl }
 
 -- what is shown for a state, by its registered id
 shown_by : (accepted : List Report) (p : Name) (target : Option Name) (reports elements : ℕ) (id : Option (Bor IdTree)) → reports ≡ reports_of p accepted → elements ≡ length (elements_of p accepted)
@@ -75,10 +76,10 @@ pub shown_state : (accepted : List Report) (p : Name) (state : State) → 0 < le
     → Shows accepted (calls.State p) accepted (replies.State p state.reports state.elements (is_some state.id) (id_text (option_copied state.id)))
 shown_state accepted p state some known is =
     let shown = shown_by accepted p (target_of p accepted) state.reports state.elements state.id is.reports is.elements is.id in
-    (replies.State p state.reports state.elements (is_some state.id) (id_text (option_copied state.id)), (fine, (inr (something_of accepted some, inr (λ h. h known, shown)), refl)), refl)
+    record { reply = replies.State p state.reports state.elements (is_some state.id) (id_text (option_copied state.id)); turned = (fine, (inr (something_of accepted some, inr (λ h. h known, shown)), refl)); fits = refl }
 
 pub bye_said : (accepted : List Report) → Shows accepted calls.Bye accepted replies.Bye
-bye_said accepted = (replies.Bye, (fine, (refl, refl)), refl)
+bye_said accepted = record { reply = replies.Bye; turned = (fine, (refl, refl)); fits = refl }
 
 -- the certificate for a failed set that these names have is one for the names
 pub line_of_names : (accepted : List Report) (names : List Name) (failed text : List ℕ) (c : Certificate) → IsFailedSet accepted names failed
@@ -105,3 +106,7 @@ pub bye_read : (read : Result Call LineFault) → call_read read ≡ calls.Bye �
 bye_read (Ok call) is = ap Ok is
 bye_read (Err faults.Grammar) is = absurd cc
 bye_read (Err faults.Memory) is = absurd cc
+
+-- a line that memory did not suffice to read
+pub unread_line : (accepted : List Report) → Shows accepted calls.Unread accepted no_memory
+unread_line accepted = record { reply = no_memory; turned = (fine, (refl, refl)); fits = refl }

@@ -1,49 +1,49 @@
--- What a session did to its reader, its writer and the accepted list.
-use Rattle.std.specs.Prelude.{◌≡◌, ◌≤◌, ℕ, List, ◌++◌, length, Option}
-use Rattle.std.specs.Io.KnownBytes.{Appends, Consumes}
+-- What a session did to its link and to the accepted list.
+use Rattle.std.specs.Prelude.{◌≡◌, ◌≤◌, ◌<◌, ℕ, List, [], ◌++◌, length, take, IsSome}
+use Rattle.std.specs.Io.KnownBytes.{Appends, Consumes, IsAtEnd}
 use Rattle.report_line.specs.declared.report.Report.{Report}
 use Rattle.report_line.specs.Cutting.{cut_of}
 use Rattle.session.specs.declared.kind.Kind.{Kind}
 use Rattle.session.specs.declared.kind.Kind.TheVariants as kinds
-use Rattle.session.specs.Links.{up}
-use Rattle.session.specs.SessionText.{Exchange, IsSession}
+use Rattle.session.specs.Links.{up, LinkState, IsSound, IsFault}
+use Rattle.session.specs.SessionText.{Exchange, NoBye, session_text, joined, most_reads, IsSession}
+use Rattle.session.specs.Turned.{Served}
 
--- No reading ahead: the last read gave this piece, and by then each line that was complete without it was answered whole.
-pub record IsPrompt {R : Type 0} (left : R → Option (List ℕ)) (reads : R → ℕ) (reader reader_after : R) (read : List ℕ) (exchanges : List Exchange) : Type 0 where
-  pub mid : R
-  pub earlier : List ℕ
-  pub piece : List ℕ
-  pub read_is : read ≡ earlier ++ piece
-  pub before : Consumes (left reader) (left mid) earlier
-  pub last : Consumes (left mid) (left reader_after) piece
-  pub one_read : reads reader_after ≡ up 1 (reads mid)
-  pub answered : length (cut_of earlier).0 ≤ length exchanges
+-- A read after so many others, which gave these bytes: by then each line that is complete was answered, and all of the
+-- replies were handed on.
+pub record IsReadAt {K : Type 0} (told : K → LinkState) (link : K) (reads : ℕ) (earlier : List ℕ) (turned : List Exchange) : Type 0 where
+  pub reading : K
+  pub reads_are : (told reading).reads ≡ up reads (told link).reads
+  pub consumed : Consumes (told link).left (told reading).left earlier
+  pub answered : List Exchange
+  pub later : List Exchange
+  pub turned_are : turned ≡ answered ++ later
+  pub each_line : length answered ≡ length (cut_of earlier).0
+  pub written : Appends (told link).held (told reading).held (session_text answered)
+  pub nothing_waits : (told reading).waiting ≡ []
+  pub no_bye : NoBye answered
+  pub is_open : IsSome (cut_of earlier).1
 
--- What was read, and the session text of it, which was written, each reply before the next read.
-pub record Ended {R : Type 0} (left : R → Option (List ℕ)) (reads : R → ℕ) (reader reader_after : R) (held held_after : Option (List ℕ)) (accepted after : List Report) (kind : Kind) (count : ℕ) : Type 0 where
-  pub read : List ℕ
+-- no reading ahead: it is so at each read
+abbrev pub IsPrompt : {K : Type 0} → (K → LinkState) → K → List (List ℕ) → List Exchange → Type 0
+IsPrompt told link pieces turned = (n : ℕ) → n < length pieces → IsReadAt told link n (joined (take n pieces)) turned
+
+-- What each read gave, the session text of it, which was written, and the exchanges, which took turns.
+pub record Ended {K : Type 0} (told : K → LinkState) (link after_link : K) (accepted after : List Report) (kind : Kind) (count : ℕ) : Type 0 where
+  pub pieces : List (List ℕ)
+  pub turned : List Exchange
   pub text : List ℕ
-  pub consumed : Consumes (left reader) (left reader_after) read
-  pub written : Appends held held_after text
-  pub session : IsSession accepted read kind after text count
-  pub prompt : IsPrompt left reads reader reader_after read session.exchanges
+  pub session : IsSession pieces kind turned text count
+  pub served : Served accepted turned after
+  pub consumed : Consumes (told link).left (told after_link).left (joined pieces)
+  pub written : Appends (told link).held (told after_link).held text
+  pub reads : (told after_link).reads ≡ up (length pieces) (told link).reads
+  pub few : length pieces ≤ most_reads
+  pub prompt : IsPrompt told link pieces turned
 
--- How many reads failed: one just where it ended the session.
-abbrev pub reads_after : Kind → ℕ → ℕ
-reads_after kinds.ReadFailed n = up 1 n
-reads_after kinds.End n = n
-reads_after kinds.Bye n = n
-reads_after kinds.TooLong n = n
-reads_after kinds.Memory n = n
-reads_after kinds.WriteFailed n = n
-reads_after kinds.Endless n = n
-
--- How many writes failed: one just where it ended the session.
-abbrev pub writes_after : Kind → ℕ → ℕ
-writes_after kinds.WriteFailed n = up 1 n
-writes_after kinds.End n = n
-writes_after kinds.Bye n = n
-writes_after kinds.TooLong n = n
-writes_after kinds.Memory n = n
-writes_after kinds.ReadFailed n = n
-writes_after kinds.Endless n = n
+-- What a link tells where a session ends so: a read failed, or a write or a hand-on; or none did, and nothing waits.
+abbrev pub Leaves : Kind → LinkState → LinkState → Type 0
+Leaves kinds.ReadFailed old new = (new.failures ≡ up 1 old.failures) × (new.stalls ≡ old.stalls) × (new.waiting ≡ [])
+Leaves kinds.WriteFailed old new = IsFault old new
+Leaves kinds.End old new = IsSound old new × (new.waiting ≡ []) × IsAtEnd new.left
+Leaves _ old new = IsSound old new × (new.waiting ≡ [])

@@ -1,4 +1,5 @@
 pub mod Links
 pub mod SessionText
+pub mod Turned
 pub mod Ends
 pub mod Parts

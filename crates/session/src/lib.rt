@@ -1,18 +1,20 @@
 //! One client: lines in, replies out.
 //!
-//! A session reads some bytes, answers each line that they complete, and only then reads on.
+//! A session reads some bytes, answers each line that they complete, hands the replies on, and only then reads on.
 #![tactic(auto)]
 
-mod adapter;
 mod kind;
+mod laws;
 mod link;
 mod numbered;
 mod reply_line;
 mod serving;
 mod session;
+mod streams;
 mod turns;
 
-pub use adapter::{Reader, Writer};
 pub use kind::{Kind, SessionEnd};
-pub use link::{LinkFault, Sink, Source, put};
+pub use laws::{exchanges_keep_lists_reachable, exchanges_tell_what_is_accepted};
+pub use link::{Link, LinkFault, put};
 pub use session::run_lines;
+pub use streams::Streams;

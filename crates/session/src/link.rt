@@ -1,62 +1,49 @@
-//! Where bytes come from and go to.
+//! A client: where bytes come from and go to.
 
-ghost use Rattle.std.specs.Prelude.{◌≡◌, ℕ, List, Option, IfOk, OnOk, OnErr, IsOk, ◌≤◌, ◌==◌, if◌then◌else◌, length};
+ghost use Rattle.std.specs.Prelude.{◌≡◌, ℕ, IfOk, ◌≤◌, length};
 ghost use Rattle.std.specs.List.{flat_map};
-ghost use Rattle.std.specs.Io.KnownBytes.{ReadConsumes, WriteAppends};
-ghost use Rattle.session.specs.Links.{up, Sends};
+ghost use Rattle.session.specs.Links.{LinkState, IsRead, IsWrite, IsHandOn, Puts};
 
 use thiserror::Error;
 
-/// A read or a write failed.
+/// A read, a write or a hand-on failed.
 #[derive(Clone, Copy, Debug, PartialEq, Eq, Error)]
 pub enum LinkFault {
     #[error("the device failed")]
     Device,
 }
 
-pub trait Source {
-    /// The bytes that reads will give, where they are known.
-    ghost left: { Self → Option (List ℕ) };
-
-    /// How many reads were made.
-    ghost reads: { Self → ℕ };
-
-    /// How many reads failed.
-    ghost read_failures: { Self → ℕ };
+/// Two streams of bytes, one to read and one to write.
+pub trait Link {
+    /// What the link tells of itself.
+    ghost told: { Self → LinkState };
 
     /// Reads some bytes: none only at the end, or with no room.
     fn read(&mut self, buf: &mut [u8]) -> Result<usize, LinkFault>
         ensures bound { IfOk result (λ n. n ≤ length buf.new) }
-        ensures bytes { ReadConsumes (left self.old) (left self.new) result buf.new }
-        ensures counted { reads self.new ≡ up 1 (reads self.old) }
-        ensures ok { OnOk result (read_failures self.new ≡ read_failures self.old) }
-        ensures err { OnErr result (read_failures self.new ≡ up 1 (read_failures self.old)) };
-}
+        ensures read { IsRead (told self.old) (told self.new) result buf.new };
 
-pub trait Sink {
-    /// The bytes that were taken, where they are known.
-    ghost held: { Self → Option (List ℕ) };
-
-    /// How many writes failed, or took nothing.
-    ghost write_failures: { Self → ℕ };
-
-    /// Takes some of the bytes, from their front.
+    /// Takes some of the bytes, from their front. They may wait in the link until they are handed on.
     fn write(&mut self, buf: &[u8]) -> Result<usize, LinkFault>
         ensures bound { IfOk result (λ n. n ≤ length buf.now) }
-        ensures bytes { WriteAppends (held self.old) (held self.new) result buf.now }
-        ensures ok { IfOk result (λ n. write_failures self.new ≡ (if n == 0 then up 1 (write_failures self.old) else write_failures self.old)) }
-        ensures err { OnErr result (write_failures self.new ≡ up 1 (write_failures self.old)) };
+        ensures write { IsWrite (told self.old) (told self.new) result buf.now };
+
+    /// Hands on all that was taken.
+    fn hand_on(&mut self) -> Result<(), LinkFault>
+        ensures { IsHandOn (told self.old) (told self.new) result };
+
+    /// How many calls failed.
+    fn failures(&self) -> u64
+        ensures { result ≡ (told self.now).failures };
 }
 
-/// Writes all of the bytes. A write that takes none of them is a failed one.
-pub fn put<W: Sink>(writer: &mut W, bytes: &[u8]) -> Result<(), LinkFault>
-    ensures sent { Sends (W.held writer.old) (W.held writer.new) result bytes.now }
-    ensures ok { OnOk result (W.write_failures writer.new ≡ W.write_failures writer.old) }
-    ensures err { OnErr result (W.write_failures writer.new ≡ up 1 (W.write_failures writer.old)) }
+/// Writes all of the bytes. A write that takes none of them is treated as a failed one.
+pub fn put<K: Link>(link: &mut K, bytes: &[u8]) -> Result<(), LinkFault>
+    ensures { Puts (K.told link.old) (K.told link.new) result bytes.now }
 {
     let mut rest = bytes;
     while !rest.is_empty() {
-        let n = writer.write(rest)?;
+        let n = link.write(rest)?;
         if n == 0 {
             return Err(LinkFault::Device);
         }
@@ -67,13 +54,11 @@ pub fn put<W: Sink>(writer: &mut W, bytes: &[u8]) -> Result<(), LinkFault>
 }
 
 /// Writes the pieces, one after the other.
-pub(crate) fn put_all<W: Sink>(writer: &mut W, pieces: &[&[u8]]) -> Result<(), LinkFault>
-    ensures sent { Sends (W.held writer.old) (W.held writer.new) result (flat_map (λ p. p.now) pieces.now) }
-    ensures ok { OnOk result (W.write_failures writer.new ≡ W.write_failures writer.old) }
-    ensures err { OnErr result (W.write_failures writer.new ≡ up 1 (W.write_failures writer.old)) }
+pub(crate) fn put_all<K: Link>(link: &mut K, pieces: &[&[u8]]) -> Result<(), LinkFault>
+    ensures { Puts (K.told link.old) (K.told link.new) result (flat_map (λ p. p.now) pieces.now) }
 {
     for piece in pieces {
-        put(writer, piece)?;
+        put(link, piece)?;
     }
     Ok(())
 }

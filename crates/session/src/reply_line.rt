@@ -1,32 +1,30 @@
 //! Replies as they are written.
 
 ghost use Rattle.std.specs.Fmt.{decimal};
-ghost use Rattle.std.specs.Prelude.{◌≡◌, [], ◌∷◌, ◌++◌, ◌≤◌, OnOk, OnErr};
+ghost use Rattle.std.specs.Prelude.{◌≡◌, [], ◌∷◌, ◌++◌, ◌≤◌};
 ghost use Rattle.report_line.specs.Replies.{reply_text, or_dash};
 ghost use Rattle.report_line.specs.Cutting.{ended};
-ghost use Rattle.session.specs.Links.{up, Sends};
+ghost use Rattle.session.specs.Links.{Puts};
 
-use crate::link::{LinkFault, Sink, put, put_all};
+use crate::link::{Link, LinkFault, put, put_all};
 use crate::numbered::{ROOM, write_at_end};
 use itoa::Buffer;
 use report_line::{Code, Name, Outcome, Reply, Text};
 
 /// A word, a number and an LF, made in one piece.
-fn put_numbered<W: Sink, const N: usize>(
-    writer: &mut W,
+fn put_numbered<K: Link, const N: usize>(
+    link: &mut K,
     word: &[u8; N],
     n: u32,
 ) -> Result<(), LinkFault>
     requires { N ≤ 5 }
-    ensures sent { Sends (W.held writer.old) (W.held writer.new) result (word.now ++ decimal n ++ 10 ∷ []) }
-    ensures ok { OnOk result (W.write_failures writer.new ≡ W.write_failures writer.old) }
-    ensures err { OnErr result (W.write_failures writer.new ≡ up 1 (W.write_failures writer.old)) }
+    ensures { Puts (K.told link.old) (K.told link.new) result (word.now ++ decimal n ++ 10 ∷ []) }
 {
     let mut line = [0u8; ROOM];
     let digits = write_at_end(&mut line, n);
     let start = digits - N;
     line[start..digits].copy_from_slice(word);
-    put(writer, &line[start..])
+    put(link, &line[start..])
 }
 
 fn name_bytes(name: &Option<Name>) -> &[u8]
@@ -49,19 +47,17 @@ fn value_bytes(value: &Option<Text>) -> &[u8]
 
 /// A refusal and an LF.
 #[tactic(auto, unfolding(report_line::specs::Replies::reply_text))]
-fn put_refusal<W: Sink>(
-    writer: &mut W,
+fn put_refusal<K: Link>(
+    link: &mut K,
     code: Code,
     name: &Option<Name>,
     value: &Option<Text>,
 ) -> Result<(), LinkFault>
-    ensures sent { Sends (W.held writer.old) (W.held writer.new) result (ended (reply_text (Reply.No code name.now value.now))) }
-    ensures ok { OnOk result (W.write_failures writer.new ≡ W.write_failures writer.old) }
-    ensures err { OnErr result (W.write_failures writer.new ≡ up 1 (W.write_failures writer.old)) }
+    ensures { Puts (K.told link.old) (K.told link.new) result (ended (reply_text (Reply.No code name.now value.now))) }
 {
     let mut digits = Buffer::new();
     put_all(
-        writer,
+        link,
         &[
             b"NO ".as_slice(),
             digits.format(code.number()).as_bytes(),
@@ -76,22 +72,20 @@ fn put_refusal<W: Sink>(
 
 /// What became of a report, and an LF.
 #[tactic(auto, unfolding(report_line::specs::Replies::reply_text))]
-fn put_outcome<W: Sink>(writer: &mut W, outcome: Outcome) -> Result<(), LinkFault>
-    ensures sent { Sends (W.held writer.old) (W.held writer.new) result (ended (reply_text (Reply.Fail outcome))) }
-    ensures ok { OnOk result (W.write_failures writer.new ≡ W.write_failures writer.old) }
-    ensures err { OnErr result (W.write_failures writer.new ≡ up 1 (W.write_failures writer.old)) }
+fn put_outcome<K: Link>(link: &mut K, outcome: Outcome) -> Result<(), LinkFault>
+    ensures { Puts (K.told link.old) (K.told link.new) result (ended (reply_text (Reply.Fail outcome))) }
 {
     match outcome {
         Outcome::Before => put_all(
-            writer,
+            link,
             &[b"FAIL ".as_slice(), b"before".as_slice(), b"\n".as_slice()],
         ),
         Outcome::Unknown => put_all(
-            writer,
+            link,
             &[b"FAIL ".as_slice(), b"unknown".as_slice(), b"\n".as_slice()],
         ),
         Outcome::Stopped => put_all(
-            writer,
+            link,
             &[b"FAIL ".as_slice(), b"stopped".as_slice(), b"\n".as_slice()],
         ),
     }
@@ -99,17 +93,15 @@ fn put_outcome<W: Sink>(writer: &mut W, outcome: Outcome) -> Result<(), LinkFaul
 
 /// What is kept of a process, and an LF.
 #[tactic(auto, unfolding(report_line::specs::Replies::reply_text))]
-fn put_state<W: Sink>(
-    writer: &mut W,
+fn put_state<K: Link>(
+    link: &mut K,
     name: &Name,
     reports: u32,
     elements: u32,
     live: bool,
     id: &Text,
 ) -> Result<(), LinkFault>
-    ensures sent { Sends (W.held writer.old) (W.held writer.new) result (ended (reply_text (Reply.State name.now reports elements live id.now))) }
-    ensures ok { OnOk result (W.write_failures writer.new ≡ W.write_failures writer.old) }
-    ensures err { OnErr result (W.write_failures writer.new ≡ up 1 (W.write_failures writer.old)) }
+    ensures { Puts (K.told link.old) (K.told link.new) result (ended (reply_text (Reply.State name.now reports elements live id.now))) }
 {
     let mut of_reports = Buffer::new();
     let mut of_elements = Buffer::new();
@@ -121,7 +113,7 @@ fn put_state<W: Sink>(
         b"retired".as_slice()
     };
     put_all(
-        writer,
+        link,
         &[
             b"STATE ".as_slice(),
             name.as_bytes(),
@@ -140,29 +132,27 @@ fn put_state<W: Sink>(
 
 /// A reply and an LF, from its parts.
 #[tactic(auto, unfolding(report_line::specs::Replies::reply_text))]
-pub(crate) fn put_reply<W: Sink>(writer: &mut W, reply: &Reply) -> Result<(), LinkFault>
-    ensures sent { Sends (W.held writer.old) (W.held writer.new) result (ended (reply_text reply.now)) }
-    ensures ok { OnOk result (W.write_failures writer.new ≡ W.write_failures writer.old) }
-    ensures err { OnErr result (W.write_failures writer.new ≡ up 1 (W.write_failures writer.old)) }
+pub(crate) fn put_reply<K: Link>(link: &mut K, reply: &Reply) -> Result<(), LinkFault>
+    ensures { Puts (K.told link.old) (K.told link.new) result (ended (reply_text reply.now)) }
 {
     match reply {
-        Reply::Accepted(front) => put_numbered(writer, b"OK ", *front),
-        Reply::Old(front) => put_numbered(writer, b"OLD ", *front),
-        Reply::No { code, name, value } => put_refusal(writer, *code, name, value),
-        Reply::Bad(number) => put_numbered(writer, b"BAD ", u32::from(*number)),
+        Reply::Accepted(front) => put_numbered(link, b"OK ", *front),
+        Reply::Old(front) => put_numbered(link, b"OLD ", *front),
+        Reply::No { code, name, value } => put_refusal(link, *code, name, value),
+        Reply::Bad(number) => put_numbered(link, b"BAD ", u32::from(*number)),
         Reply::Line(text) => put_all(
-            writer,
+            link,
             &[b"LINE ".as_slice(), text.as_bytes(), b"\n".as_slice()],
         ),
-        Reply::Fail(outcome) => put_outcome(writer, *outcome),
+        Reply::Fail(outcome) => put_outcome(link, *outcome),
         Reply::State {
             name,
             reports,
             elements,
             live,
             id,
-        } => put_state(writer, name, *reports, *elements, *live, id),
-        Reply::Bye => put(writer, b"BYE\n"),
-        Reply::Taken(_) => put(writer, b"\n"),
+        } => put_state(link, name, *reports, *elements, *live, id),
+        Reply::Bye => put(link, b"BYE\n"),
+        Reply::Taken(_) => put(link, b"\n"),
     }
 }

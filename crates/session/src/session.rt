@@ -1,38 +1,55 @@
 //! One client: lines in, replies out.
 
-ghost use Rattle.std.specs.Prelude.{◌≡◌, ◌≢◌, ◌≤◌, ◌<◌, ◌^◌, ℕ, [], Some, None};
-ghost use Rattle.std.specs.Io.KnownBytes.{IsAtEnd};
-ghost use Rattle.session.specs.Links.{up};
-ghost use Rattle.session.specs.Ends.{Ended, reads_after, writes_after};
-ghost use Rattle.session.specs.Parts.{Goes, Follows, Closes, read_failures_at, write_failures_at};
+ghost use Rattle.std.specs.Prelude.{◌≡◌, ◌≢◌, ◌≤◌, ◌<◌, ◌^◌, ℕ, None};
+ghost use Rattle.session.specs.SessionText.{ending_line, ending_count};
+ghost use Rattle.session.specs.Ends.{Ended, Leaves};
+ghost use Rattle.session.specs.Parts.{Follows, Steps, Closing, Closes};
 
 use crate::kind::{Kind, SessionEnd};
-use crate::link::{Sink, Source, put};
-use crate::serving::{LinesEnd, serve_lines};
-use crate::turns::Turns;
+use crate::link::{Link, put};
+use crate::serving::serve_lines;
 use chains::Chains;
 use report_line::Feed;
 
 /// How many reads a session makes at most.
 const MOST_READS: u64 = 1_048_576;
 
-/// Writes the ending line of a session that ends so behind this many lines, if it has one.
-fn close<W: Sink>(writer: &mut W, kind: Kind, replies: u64) -> SessionEnd
-    requires { replies < 2 ^ 63 }
-    ensures closes { Closes (W.held writer.old) (W.held writer.new) kind replies result.kind result.replies }
-    ensures kind { result.kind ≢ kind → result.kind ≡ Kind.WriteFailed }
-    ensures failures { (n : ℕ) → W.write_failures writer.old ≡ writes_after kind n → W.write_failures writer.new ≡ writes_after result.kind n }
+/// The ending line of a session that ends so, if it has one.
+fn line_of_end(kind: Kind) -> &'static [u8]
+    ensures { result.now ≡ ending_line kind }
 {
-    let line = match kind {
+    match kind {
         Kind::TooLong => b"BAD 2\n".as_slice(),
         Kind::Memory => b"NO 16 - -\n".as_slice(),
-        _ => return SessionEnd { kind, replies },
-    };
-    match put(writer, line) {
-        Ok(()) => SessionEnd {
-            kind,
-            replies: replies + 1,
-        },
+        Kind::End | Kind::Bye | Kind::ReadFailed | Kind::WriteFailed | Kind::Endless =>
+            b"".as_slice(),
+    }
+}
+
+/// How many ending lines a session has that ends so.
+fn lines_of_end(kind: Kind) -> u64
+    ensures { result ≡ ending_count kind }
+{
+    match kind {
+        Kind::TooLong | Kind::Memory => 1,
+        Kind::End | Kind::Bye | Kind::ReadFailed | Kind::WriteFailed | Kind::Endless => 0,
+    }
+}
+
+/// Writes the ending line of a session that ends so behind this many lines, and hands all on.
+fn close_by<K: Link>(link: &mut K, kind: Kind, replies: u64) -> SessionEnd
+    requires { replies < 2 ^ 63 }
+    ensures { Closing kind (K.told link.old) (K.told link.new) replies result.kind result.replies }
+{
+    if put(link, line_of_end(kind)).is_err() {
+        return SessionEnd {
+            kind: Kind::WriteFailed,
+            replies,
+        };
+    }
+    let replies = replies + lines_of_end(kind);
+    match link.hand_on() {
+        Ok(()) => SessionEnd { kind, replies },
         Err(_) => SessionEnd {
             kind: Kind::WriteFailed,
             replies,
@@ -40,39 +57,42 @@ fn close<W: Sink>(writer: &mut W, kind: Kind, replies: u64) -> SessionEnd
     }
 }
 
+/// The end of a session that ends so behind this many lines.
+fn close<K: Link>(link: &mut K, kind: Kind, replies: u64) -> SessionEnd
+    requires { replies < 2 ^ 63 }
+    ensures { Closes kind (K.told link.old) (K.told link.new) replies result.kind result.replies }
+{
+    match kind {
+        Kind::End | Kind::ReadFailed | Kind::WriteFailed => SessionEnd { kind, replies },
+        Kind::Bye | Kind::TooLong | Kind::Memory | Kind::Endless => {
+            close_by(link, kind, replies)
+        }
+    }
+}
+
 /// Why a session ends once lines were served to this end, if it does.
-fn kind_after(end: LinesEnd, feed: &Feed) -> Option<Kind>
+fn kind_after(end: Option<Kind>, feed: &Feed) -> Option<Kind>
     ensures { Follows end feed.now result }
 {
     match end {
-        LinesEnd::All if feed.too_long() => Some(Kind::TooLong),
-        LinesEnd::All => None,
-        LinesEnd::Bye => Some(Kind::Bye),
-        LinesEnd::Memory => Some(Kind::Memory),
-        LinesEnd::WriteFailed => Some(Kind::WriteFailed),
+        Some(kind) => Some(kind),
+        None => if feed.too_long() {
+            Some(Kind::TooLong)
+        } else {
+            None
+        },
     }
 }
 
 /// One read: the lines that it completes are answered. Answers why the session ends, if it does, and how many replies
 /// were written whole.
-fn step<R: Source, W: Sink>(
-    chains: &mut Chains,
-    turns: &mut Turns,
-    feed: &mut Feed,
-    reader: &mut R,
-    writer: &mut W,
-) -> (Option<Kind>, u64)
+fn step<K: Link>(chains: &mut Chains, feed: &mut Feed, link: &mut K) -> (Option<Kind>, u64)
     requires { feed.old ≢ None }
-    ensures goes { Goes result.0 (R.left reader.old) (R.left reader.new) (W.held writer.old) (W.held writer.new) feed.old feed.new chains.old.accepted chains.new.accepted turns.old turns.new result.1 }
-    ensures end { result.0 ≡ Some Kind.End → IsAtEnd (R.left reader.new) }
-    ensures endless { result.0 ≢ Some Kind.Endless }
+    ensures steps { Steps (K.told link.old) (K.told link.new) feed.old feed.new chains.old.accepted chains.new.accepted result.0 result.1 }
     ensures few { result.1 ≤ 8192 }
-    ensures read { R.reads reader.new ≡ up 1 (R.reads reader.old) }
-    ensures read_failures { R.read_failures reader.new ≡ read_failures_at result.0 (R.read_failures reader.old) }
-    ensures write_failures { W.write_failures writer.new ≡ write_failures_at result.0 (W.write_failures writer.old) }
 {
     let mut buf = [0u8; 8192];
-    let Ok(n) = reader.read(&mut buf) else {
+    let Ok(n) = link.read(&mut buf) else {
         return (Some(Kind::ReadFailed), 0);
     };
     if n == 0 {
@@ -81,34 +101,31 @@ fn step<R: Source, W: Sink>(
     let Ok(lines) = feed.push(&buf[..n]) else {
         return (Some(Kind::Memory), 0);
     };
-    let (end, replies) = serve_lines(chains, turns, writer, &lines);
+    let (end, replies) = serve_lines(chains, link, &lines);
     (kind_after(end, feed), replies)
 }
 
 /// Serves one client: after each read it answers the lines that are complete, and writes each reply before the next
-/// line's turn is made. What is written is the session text of what was read.
-pub fn run_lines<R: Source, W: Sink>(
-    chains: &mut Chains,
-    reader: &mut R,
-    writer: &mut W,
-) -> SessionEnd
-    ensures session { Ended R.left R.reads reader.old reader.new (W.held writer.old) (W.held writer.new) chains.old.accepted chains.new.accepted result.kind result.replies }
-    // When each end comes.
-    ensures end { result.kind ≡ Kind.End → IsAtEnd (R.left reader.new) }
-    ensures endless { result.kind ≡ Kind.Endless → R.reads reader.new ≡ up 1048576 (R.reads reader.old) }
-    ensures reads { R.reads reader.new ≤ up 1048576 (R.reads reader.old) }
-    ensures read_failed { R.read_failures reader.new ≡ reads_after result.kind (R.read_failures reader.old) }
-    ensures write_failed { W.write_failures writer.new ≡ writes_after result.kind (W.write_failures writer.old) }
+/// line's turn is made; before each read and at the end it hands on what it wrote. What is written is the session text of
+/// what was read.
+pub fn run_lines<K: Link>(chains: &mut Chains, link: &mut K) -> SessionEnd
+    ensures session { Ended K.told link.old link.new chains.old.accepted chains.new.accepted result.kind result.replies }
+    ensures leaves { Leaves result.kind (K.told link.old) (K.told link.new) }
 {
     let mut feed = Feed::new(chains.alloc());
-    let mut turns = Turns::new();
     let mut replies = 0u64;
     for _ in 0..MOST_READS {
-        let (end, more) = step(chains, &mut turns, &mut feed, reader, writer);
+        let Ok(()) = link.hand_on() else {
+            return SessionEnd {
+                kind: Kind::WriteFailed,
+                replies,
+            };
+        };
+        let (end, more) = step(chains, &mut feed, link);
         replies += more;
         if let Some(kind) = end {
-            return close(writer, kind, replies);
+            return close(link, kind, replies);
         }
     }
-    close(writer, Kind::Endless, replies)
+    close(link, Kind::Endless, replies)
 }

@@ -1,11 +1,12 @@
-//! Turns, which are counted.
+//! Turns.
 
 ghost use Rattle.std.specs.Prelude.{◌≡◌, ℕ, List, IfOk, option_copied, None, Err};
 ghost use Rattle.report_line.specs.declared.report.Report.{Report as AnyReport};
 ghost use Rattle.report_line.specs.declared.call.Call.TheVariants as calls;
 ghost use Rattle.chains.specs.Failures.{IsFailedSet};
 ghost use Rattle.reasons.specs.Shown.{IsLineText};
-ghost use Rattle.session.specs.Parts.{Shows, MakesTurn, call_read, id_text};
+ghost use Rattle.session.specs.Turned.{Shows};
+ghost use Rattle.session.specs.Parts.{MakesTurn, call_read, id_text};
 
 use chains::{Admitted, Chains, Failed, FailedFault, State};
 use id_tree::Id;
@@ -13,7 +14,6 @@ use propagate::certificate;
 use reasons::to_json;
 use report_line::{Call, Code, LineFault, Name, PackedReport, Reply, Shared, Text};
 use std::alloc::{AllocError, Global};
-use std::marker::Model;
 
 /// A refusal with nothing to name.
 fn refusal(code: Code) -> Reply
@@ -133,54 +133,22 @@ fn not_read(fault: LineFault) -> Reply
     }
 }
 
-/// How many turns were made.
-#[derive(Drop)]
-pub(crate) struct Turns {
-    made: u64,
-}
-
-impl Model for Turns {
-    ghost use Rattle.std.specs.Prelude.{ℕ};
-
-    ghost Value = { ℕ };
-
-    ghost view = { λ t. t.made };
-}
-
-impl Turns {
-    /// None was made yet.
-    pub(crate) fn new() -> Turns
-        ensures { result ≡ 0 }
-    {
-        Turns { made: 0 }
-    }
-
-    /// Makes the turn of what a line was read as and counts it, and gives what is shown for it. Without memory for the
-    /// reply to a question for a state no turn is made.
-    #[inline(always)]
-    pub(crate) fn make(
-        &mut self,
-        chains: &mut Chains,
-        read: Result<Call, LineFault>,
-    ) -> Result<Reply, AllocError>
-        ensures { MakesTurn chains.old.accepted (call_read read) chains.new.accepted self.old self.new result }
-    {
-        let before = self.made;
-        self.made = before.saturating_add(1);
-        match read {
-            Ok(Call::Report(report)) => Ok(admit(chains, report)),
-            Ok(Call::Line(names)) => Ok(line_of(chains, names.as_slice())),
-            Ok(Call::State(name)) => match state_asked(chains, name) {
-                Ok(shown) => Ok(shown),
-                Err(fault) => {
-                    self.made = before;
-                    Err(fault)
-                }
-            },
-            Ok(Call::Bye) => Ok(Reply::Bye),
-            Ok(Call::Bad(number)) => Ok(Reply::Bad(number)),
-            Ok(Call::Unread) => Ok(refusal(Code::OutOfMemory)),
-            Err(fault) => Ok(not_read(fault)),
-        }
+/// Makes the turn of what a line was read as, and gives what is shown for it. Without memory for the reply to a question
+/// for a state no turn is made.
+#[inline(always)]
+pub(crate) fn make_turn(
+    chains: &mut Chains,
+    read: Result<Call, LineFault>,
+) -> Result<Reply, AllocError>
+    ensures { MakesTurn chains.old.accepted (call_read read) chains.new.accepted result }
+{
+    match read {
+        Ok(Call::Report(report)) => Ok(admit(chains, report)),
+        Ok(Call::Line(names)) => Ok(line_of(chains, names.as_slice())),
+        Ok(Call::State(name)) => state_asked(chains, name),
+        Ok(Call::Bye) => Ok(Reply::Bye),
+        Ok(Call::Bad(number)) => Ok(Reply::Bad(number)),
+        Ok(Call::Unread) => Ok(refusal(Code::OutOfMemory)),
+        Err(fault) => Ok(not_read(fault)),
     }
 }

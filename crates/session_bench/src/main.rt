@@ -7,8 +7,9 @@
 use anyhow::Result;
 use chains::Chains;
 use report_line::{Call, PackedReport, Shared, read_line};
-use session::{Reader, Writer, run_lines};
+use session::{Streams, run_lines};
 use std::alloc::{AllocError, Global};
+use std::io::BufWriter;
 use std::rt::Clock;
 use std::time::Instant;
 
@@ -63,10 +64,10 @@ fn time_plain_loop(rt: &HostRuntime, input: &[u8]) -> Result<u64> {
 /// How long a session takes that serves the lines, in microseconds. Making the chains and dropping them is not counted.
 fn time_session(rt: &HostRuntime, input: &[u8]) -> Result<u64> {
     let mut chains = Chains::new(rt.alloc());
-    let mut reader = Reader::new(input);
-    let mut writer = Writer::new(Vec::new(rt.alloc()));
+    let output = BufWriter::new(rt.alloc(), Vec::new(rt.alloc()))?;
+    let mut client = Streams::new(input, output);
     let start = Instant::now(rt)?;
-    let replies = run_lines(&mut chains, &mut reader, &mut writer).replies;
+    let replies = run_lines(&mut chains, &mut client).replies;
     let took = start.elapsed(rt)?.as_micros();
     anyhow::ensure!(replies == 16_384, "{replies} replies");
     Ok(u64::try_from(took)?)

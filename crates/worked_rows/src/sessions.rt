@@ -1,33 +1,35 @@
 //! Sessions.
 
-ghost use Rattle.std.specs.Prelude.{◌≡◌, ◌<◌, ℕ, Some};
+ghost use Rattle.std.specs.Prelude.{◌<◌, [], Some};
+ghost use Rattle.session.specs.Links.{LinkState};
 
 use chains::Chains;
-use session::{Kind, LinkFault, SessionEnd, Sink, Source, run_lines};
+use session::{Kind, Link, LinkFault, SessionEnd, run_lines};
 use std::alloc::Global;
 use std::test::Fail;
 
-/// Input in pieces of one size; one read fails.
+/// Input in pieces of one size, and output that takes some bytes at a time and hands them on at once. One read fails, and
+/// each write from one on.
 #[derive(Drop)]
 struct Pieces<'a> {
     rest: &'a [u8],
     size: usize,
-    fail_on: u64,
-    made: u64,
+    fail_read: u64,
+    written: Vec<u8>,
+    fail_write: u64,
+    reads: u64,
+    writes: u64,
     failed: u64,
+    stalled: u64,
     ghost some: { 0 < size },
 }
 
-impl Source for Pieces<'_> {
-    ghost left = { λ s. Some s.rest.now };
-
-    ghost reads = { λ s. s.made };
-
-    ghost read_failures = { λ s. s.failed };
+impl Link for Pieces<'_> {
+    ghost told = { λ s. record { left = Some s.rest.now; held = Some s.written.items; waiting = []; reads = s.reads; failures = s.failed; stalls = s.stalled } };
 
     fn read(&mut self, buf: &mut [u8]) -> Result<usize, LinkFault> {
-        self.made = self.made.saturating_add(1);
-        if self.made == self.fail_on {
+        self.reads = self.reads.saturating_add(1);
+        if self.reads == self.fail_read {
             self.failed = self.failed.saturating_add(1);
             return Err(LinkFault::Device);
         }
@@ -37,56 +39,42 @@ impl Source for Pieces<'_> {
         self.rest = back;
         Ok(n)
     }
-}
-
-/// Output that takes some bytes at a time; from one write on it fails.
-#[derive(Drop)]
-struct Taken {
-    bytes: Vec<u8>,
-    size: usize,
-    fail_on: u64,
-    made: u64,
-    failed: u64,
-}
-
-impl Sink for Taken {
-    ghost held = { λ s. Some s.bytes.items };
-
-    ghost write_failures = { λ s. s.failed };
 
     fn write(&mut self, buf: &[u8]) -> Result<usize, LinkFault> {
-        self.made = self.made.saturating_add(1);
-        let n = self.size.min(buf.len());
-        if self.made >= self.fail_on || self.bytes.extend_from_slice(&buf[..n]).is_err() {
+        self.writes = self.writes.saturating_add(1);
+        let n = buf.len().min(3);
+        if self.writes >= self.fail_write || self.written.extend_from_slice(&buf[..n]).is_err() {
             self.failed = self.failed.saturating_add(1);
             return Err(LinkFault::Device);
         }
-        if n == 0 {
-            self.failed = self.failed.saturating_add(1);
+        if n == 0 && !buf.is_empty() {
+            self.stalled = self.stalled.saturating_add(1);
         }
         Ok(n)
     }
+
+    fn hand_on(&mut self) -> Result<(), LinkFault> {
+        Ok(())
+    }
+
+    fn failures(&self) -> u64 {
+        self.failed
+    }
 }
 
-fn source_of(rest: &[u8], size: usize, fail_on: u64) -> Pieces<'_>
+fn pieces_of(alloc: Global, rest: &[u8], size: usize, fail_read: u64, fail_write: u64) -> Pieces<'_>
     requires { 0 < size }
 {
     Pieces {
         rest,
         size,
-        fail_on,
-        made: 0,
+        fail_read,
+        written: Vec::new(alloc),
+        fail_write,
+        reads: 0,
+        writes: 0,
         failed: 0,
-    }
-}
-
-fn empty_sink(alloc: Global, fail_on: u64) -> Taken {
-    Taken {
-        bytes: Vec::new(alloc),
-        size: 3,
-        fail_on,
-        made: 0,
-        failed: 0,
+        stalled: 0,
     }
 }
 
@@ -110,11 +98,10 @@ fn sessions_end(rt: HostRuntime) -> Result<(), Fail> {
         (8, 3, 4, Kind::WriteFailed, "OK 1\nOLD", 1),
     ] {
         let mut chains = Chains::new(rt.alloc());
-        let mut reader = source_of(input, size, fail_read);
-        let mut writer = empty_sink(rt.alloc(), fail_write);
-        let end = run_lines(&mut chains, &mut reader, &mut writer);
+        let mut client = pieces_of(rt.alloc(), input, size, fail_read, fail_write);
+        let end = run_lines(&mut chains, &mut client);
         assert_eq!(rt; end, SessionEnd { kind, replies });
-        assert_eq!(rt; writer.bytes.as_slice(), output.as_bytes());
+        assert_eq!(rt; client.written.as_slice(), output.as_bytes());
     }
     Ok(())
 }
@@ -125,9 +112,8 @@ fn bye_ends_a_session(rt: HostRuntime) -> Result<(), Fail> {
     let input = "BEGIN a\nSTATE a\nBYE\nBEGIN b\n".as_bytes();
     for (size, left) in [(1usize, 8usize), (20, 8), (21, 7), (999, 0)] {
         let mut chains = Chains::new(rt.alloc());
-        let mut reader = source_of(input, size, 0);
-        let mut writer = empty_sink(rt.alloc(), 999);
-        let end = run_lines(&mut chains, &mut reader, &mut writer);
+        let mut client = pieces_of(rt.alloc(), input, size, 0, 999);
+        let end = run_lines(&mut chains, &mut client);
         assert_eq!(rt;
             end,
             SessionEnd {
@@ -136,11 +122,11 @@ fn bye_ends_a_session(rt: HostRuntime) -> Result<(), Fail> {
             }
         );
         assert_eq!(rt;
-            writer.bytes.as_slice(),
+            client.written.as_slice(),
             "OK 1\nSTATE a 0 1 live 1\nBYE\n".as_bytes()
         );
         assert_eq!(rt; chains.front(), 1);
-        assert_eq!(rt; reader.rest.len(), left);
+        assert_eq!(rt; client.rest.len(), left);
     }
     Ok(())
 }
@@ -151,11 +137,10 @@ fn line_out_of_bytes(rt: HostRuntime) -> Result<(), Fail> {
     let input =
         "BEGIN a\nFORK a 1 1;1 (1,0) b (0,1)\nCHECK a 2 (1,0);(1,1,0)\nCHECK a 3 (1,0);(2,2,0)\nCHECK b 1 (0,1);(5,0,1)\nLINE a\n".as_bytes();
     let mut chains = Chains::new(rt.alloc());
-    let mut reader = source_of(input, 1, 0);
-    let mut writer = empty_sink(rt.alloc(), 999);
-    let _end = run_lines(&mut chains, &mut reader, &mut writer);
+    let mut client = pieces_of(rt.alloc(), input, 1, 0, 999);
+    let _end = run_lines(&mut chains, &mut client);
     assert_eq!(rt;
-        writer.bytes.as_slice(),
+        client.written.as_slice(),
         "OK 1\nOK 2\nOK 3\nOK 4\nOK 5\nLINE {\"failed\":[\"a\"],\"front\":5,\"line\":[[\"a\",2],[\"b\",1]],\"reasons\":[[[\"a\",3],[\"b\",2],[\"a\",3]],[[\"a\",3],[\"b\",2]]]}\n".as_bytes()
     );
     Ok(())

@@ -1,35 +1,30 @@
-use Rattle.std.proofs.Common.{Some, None, [], arith, refl, ◌∙◌}
-use Rattle.session.specs.declared.kind.Kind.TheVariants as kinds
-use Rattle.session.proofs.Steps.{goes_none, goes_on, goes_endless, ended_by}
+use Rattle.std.proofs.Common.{arith}
+use Rattle.session.proofs.Ending.{going_none, going_on, stopping, stopping_endless, finished, not_handed_on}
 use Rattle.session.proofs.session.run_lines.Goals as goal
 
 pub loop-init : goal.loop-init
-loop-init g c =
-    record {
-      goes = rw (c.new-feed.ensures, c.new-turns.ensures) (goes_none _ _ [] _ _, λ lt. absurd (omega arith));
-      few = omega arith;
-      reads = omega arith;
-      read_failures = refl;
-      write_failures = refl;
-    }
+loop-init g c = record { going = going_none g.K.Link.told _ _ _ c.new-feed.ensures; few = omega arith }
 
 pub loop-preserved : goal.loop-preserved
 loop-preserved g c =
-    let step = goes_on g.R.Source.left g.R.Source.reads _ _ _ None _ _ _ _ _ _ _ _ _ _ _ c.loop.replies _ c.loop.invariant.goes.0 (rw c.in_default.is at c.step-end.ensures.goes) c.step-end.ensures.read in
     record {
-      goes = (step.0, λ lt. step.1);
+      going = going_on g.K.Link.told _ _ _ _ _ _ _ _ _ c.loop.counter c.loop.replies _ _ c.loop.invariant.going c.in-Ok.ensures (rw c.in_default-end.is at c.step-end.ensures.steps);
       few = omega (arith, c.loop.invariant.few, c.step-end.ensures.few);
-      reads = omega (arith, c.step-end.ensures.read, c.loop.invariant.reads);
-      read_failures = (rw c.in_default.is at c.step-end.ensures.read_failures) ∙ c.loop.invariant.read_failures;
-      write_failures = (rw c.in_default.is at c.step-end.ensures.write_failures) ∙ c.loop.invariant.write_failures;
     }
 
-pub returns-in-Some-clause-session : goal.returns-in-Some-clause-session
-returns-in-Some-clause-session g c =
-    let step = goes_on g.R.Source.left g.R.Source.reads _ _ _ (Some c.in-Some.kind) _ _ _ _ _ _ _ _ _ _ _ c.loop.replies _ c.loop.invariant.goes.0 (rw c.in-Some.is at c.step-end.ensures.goes) c.step-end.ensures.read in
-    ended_by g.R.Source.left g.R.Source.reads _ _ c.in-Some.kind _ _ _ _ _ _ _ _ _ _ _ step.0 step.1 c.close.ensures.closes
+pub returns-in_default : goal.returns-in_default
+returns-in_default g c =
+    let ended = not_handed_on g.K.Link.told _ _ _ _ _ _ c.loop.counter c.loop.replies _ (omega arith) c.loop.invariant.going c.in_default.ensures in
+    record { session = ended.ended; leaves = ended.leaves }
 
-pub returns-clause-session : goal.returns-clause-session
-returns-clause-session g c =
-    let s = c.loop.invariant.goes in
-    ended_by g.R.Source.left g.R.Source.reads _ _ kinds.Endless _ _ _ _ _ _ _ _ _ _ _ (goes_endless _ _ _ _ _ _ _ _ _ _ _ s.0) (s.1 (omega (arith, c.loop-test.false))) c.close-2.ensures.closes
+pub returns-in-Some : goal.returns-in-Some
+returns-in-Some g c =
+    let stopped = stopping g.K.Link.told _ _ _ _ c.in-Some.kind _ _ _ _ _ c.loop.counter c.loop.replies _ _ (omega arith) c.loop.invariant.going c.in-Ok.ensures (rw c.in-Some.is at c.step-end.ensures.steps) in
+    let ended = finished g.K.Link.told _ _ _ _ _ c.in-Some.kind _ _ _ stopped c.close.ensures in
+    record { session = ended.ended; leaves = ended.leaves }
+
+pub returns : goal.returns
+returns g c =
+    let stopped = stopping_endless g.K.Link.told _ _ _ _ _ c.loop.counter c.loop.replies (omega arith) c.loop.invariant.going in
+    let ended = finished g.K.Link.told _ _ _ _ _ _ _ _ _ stopped c.close-2.ensures in
+    record { session = ended.ended; leaves = ended.leaves }

@@ -1,0 +1,137 @@
+-- What words that a parse refuses for nothing ask for.
+use Rattle.std.proofs.Common.{◌≡◌, Bool, ℕ, true, false, is_some, Option, Some, None, List, [], ◌∷◌, refl, subst, codes, fold, true≢false}
+use Rattle.std.specs.Str.{bytes_eq}
+use Rattle.std.specs.Option.{option_map_or}
+use Rattle.std.proofs.lemmas.Slice.Eq.{bytes_eq-Decides}
+use Rattle.clap.specs.Lexer.{short_of}
+use Rattle.clap.specs.Kinds.{Kinds, or_else}
+use Rattle.clap.specs.Walk.{Held, Names, Outcome, Row, Rule, Step, Text, Waiting, Walk, after_flag, after_step, arg_by_index, arg_by_long, bundle, done, finished, idle, long_met, long_or_other, next, nothing_held, option, plain, plain_word, positional, refused, short_or_plain, subcommand, subcommand_met, subcommand_or_other, to_positional, trailing, value, waits, walk, walk_from, walked, walked_from, word_met}
+use Rattle.clap.specs.Simple.{App, Shape, argument_words, built, entered, names_of}
+use Rattle.clap.specs.Faults.{check_fault, entered_fault, fault_of, is_simple_and_free, level_fault, other_fault, settle_fault, turn_fault, walk_fault, word_fault}
+use Rattle.recline.specs.Arguments.{Selects, program, refusals}
+
+none_first : (a b : Kinds) → or_else a b ≡ [] → a ≡ []
+none_first [] b e = refl
+none_first (k ∷ ks) b e = e
+
+none_next : (a b : Kinds) → or_else a b ≡ [] → b ≡ []
+none_next [] b e = e
+none_next (k ∷ ks) b e = cc
+
+-- the walk stopped at `help`
+abbrev is_help : Option (Text × List Text) → Bool
+is_help stop = option_map_or (λ p. bytes_eq p.0 (codes "help")) stop false
+
+abbrev enters_help : Step → Bool
+enters_help (subcommand name) = bytes_eq name (codes "help")
+enters_help _ = false
+
+-- a word that is no subcommand enters none
+
+plain_enters : (c : List Rule) (waiting : Waiting) (word : Text) (h : Held) → enters_help (plain_word c waiting word h).1 ≡ false
+plain_enters c idle word h = refl
+plain_enters c (option id) word h = refl
+plain_enters c positional word h = refl
+
+flag_enters : (c : List Rule) (waiting : Waiting) (word : Text) (h : Held) (outcome : Outcome) → enters_help (after_flag c waiting word h outcome).1 ≡ false
+flag_enters c waiting word h done = refl
+flag_enters c waiting word h (waits id) = refl
+flag_enters c waiting word h plain = plain_enters c waiting word h
+flag_enters c waiting word h refused = plain_enters c waiting word h
+
+short_enters : (c : List Rule) (waiting : Waiting) (word : Text) (short : Option Text) (h : Held) → enters_help (short_or_plain c waiting word short h).1 ≡ false
+short_enters c waiting word (Some flags) h = flag_enters c waiting word (bundle c flags h).0 (bundle c flags h).1
+short_enters c waiting word None h = plain_enters c waiting word h
+
+long_enters : (c : List Rule) (waiting : Waiting) (word : Text) (long : Option (Text × Option Text)) (h : Held) → enters_help (long_or_other c waiting word long h).1 ≡ false
+long_enters c waiting word (Some p) h = flag_enters c waiting word (long_met c (arg_by_long c p.0) p.1 h).0 (long_met c (arg_by_long c p.0) p.1 h).1
+long_enters c waiting word None h = short_enters c waiting word (short_of word) h
+
+-- nor does `help`, where it is no refusal
+
+other_enters : (s : Shape) (met : Option Text) (waiting : Waiting) (position : ℕ) (word : Text) (h : Held) → s.disable_help_subcommand ≡ false → other_fault s met word h ≡ []
+    → enters_help (subcommand_or_other s.rules met waiting position word h).1 ≡ false
+other_enters s (Some name) waiting position word h enabled none = go (bytes_eq name (codes "help")) refl
+  where
+    go : (t : Bool) → bytes_eq name (codes "help") ≡ t → bytes_eq name (codes "help") ≡ false
+    go true t = let bad = rw (t, enabled) at none in cc
+    go false t = t
+other_enters s None waiting position word h enabled none = go (bytes_eq word (45 ∷ 45 ∷ [])) refl
+  where
+    go : (t : Bool) → bytes_eq word (45 ∷ 45 ∷ []) ≡ t → enters_help (subcommand_or_other s.rules None waiting position word h).1 ≡ false
+    go true t = rw t refl
+    go false t = rw t (long_enters s.rules waiting word _ h)
+
+word_enters : (s : Shape) (names : Names) (is_trailing : Bool) (waiting : Waiting) (position : ℕ) (word : Text) (h : Held) → s.disable_help_subcommand ≡ false
+    → word_fault s names is_trailing waiting word h ≡ [] → enters_help (word_met s.rules names is_trailing waiting position word h).1 ≡ false
+word_enters s names true waiting position word h enabled none = refl
+word_enters s names false waiting position word h enabled none = other_enters s (subcommand_met names waiting word) waiting position word h enabled none
+
+-- the walk goes on, or stops at the step's subcommand
+
+positional_stops : (c : List Rule) (a : Option Rule) (word : Text) (w : Walk) (h : Held) → w.stopped ≡ None → is_help (to_positional c a word w h).stopped ≡ false
+positional_stops c None word w h none = rw none refl
+positional_stops c (Some a) word w h none = refl
+
+step_stops : (c : List Rule) (word : Text) (w : Walk) (h : Held) (step : Step) → w.stopped ≡ None → enters_help step ≡ false → is_help (after_step c word w h step).stopped ≡ false
+step_stops c word w h (next waiting) none enters = rw none refl
+step_stops c word w h (trailing position) none enters = rw none refl
+step_stops c word w h (subcommand name) none enters = enters
+step_stops c word w h value none enters = positional_stops c (arg_by_index c w.position) word w h none
+
+turn_stops : (s : Shape) (names : Names) (w : Walk) (word : Text) → s.disable_help_subcommand ≡ false → turn_fault s names w word ≡ [] → is_help w.stopped ≡ false
+    → is_help (walked s.rules names w word).stopped ≡ false
+unfolding walked
+turn_stops s names w word enabled none before = go w.stopped refl
+  where
+    go : (o : Option (Text × List Text)) → w.stopped ≡ o → is_help (walked_from s.rules names o w word).stopped ≡ false
+    go (Some p) e = rw e at before
+    go None e =
+        let passed = rw e at none in
+        let met = word_met s.rules names w.is_trailing w.waiting w.position word w.held in
+        step_stops s.rules word w met.0 met.1 e (word_enters s names w.is_trailing w.waiting w.position word w.held enabled (none_first _ _ passed))
+
+walk_stops : (s : Shape) (names : Names) (w : Walk) (words : List Text) → s.disable_help_subcommand ≡ false → walk_fault s names w words ≡ [] → is_help w.stopped ≡ false
+    → is_help (fold (walked s.rules names) w words).stopped ≡ false
+unfolding walk_fault
+walk_stops s names w [] enabled none before = before
+walk_stops s names w (word ∷ rest) enabled none before =
+    walk_stops s names (walked s.rules names w word) rest enabled (none_next _ _ none) (turn_stops s names w word enabled (none_first _ _ none) before)
+
+-- a level that refuses nothing passes its walk and its last check
+level_passes : (s : Shape) (names : Names) (h : Held) (words : List Text) (has : Bool) (below : Kinds) → level_fault s names h words has below ≡ []
+    → (walk_fault s names (walk_from h) words ≡ []) × (check_fault s (finished s.rules (walk s.rules names h words).held) has ≡ [])
+level_passes s names h words has below none =
+    let entering = none_next (walk_fault s names (walk_from h) words) _ none in
+    let settling = none_next below _ entering in
+    let filling = none_next (settle_fault s.rules s.args_override_self (walk s.rules names h words).held) _ settling in
+    (none_first _ _ none, none_next _ _ filling)
+
+-- a command is wanted
+wanted : (rows : List Row) (has : Bool) → check_fault (built program).top rows has ≡ [] → has ≡ true
+wanted rows true none = refl
+wanted rows false none = cc
+
+-- and but for `help` there is one
+run_entered : (stop : Option (Text × List Text)) → is_help stop ≡ false → is_some (entered (built program) stop) ≡ true → (rows : List Row) × (entered (built program) stop ≡ Some (codes "run", rows))
+run_entered None other some = cc
+run_entered (Some p) other some = go (bytes_eq (codes "run") p.0) (bytes_eq (codes "help") p.0) refl refl
+  where
+    go : (run help : Bool) → bytes_eq (codes "run") p.0 ≡ run → bytes_eq (codes "help") p.0 ≡ help → (rows : List Row) × (entered (built program) (Some p) ≡ Some (codes "run", rows))
+    go true help r h = rw r (_, refl)
+    go false true r h = let same = (bytes_eq-Decides (codes "help") p.0).0 h in absurd (true≢false (rw (← same) at other))
+    go false false r h = let bad = rw (r, h) at some in cc
+
+-- what was parsed as `program` was refused for nothing
+pub taken : (made : App) (words : List Text) → made ≡ program → (is_simple_and_free made ≡ true → fault_of made words ≡ []) → refusals words ≡ []
+taken made words same parsed = subst (λ (a : App). is_simple_and_free a ≡ true → fault_of a words ≡ []) same parsed refl
+
+-- the words name `run`, the one command that there is
+pub asks_for_run : (words : List Text) → refusals words ≡ [] → (rows : List Row) × Selects words (codes "run") rows
+asks_for_run words none =
+    let made = built program in
+    let given = argument_words program words in
+    let end = walk made.top.rules (names_of made) nothing_held given in
+    let passes = level_passes made.top (names_of made) nothing_held given (is_some (entered made end.stopped)) (entered_fault made end.stopped) none in
+    let run = run_entered end.stopped (walk_stops made.top (names_of made) (walk_from nothing_held) given refl passes.0 refl) (wanted (finished made.top.rules end.held) _ passes.1) in
+    (run.0, (none, run.1))

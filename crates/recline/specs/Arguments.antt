@@ -1,0 +1,31 @@
+-- What the words of a command line ask for, in the terms of `clap`. The first word is the one that the program was called
+-- by.
+use Rattle.std.specs.Prelude.{◌≡◌, true, List, [], Some, codes}
+use Rattle.clap.specs.Words.{App, Kinds, Row, Text, fault_of, new_app, subcommand_of, with_subcommand}
+use Rattle.clap.specs.Simple.{on_top}
+use Rattle.recline.specs.declared.args.Command.{Command}
+use Rattle.recline.specs.declared.args.Command.TheVariants as commands
+
+-- the command `run`, which takes no argument
+abbrev pub run : App
+run = new_app (codes "run")
+
+-- the program by itself: it has a version, and one of its commands is wanted
+abbrev pub alone : App
+alone = on_top (λ s. record s { has_version = true; subcommand_required = true }) (new_app (codes "recline"))
+
+-- the program with its commands
+abbrev pub program : App
+program = with_subcommand alone run.top
+
+-- the kinds of refusal that the words may get, none where they are taken; help and the version are refusals, too
+abbrev pub refusals : List Text → Kinds
+refusals words = fault_of program words
+
+-- the words are taken and name this command, whose own arguments have the values of these rows
+abbrev pub Selects : List Text → Text → List Row → Type 0
+Selects words name rows = (refusals words ≡ []) × (subcommand_of program words ≡ Some (name, rows))
+
+-- the words ask for the command
+abbrev pub AsksFor : List Text → Command → Type 0
+AsksFor words commands.Run = (rows : List Row) × Selects words (codes "run") rows

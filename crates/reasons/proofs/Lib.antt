@@ -1,2 +1,6 @@
 pub mod PlainNames
 pub mod Writing
+pub mod InLists
+pub mod Taking
+pub mod ReadBack
+pub mod WrittenRead

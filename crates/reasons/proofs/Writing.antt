@@ -58,7 +58,7 @@ no_floats (item d ds) [] are = absurd are
 no_floats (item d ds) (text ∷ texts) are = rw (are.0.no_float, no_floats ds texts are.1)
 
 -- a list is written by its values
-array_written : (ds : Items) (texts : List (List ℕ)) → AreWritten ds texts → IsWritten (array ds) (bracketed texts)
+pub array_written : (ds : Items) (texts : List (List ℕ)) → AreWritten ds texts → IsWritten (array ds) (bracketed texts)
 array_written ds texts are = record { no_float = no_floats ds texts are; text_is = ap (λ (l : List ℕ). 91 ∷ l) (first_text ds texts are) }
 
 -- one more value behind those before
@@ -84,7 +84,7 @@ all_written {X = X} f xs i vs past are =
 regroup : (p kf f m kn n kl l kr r z : List ℕ) → p ++ (kf ++ (f ++ (m ++ (kn ++ (n ++ (m ++ (kl ++ (l ++ (m ++ (kr ++ (r ++ z))))))))))) ≡ p ++ kf ++ f ++ m ++ kn ++ n ++ m ++ kl ++ l ++ m ++ kr ++ r ++ z
 regroup p kf f m kn n kl l kr r z = simp append_assoc
 
-object_written : (failed line reasons : Data) (front : ℕ) (f l r : List ℕ) → IsWritten failed f → IsWritten line l → IsWritten reasons r
+pub object_written : (failed line reasons : Data) (front : ℕ) (f l r : List ℕ) → IsWritten failed f → IsWritten line l → IsWritten reasons r
     → IsWritten (object (member (codes "failed") failed (member (codes "front") (number (unsigned front)) (member (codes "line") line (member (codes "reasons") reasons no_members)))))
     (codes "{" ++ key (codes "failed") ++ f ++ codes "," ++ key (codes "front") ++ decimal front ++ codes "," ++ key (codes "line") ++ l ++ codes "," ++ key (codes "reasons") ++ r ++ codes "}")
 unfolding serde_json_on_literals

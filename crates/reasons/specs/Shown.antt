@@ -2,7 +2,7 @@
 use Rattle.std.specs.Prelude.{◌≡◌, ◌⊎◌, ℕ, List}
 use Rattle.report_line.specs.declared.report.Report.{Report}
 use Rattle.report_line.specs.declared.call.Call.{Call}
-use Rattle.report_line.specs.declared.call.Call.TheVariants.{Line}
+use Rattle.report_line.specs.declared.call.Call.TheVariants as calls
 use Rattle.report_line.specs.declared.reply.Reply.{Reply}
 use Rattle.report_line.specs.declared.reply.Reply.TheVariants as replies
 use Rattle.chains.specs.Processes.{Name}
@@ -18,8 +18,17 @@ pub record IsLineText (accepted : List Report) (names : List Name) (text : List 
   pub certifies : Certifies accepted certificate
   pub text_is : text ≡ certificate_text accepted certificate
 
--- the reply that is shown for a turn's: a line for one that was taken, or that memory was wanting; else the reply itself
-abbrev pub IsShown : List Report → Call → Reply → Reply → Type 0
-IsShown accepted (Line names) (replies.Taken front) shown =
+-- what is shown for a question for a line: where it was taken the line, or that memory was wanting; else the reply itself
+abbrev pub IsLineShown : List Report → List Name → Reply → Reply → Type 0
+IsLineShown accepted names (replies.Taken front) shown =
     ((text : List ℕ) × (shown ≡ replies.Line text) × IsLineText accepted names text) ⊎ (shown ≡ no_memory)
-IsShown accepted call reply shown = shown ≡ reply
+IsLineShown accepted names reply shown = shown ≡ reply
+
+-- The reply that is shown for a turn's, call by call: each question that is taken says what is shown for it.
+abbrev pub IsShown : List Report → Call → Reply → Reply → Type 0
+IsShown accepted (calls.Line names) reply shown = IsLineShown accepted names reply shown
+IsShown accepted (calls.Report r) reply shown = shown ≡ reply
+IsShown accepted (calls.State p) reply shown = shown ≡ reply
+IsShown accepted calls.Bye reply shown = shown ≡ reply
+IsShown accepted (calls.Bad n) reply shown = shown ≡ reply
+IsShown accepted calls.Unread reply shown = shown ≡ reply

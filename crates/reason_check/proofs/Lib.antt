@@ -1,0 +1,9 @@
+pub mod Last
+pub mod Lines
+pub mod Chained
+pub mod Due
+pub mod Downward
+pub mod Counted
+pub mod Passing
+pub mod Counts
+pub mod Firsts

@@ -1,0 +1,3 @@
+pub mod Causes
+pub mod Falling
+pub mod Texts

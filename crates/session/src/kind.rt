@@ -14,7 +14,7 @@ pub enum Kind {
     Memory,
     /// A read failed. The lines before it were answered.
     ReadFailed,
-    /// A write failed. What was to follow it was not handled.
+    /// A write failed, or replies could not be handed on. What was to follow was not handled.
     WriteFailed,
     /// The input did not end within the reads that a session makes. The lines that were read were answered.
     Endless,

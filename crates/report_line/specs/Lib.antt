@@ -10,3 +10,8 @@ pub mod Numbers
 pub mod Cuts
 pub mod Cutting
 pub mod Parts
+pub mod History
+pub mod Lawful
+pub mod Events
+pub mod StepReports
+pub mod StepCodes

@@ -1,0 +1,11 @@
+pub mod Bytes
+pub mod Status
+pub mod Steps
+pub mod Chain
+pub mod Seen
+pub mod Later
+pub mod Holders
+pub mod Retiring
+pub mod Rules
+pub mod Reported
+pub mod Example

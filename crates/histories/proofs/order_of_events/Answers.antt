@@ -1,0 +1,21 @@
+-- The clauses are proved in `Later`, `Holders` and `Retiring`.
+use Rattle.std.proofs.Common.{sym}
+use Rattle.histories.proofs.Later.{own_past, past_up}
+use Rattle.histories.proofs.Holders.{each_point_has_one_holder}
+use Rattle.histories.proofs.Retiring.{from_occurs, none_after, to_occurs}
+use Rattle.histories.proofs.order_of_events.Goals as goal
+
+pub returns-clause-own : goal.returns-clause-own
+returns-clause-own c root h x y lawful occurs_x occurs_y of_one less = own_past lawful x y occurs_x occurs_y (sym of_one) less
+
+pub returns-clause-rising : goal.returns-clause-rising
+returns-clause-rising c root h x y lawful past t = past_up lawful past t
+
+pub returns-clause-holder : goal.returns-clause-holder
+returns-clause-holder c = each_point_has_one_holder
+
+pub returns-clause-retirement : goal.returns-clause-retirement
+returns-clause-retirement c root h d e q lawful occurs retires occurs_e of_one = none_after lawful d q occurs retires e occurs_e of_one
+
+pub returns-clause-ends : goal.returns-clause-ends
+returns-clause-ends c root h x y edge = (from_occurs edge, to_occurs edge)

@@ -19,3 +19,5 @@ pub mod Testing
 pub mod Noting
 pub mod Room
 pub mod Stamps
+pub mod Agrees
+pub mod Greatest

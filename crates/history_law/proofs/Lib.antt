@@ -1,0 +1,10 @@
+pub mod Listed
+pub mod Agreeing
+pub mod Agreement
+pub mod Placed
+pub mod Unknown
+pub mod Strict
+pub mod Ordered
+pub mod Known
+pub mod Closing
+pub mod Lines

@@ -1,0 +1,20 @@
+-- The headline: an answered line is the greatest closed cut of every lawful history that agrees with what is accepted.
+use Rattle.std.specs.Prelude.{ℕ, List}
+use Rattle.report_line.specs.declared.report.Report.{Report}
+use Rattle.report_line.specs.History.{Name, History}
+use Rattle.report_line.specs.Lawful.{IsLawful}
+use Rattle.chains.specs.declared.position.Position.{Position}
+use Rattle.chains.specs.Agrees.{Agrees}
+use Rattle.chains.specs.Greatest.{IsAtOrBefore}
+use Rattle.history_law.specs.Places.{IsClosedCut}
+
+-- The cut is closed, each process unborn, at a surviving element or retired; and every such cut is at or before it in every
+-- process.
+pub record IsGreatestClosedCut (root : Name) (h : History) (accepted : List Report) (failed : List ℕ) (cut : List Position) : Type 0 where
+  pub is_one : IsClosedCut root h accepted failed cut
+  pub greatest : (d : List Position) → IsClosedCut root h accepted failed d → IsAtOrBefore accepted d cut
+
+-- For every lawful history that agrees with the accepted list, the line is its greatest closed cut.
+abbrev pub IsLineOfHistories : List Report → List ℕ → List Position → Type 0
+IsLineOfHistories accepted failed line =
+    (root : Name) (h : History) → IsLawful root h → Agrees root h accepted → IsGreatestClosedCut root h accepted failed line

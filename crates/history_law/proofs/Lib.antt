@@ -8,3 +8,5 @@ pub mod Ordered
 pub mod Known
 pub mod Closing
 pub mod Lines
+pub mod Longer
+pub mod GarbageLine

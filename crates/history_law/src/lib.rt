@@ -10,7 +10,7 @@ ghost use Rattle.chains.specs.declared.position.Position.{Position};
 ghost use Rattle.chains.specs.Folded.{IsFolded};
 ghost use Rattle.chains.specs.Greatest.{IsGreatestCut};
 ghost use Rattle.history_law.specs.Headline.{IsLineOfHistories};
-ghost use Rattle.history_law.specs.TheLaw.{ClosedIsConsistent, EachElementHasItsEvent, EachElementIsReported, EachPlaceHasOneEvent, EachRetirementHasItsEvent, ElementsAreInOrder, FrontsAgree, GreatestIsGreatestClosed, ReportsOfStepsAgree, TheLaw};
+ghost use Rattle.history_law.specs.TheLaw.{ClosedIsConsistent, EachElementHasItsEvent, EachElementIsReported, EachPlaceHasOneEvent, EachRetirementHasItsEvent, ElementsAreInOrder, FrontsAgree, GarbageLineNeverFalls, GreatestIsGreatestClosed, ReportsOfStepsAgree, TheLaw};
 
 /// Each place of an accepted list has one event in every lawful history that agrees.
 pub fn places_have_events()
@@ -38,4 +38,9 @@ pub fn closed_is_consistent()
 pub fn reports_of_steps_agree()
     ensures all { ReportsOfStepsAgree }
     ensures front { FrontsAgree }
+{}
+
+/// The line with every process failed is at or before each line of each longer list that agrees with a lawful history.
+pub fn garbage_line_never_falls()
+    ensures { GarbageLineNeverFalls }
 {}

@@ -10,3 +10,4 @@ pub mod Closing
 pub mod Lines
 pub mod Longer
 pub mod GarbageLine
+pub mod Accepted

@@ -1,16 +1,15 @@
 -- What stays in a longer list.
-use Rattle.std.proofs.Common.{◌≡◌, ◌≢◌, ℕ, ◌+◌, Some, None, Option, List, [], ◌∷◌, ◌++◌, length, refl, sym, ◌∙◌, ap, subst, inl, inr, append-nil, append_assoc}
+use Rattle.std.proofs.Common.{◌≡◌, ◌≢◌, ℕ, Some, None, Option, List, [], ◌∷◌, ◌++◌, refl, sym, ◌∙◌, ap, subst, inl, inr, append-nil, append_assoc}
 use Rattle.std.specs.Prelude.{slice_get}
 use Rattle.std.specs.List.{cons_option}
 use Rattle.std.proofs.lemmas.List.Elements.{filter_map-append}
 use Rattle.stamp.specs.declared.stamp.Stamp.{Stamp}
-use Rattle.report_line.specs.declared.report.NumberedReport.{NumberedReport}
 use Rattle.report_line.specs.declared.report.Report.{Report}
 use Rattle.report_line.specs.declared.report.Report.TheVariants.{Begin, Numbered}
 use Rattle.report_line.specs.History.{History}
 use Rattle.chains.specs.Processes.{Name, newborn, known, last_report, target_after, target_of}
 use Rattle.chains.specs.Elements.{lasting_made, lasting_of, name_of}
-use Rattle.chains.specs.Folded.{IsFit, IsFolded, nothing_folded, one_folded}
+use Rattle.chains.specs.Folded.{IsFit, IsFolded, one_folded}
 use Rattle.chains.specs.Agrees.{Agrees}
 use Rattle.chains.proofs.Stepping.{same_or_other, other_report, known-push}
 use Rattle.history_law.proofs.Listed.{at_front}

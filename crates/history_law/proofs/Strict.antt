@@ -17,7 +17,7 @@ use Rattle.report_line.specs.declared.report.Report.{Report}
 use Rattle.report_line.specs.declared.report.Report.TheVariants.{Begin, Numbered}
 use Rattle.histories.proofs.Bytes.{bytes_are}
 use Rattle.chains.specs.Processes.{Name, child_of, IsKnown, is_numbered_of, last_report, last_events}
-use Rattle.chains.specs.Elements.{only_if, lasting_by, lasting_made, lasting_of, present_by, present_in, elements_of}
+use Rattle.chains.specs.Elements.{lasting_by, lasting_made, lasting_of, present_by, present_in, elements_of}
 use Rattle.chains.specs.Admission.{AreGrown}
 use Rattle.chains.specs.Folded.{IsFit, IsFitAction, IsFitReport, IsFolded, nothing_folded, one_folded}
 use Rattle.chains.proofs.Stepping.{same_or_other, own_report, other_report, still_known}

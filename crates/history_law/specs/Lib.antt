@@ -1,3 +1,4 @@
 pub mod Places
 pub mod Headline
 pub mod TheLaw
+pub mod Example

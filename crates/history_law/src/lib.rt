@@ -9,6 +9,9 @@ ghost use Rattle.report_line.specs.declared.report.Report.{Report};
 ghost use Rattle.chains.specs.declared.position.Position.{Position};
 ghost use Rattle.chains.specs.Folded.{IsFolded};
 ghost use Rattle.chains.specs.Greatest.{IsGreatestCut};
+ghost use Rattle.histories.specs.Example.{a, every_step};
+ghost use Rattle.history_law.specs.Places.{IsPremise};
+ghost use Rattle.history_law.specs.Example.{accepted_reports};
 ghost use Rattle.history_law.specs.Headline.{IsLineOfHistories};
 ghost use Rattle.history_law.specs.TheLaw.{ClosedIsConsistent, EachElementHasItsEvent, EachElementIsReported, EachPlaceHasOneEvent, EachRetirementHasItsEvent, ElementsAreInOrder, FrontsAgree, GarbageLineNeverFalls, GreatestIsGreatestClosed, ReportsOfStepsAgree, TheLaw};
 
@@ -43,4 +46,9 @@ pub fn reports_of_steps_agree()
 /// The line with every process failed is at or before each line of each longer list that agrees with a lawful history.
 pub fn garbage_line_never_falls()
     ensures { GarbageLineNeverFalls }
+{}
+
+/// There is a lawful history with every kind of step, and an accepted list with every kind of report that agrees with it.
+pub fn the_premise_is_possible()
+    ensures { IsPremise a every_step accepted_reports }
 {}

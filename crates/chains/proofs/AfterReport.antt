@@ -9,11 +9,11 @@ use Rattle.std.proofs.lemmas.Option.{slice_get_within}
 use Rattle.indexmap.specs.IndexSet.{insert_key}
 use Rattle.report_line.specs.declared.report.Report.{Report}
 use Rattle.report_line.specs.declared.report.Report.TheVariants.{Begin, Numbered}
-use Rattle.report_line.specs.declared.reply.Reply.TheVariants.{Accepted}
 use Rattle.chains.specs.declared.process.Process.{Process}
 use Rattle.chains.specs.Processes.{Name, known, is_numbered_of}
 use Rattle.chains.specs.Elements.{name_of}
-use Rattle.chains.specs.Admission.{IsReachable, one_more, IsAdmission}
+use Rattle.chains.specs.Held.{counting}
+use Rattle.chains.specs.Admission.{IsReachable, one_more, Passes}
 use Rattle.chains.specs.Kept.{Kept, HasRoomFor}
 use Rattle.chains.specs.Answers.{IsNumberOf}
 use Rattle.chains.specs.Keeping.{KeptProcess, kept_of, view_of}
@@ -48,11 +48,11 @@ may_be_kept k names processes (Numbered r) i h rooms at room = record {
 -- ---- after
 
 after_numbered : (accepted : List Report) (names names' : List Name) (processes processes' : List Process) (r : Report) (i : ℕ) → AreInOrder accepted names processes
-    → IsAdmission accepted r (Accepted (length accepted + 1)) → IsNumberOf accepted r i
+    → Passes (counting accepted) r → IsNumberOf accepted r i
     → names' ≡ names_after names r → IsKeptBy (map view_of processes) names r i (length accepted) (map view_of processes')
     → (names' ≡ known (accepted ++ r ∷ [])) × (map view_of processes' ≡ map (kept_of (accepted ++ r ∷ [])) (known (accepted ++ r ∷ [])))
 after_numbered accepted names names' processes processes' (Numbered r) i h admitted at is kept =
-    let pass = passed_tests accepted r (length accepted + 1) admitted in
+    let pass = passed_tests (counting accepted) r (length accepted + 1) admitted in
     let change = noted (length accepted) (is_check r.action) in
     let by : IsKeptByAction (known accepted) (changed_at change i (map (kept_of accepted) (known accepted))) r.action (length accepted) (map view_of processes') =
     subst (λ (ns : List Name). IsKeptByAction ns (changed_at change i (map (kept_of accepted) (known accepted))) r.action (length accepted) (map view_of processes')) h.named
@@ -60,7 +60,7 @@ after_numbered accepted names names' processes processes' (Numbered r) i h admit
     let both = in_order_numbered accepted r r.action i (map view_of processes') (reached_folded accepted h.reachable) h.distinct at pass by in
     (is ∙ ap (λ (ns : List Name). names_after ns (Numbered r)) h.named ∙ both.0, both.1)
 after_numbered accepted names names' processes processes' (Begin p) i h admitted at is kept =
-    let none : known accepted ≡ [] = begins (known accepted) accepted p (length accepted + 1) admitted in
+    let none : known accepted ≡ [] = begins (known accepted) (counting accepted) p (length accepted + 1) admitted in
     let empty : accepted ≡ [] = unbegun accepted (reached_folded accepted h.reachable) none in
     let start : kept_of (Begin p ∷ []) p ≡ born 0 = rw (same_bytes p) refl in
     let whole : accepted ++ Begin p ∷ [] ≡ Begin p ∷ [] = ap (λ (xs : List Report). xs ++ Begin p ∷ []) empty in
@@ -72,7 +72,7 @@ after_numbered accepted names names' processes processes' (Begin p) i h admitted
     )
 
 pub after_report : (accepted after : List Report) (names names' : List Name) (processes processes' : List Process) (r : Report) (i : ℕ) → AreInOrder accepted names processes
-    → IsAdmission accepted r (Accepted (length accepted + 1)) → IsNumberOf accepted r i → after ≡ accepted ++ r ∷ []
+    → Passes (counting accepted) r → IsNumberOf accepted r i → after ≡ accepted ++ r ∷ []
     → names' ≡ names_after names r → IsKeptBy (map view_of processes) names r i (length accepted) (map view_of processes') → AreInOrder after names' processes'
 after_report accepted after names names' processes processes' r i h admitted at is n kept =
     let reach : IsReachable (accepted ++ r ∷ []) = one_more accepted r h.reachable admitted in

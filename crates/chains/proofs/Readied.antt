@@ -4,6 +4,7 @@ use Rattle.std.specs.Option.{unwrap_or}
 use Rattle.report_line.specs.declared.report.Report.{Report}
 use Rattle.report_line.specs.declared.report.Report.TheVariants.{Begin, Numbered}
 use Rattle.report_line.specs.declared.reply.Reply.TheVariants.{Accepted}
+use Rattle.chains.specs.Held.{Held}
 use Rattle.chains.specs.Admission.{IsAdmission}
 use Rattle.chains.specs.Kept.{Kept, HasRoomFor}
 use Rattle.chains.specs.Answers.{IsNumberOf}
@@ -18,7 +19,7 @@ readied k accepted (Numbered r) None same is found room = absurd found
 readied k accepted (Numbered r) (Some i) same is found room = (subst (λ (xs : List Report). IsNumberOf xs (Numbered r) i) (sym same) is, room)
 
 -- the number of a report that is accepted was found
-pub found : (accepted : List Report) (r : Report) (number : Option ℕ) (front : ℕ) → IsNumberIn accepted r number → IsAdmission accepted r (Accepted front) → IsFound r number
-found accepted (Begin p) number front is admitted = is
-found accepted (Numbered r) None front is admitted = is (passed_tests accepted r front admitted).is_known
-found accepted (Numbered r) (Some i) front is admitted = tt
+pub found : (held : Held) (r : Report) (number : Option ℕ) (front : ℕ) → IsNumberIn held.accepted r number → IsAdmission held r (Accepted front) → IsFound r number
+found held (Begin p) number front is admitted = is
+found held (Numbered r) None front is admitted = is (passed_tests held r front admitted).is_known
+found held (Numbered r) (Some i) front is admitted = tt

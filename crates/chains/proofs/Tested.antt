@@ -22,63 +22,63 @@ use Rattle.chains.specs.declared.tests.Verdict.{Verdict}
 use Rattle.chains.specs.declared.tests.Verdict.TheVariants.{Old, Fits}
 use Rattle.chains.specs.declared.refusal.No.{No}
 use Rattle.chains.specs.Processes.{Name, last_report, target_of, registered_id, expected_id}
+use Rattle.chains.specs.Held.{Held}
 use Rattle.chains.specs.Admission.{Decides, TakesMemory, IsStampReply, IsWaitingReply, IsStandingReply, IsNumberedReply, IsAdmission}
 use Rattle.chains.specs.Keeping.{Tests}
 use Rattle.chains.specs.Testing.{RefusesWith, IsFull, IsNoAbsorb}
 
 -- the test does not apply, and the later ones decide
-pub passed_on : (F : Type 0) (reply : Reply) (P : Reply → Type 0) (accepted : List Report) (r : Result Verdict No)
-    → ¬ F → Tests P accepted r → Tests (λ a. Decides F reply a (P a)) accepted r
-passed_on F reply P accepted (Ok Old) n h = inr (n, h)
-passed_on F reply P accepted (Ok Fits) n h = inr (n, h)
-passed_on F reply P accepted (Err refusal) n (inl h) = inl (inr (n, h))
-passed_on F reply P accepted (Err refusal) n (inr h) = inr (h.0, inr (n, h.1), h.2, h.3, h.4, h.5)
+pub passed_on : (F : Type 0) (reply : Reply) (P : Reply → Type 0) (front : ℕ) (r : Result Verdict No)
+    → ¬ F → Tests P front r → Tests (λ a. Decides F reply a (P a)) front r
+passed_on F reply P front (Ok Old) n h = inr (n, h)
+passed_on F reply P front (Ok Fits) n h = inr (n, h)
+passed_on F reply P front (Err refusal) n (inl h) = inl (inr (n, h))
+passed_on F reply P front (Err refusal) n (inr h) = inr (h.0, inr (n, h.1), h.2, h.3, h.4, h.5)
 
 -- memory was wanting in an answer that takes memory
-pub lacking : (P : Reply → Type 0) (accepted : List Report) (refusal : No) (answer : Reply)
-    → refusal ≡ record { code = OutOfMemory; name = None; value = None } → P answer → TakesMemory answer → Tests P accepted (Err refusal)
-lacking P accepted refusal answer e h t = inr (answer, h, t, ap (λ (r : No). r.code) e, ap (λ (r : No). r.name) e, ap (λ (r : No). r.value) e)
+pub lacking : (P : Reply → Type 0) (front : ℕ) (refusal : No) (answer : Reply)
+    → refusal ≡ record { code = OutOfMemory; name = None; value = None } → P answer → TakesMemory answer → Tests P front (Err refusal)
+lacking P front refusal answer e h t = inr (answer, h, t, ap (λ (r : No). r.code) e, ap (λ (r : No). r.name) e, ap (λ (r : No). r.value) e)
 
 -- a refusal with a value, by the first test
-pub refuses : {E : Type 0} (F : Type 0) (P : Reply → Type 0) (accepted : List Report) (refusal : No) (code : Code) (name value : List ℕ) (r : Result (List ℕ) E)
-    → RefusesWith refusal code name r → IfOk r (λ t. t ≡ value) → F → Tests (λ a. Decides F (replies.No code (Some name) (Some value)) a (P a)) accepted (Err refusal)
-refuses F P accepted refusal code name value (Ok t) e is h = inl (inl (h, rw (e, is) refl))
-refuses F P accepted refusal code name value (Err x) e is h =
+pub refuses : {E : Type 0} (F : Type 0) (P : Reply → Type 0) (front : ℕ) (refusal : No) (code : Code) (name value : List ℕ) (r : Result (List ℕ) E)
+    → RefusesWith refusal code name r → IfOk r (λ t. t ≡ value) → F → Tests (λ a. Decides F (replies.No code (Some name) (Some value)) a (P a)) front (Err refusal)
+refuses F P front refusal code name value (Ok t) e is h = inl (inl (h, rw (e, is) refl))
+refuses F P front refusal code name value (Err x) e is h =
     inr (replies.No code (Some name) (Some value), inl (h, refl), tt, ap (λ (r : No). r.code) e, ap (λ (r : No). r.name) e, ap (λ (r : No). r.value) e)
 
 -- a refusal without one
-pub refuses_plainly : (F : Type 0) (P : Reply → Type 0) (accepted : List Report) (refusal : No) (code : Code) (name : List ℕ)
-    → refusal ≡ record { code = code; name = Some name; value = None } → F → Tests (λ a. Decides F (replies.No code (Some name) None) a (P a)) accepted (Err refusal)
-refuses_plainly F P accepted refusal code name e h = inl (inl (h, rw e refl))
+pub refuses_plainly : (F : Type 0) (P : Reply → Type 0) (front : ℕ) (refusal : No) (code : Code) (name : List ℕ)
+    → refusal ≡ record { code = code; name = Some name; value = None } → F → Tests (λ a. Decides F (replies.No code (Some name) None) a (P a)) front (Err refusal)
+refuses_plainly F P front refusal code name e h = inl (inl (h, rw e refl))
 
 -- a refusal by a limit
-pub refuses_full : (F : Type 0) (P : Reply → Type 0) (accepted : List Report) (refusal : No) (limit : ℕ) → IsFull refusal limit → F → Tests (λ a. Decides F (replies.No Full None (Some (decimal limit))) a (P a)) accepted (Err refusal)
-refuses_full F P accepted refusal limit (inl e) h = inl (inl (h, rw e refl))
-refuses_full F P accepted refusal limit (inr e) h = lacking (λ a. Decides F (replies.No Full None (Some (decimal limit))) a (P a)) accepted refusal (replies.No Full None (Some (decimal limit))) e (inl (h, refl)) tt
+pub refuses_full : (F : Type 0) (P : Reply → Type 0) (front : ℕ) (refusal : No) (limit : ℕ) → IsFull refusal limit → F → Tests (λ a. Decides F (replies.No Full None (Some (decimal limit))) a (P a)) front (Err refusal)
+refuses_full F P front refusal limit (inl e) h = inl (inl (h, rw e refl))
+refuses_full F P front refusal limit (inr e) h = lacking (λ a. Decides F (replies.No Full None (Some (decimal limit))) a (P a)) front refusal (replies.No Full None (Some (decimal limit))) e (inl (h, refl)) tt
 
 -- a report with a number is refused where nothing was accepted yet
-pub refuses_first : (accepted : List Report) (report : Report) (r : NumberedReport) → report ≡ Numbered r → length accepted ≡ 0
-    → Tests (IsAdmission accepted report) accepted (Err (record { code = NothingBegun; name = None; value = None }))
-refuses_first [] report r is none = rw is (inl (inl (refl, refl)))
-refuses_first (x ∷ xs) report r is none = absurd cc
+pub refuses_first : (held : Held) (report : Report) (r : NumberedReport) → report ≡ Numbered r → held.accepted ≡ []
+    → Tests (IsAdmission held report) held.front (Err (record { code = NothingBegun; name = None; value = None }))
+refuses_first held report r is none = rw is (inl (inl (none, refl)))
 
 -- a report that is not the last one of its process is left to the tests behind
-pub not_last : (accepted : List Report) (report : Report) (r : NumberedReport) (result : Result Verdict No) (b : Bool) → b ≡ false → (IsTrue b ↔ (last_report r.process accepted ≡ Some report)) → report ≡ Numbered r
-    → Tests (IsStandingReply (target_of r.process accepted) accepted r) accepted result → Tests (IsNumberedReply accepted r) accepted result
-not_last accepted report r result b other last is later =
-    passed_on (last_report r.process accepted ≡ Some (Numbered r)) (replies.Old (length accepted)) (IsStandingReply (target_of r.process accepted) accepted r) accepted result
+pub not_last : (held : Held) (report : Report) (r : NumberedReport) (result : Result Verdict No) (b : Bool) → b ≡ false → (IsTrue b ↔ (last_report r.process held.accepted ≡ Some report)) → report ≡ Numbered r
+    → Tests (IsStandingReply (target_of r.process held.accepted) held r) held.front result → Tests (IsNumberedReply held r) held.front result
+not_last held report r result b other last is later =
+    passed_on (last_report r.process held.accepted ≡ Some (Numbered r)) (replies.Old held.front) (IsStandingReply (target_of r.process held.accepted) held r) held.front result
     (λ e. both_ways b other (last.1 (e ∙ ap (λ (x : Report). Some x) (sym is)))) later
 
 -- a refusal since the process ended
-pub refuses_ended : {E : Type 0} (target : Name) (accepted : List Report) (r : NumberedReport) (refusal : No) (value : Result (List ℕ) E)
-    → RefusesWith refusal Ended r.process value → IfOk value (λ t. t ≡ target) → Tests (IsStandingReply (Some target) accepted r) accepted (Err refusal)
-refuses_ended target accepted r refusal (Ok t) e is = inl (rw (e, is) refl)
-refuses_ended target accepted r refusal (Err x) e is = lacking (IsStandingReply (Some target) accepted r) accepted refusal (replies.No Ended (Some r.process) (Some target)) e refl tt
+pub refuses_ended : {E : Type 0} (target : Name) (held : Held) (r : NumberedReport) (refusal : No) (value : Result (List ℕ) E)
+    → RefusesWith refusal Ended r.process value → IfOk value (λ t. t ≡ target) → Tests (IsStandingReply (Some target) held r) held.front (Err refusal)
+refuses_ended target held r refusal (Ok t) e is = inl (rw (e, is) refl)
+refuses_ended target held r refusal (Err x) e is = lacking (IsStandingReply (Some target) held r) held.front refusal (replies.No Ended (Some r.process) (Some target)) e refl tt
 
 -- an action that is no absorb asks for no retirement
-pub as_own : (accepted : List Report) (r : NumberedReport) (a : Action) (result : Result Verdict No) → IsNoAbsorb a → Tests (IsStampReply accepted r a) accepted result → Tests (IsWaitingReply accepted r a) accepted result
-as_own accepted r (Absorb retired) result own h = absurd own
-as_own accepted r _ result own h = h
+pub as_own : (held : Held) (r : NumberedReport) (a : Action) (result : Result Verdict No) → IsNoAbsorb a → Tests (IsStampReply held r a) held.front result → Tests (IsWaitingReply held r a) held.front result
+as_own held r (Absorb retired) result own h = absurd own
+as_own held r _ result own h = h
 
 pub own_id : (accepted : List Report) (p : Name) (a : Action) → IsNoAbsorb a → expected_id accepted p a ≡ registered_id p accepted
 own_id accepted p (Absorb retired) own = absurd own

@@ -13,10 +13,11 @@ use Rattle.chains.specs.Kept.{Kept}
 use Rattle.chains.specs.Keeping.{kept_of, view_of}
 use Rattle.chains.specs.Room.{element_room}
 
--- the accepted list, the least room of the three fields, and the room of each process
+-- the accepted list and the number of its reports, the least room of the three fields, and the room of each process
 abbrev pub kept_in : Inside → Kept
 kept_in a = record {
   accepted = a.reports.items;
+  front = length a.reports.items;
   room = min (vec_capacity a.reports - vec_len a.reports) (min (spare a.names) (vec_capacity a.processes - vec_len a.processes));
   rooms = map element_room a.processes.items;
 }

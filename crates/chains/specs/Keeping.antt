@@ -45,10 +45,10 @@ kept_of accepted p = record {
 abbrev pub view_of : Process → KeptProcess
 view_of k = record { reports = k.reports; last = k.last; birth = k.birth; lasting = k.lasting.items; absorbed = k.absorbed }
 
--- the result of tests that stand for a reply with this meaning, where the front is that of the accepted list
-abbrev pub Tests : (Reply → Type 0) → List Report → Result Verdict No → Type 0
-Tests P accepted (Ok Old) = P (replies.Old (length accepted))
-Tests P accepted (Ok Fits) = P (replies.Accepted (length accepted + 1))
-Tests P accepted (Err refusal) =
+-- the result of tests that stand for a reply with this meaning, at this front
+abbrev pub Tests : (Reply → Type 0) → ℕ → Result Verdict No → Type 0
+Tests P front (Ok Old) = P (replies.Old front)
+Tests P front (Ok Fits) = P (replies.Accepted (front + 1))
+Tests P front (Err refusal) =
     P (replies.No refusal.code refusal.name refusal.value)
     ⊎ ((answer : Reply) × P answer × TakesMemory answer × (refusal.code ≡ OutOfMemory) × (refusal.name ≡ None) × (refusal.value ≡ None))

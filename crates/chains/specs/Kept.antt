@@ -3,10 +3,11 @@ use Rattle.std.specs.Prelude.{ℕ, ◌<◌, List, slice_index_or, ⊤}
 use Rattle.report_line.specs.declared.report.Report.{Report}
 use Rattle.report_line.specs.declared.report.Report.TheVariants.{Begin, Numbered}
 
--- The accepted list, how many more reports find room without memory, and how many more elements
--- of each known process, in order of birth.
+-- The accepted list and the front, how many more reports find room without memory, and how many more elements of each known
+-- process, in order of birth.
 pub record Kept : Type 0 where
   pub accepted : List Report
+  pub front : ℕ
   pub room : ℕ
   pub rooms : List ℕ
 

@@ -1,4 +1,5 @@
 pub mod Processes
+pub mod Held
 pub mod Admission
 pub mod Folded
 pub mod Elements

@@ -1,31 +1,43 @@
--- One turn: the reply to a call over an accepted list, and what is accepted then.
-use Rattle.std.specs.Prelude.{◌≡◌, ◌⊎◌, true, false, codes, List, [], All, Option, Some, None, length}
+-- One turn: the reply to a call over what is held, and what is held then.
+use Rattle.std.specs.Prelude.{◌≡◌, ◌⊎◌, Bool, true, false, codes, List, [], All, Option, Some, None, length, ⊤}
 use Rattle.id_tree.specs.Spelling.{spelling}
 use Rattle.report_line.specs.declared.code.Code.TheVariants.{NothingBegun, UnknownProcess, OutOfMemory}
 use Rattle.report_line.specs.declared.report.Report.{Report as AnyReport}
 use Rattle.report_line.specs.declared.call.Call.{Call}
 use Rattle.report_line.specs.declared.call.Call.TheVariants.{Report, Line, State, Bye, Bad, Unread}
+use Rattle.report_line.specs.declared.reply.Outcome.TheVariants.{Before, Unknown, Stopped}
 use Rattle.report_line.specs.declared.reply.Reply.{Reply}
 use Rattle.report_line.specs.declared.reply.Reply.TheVariants as replies
 use Rattle.chains.specs.Processes.{Name, IsKnown, reports_of, registered_id, target_of}
 use Rattle.chains.specs.Elements.{elements_of}
-use Rattle.chains.specs.Admission.{Decides, IsAdmission, accepted_after, TakesMemory}
+use Rattle.chains.specs.Held.{Held, with_stop}
+use Rattle.chains.specs.Admission.{Decides, IsAdmission, Passes, accepted_after, TakesMemory}
 use Rattle.chains.specs.Failures.{IsFirstUnknown}
 
--- What may happen in a turn: nothing amiss, or a growth that is refused.
+-- What may happen in a turn: nothing amiss; a growth that is refused; or, once all tests let a report pass, a device that
+-- fails, before the report can be in its file, or where nobody knows whether it is.
 pub data Fate : Type 0 where
   fine : Fate
   memory : Fate
+  before : Fate
+  unknown : Fate
+
+-- the fates where no device fails
+abbrev pub IsDeviceFree : Fate → Type 0
+IsDeviceFree fine = ⊤
+IsDeviceFree memory = ⊤
+IsDeviceFree before = ⊥
+IsDeviceFree unknown = ⊥
 
 abbrev pub no_memory : Reply
 no_memory = replies.No OutOfMemory None None
 
 -- The reply to a question for a line: refused, or taken at this front.
-abbrev pub IsLineReply : List AnyReport → List Name → Reply → Type 0
-IsLineReply accepted names reply =
-    Decides (accepted ≡ []) (replies.No NothingBegun None None) reply
-    (((name : Name) × IsFirstUnknown accepted names name × (reply ≡ replies.No UnknownProcess (Some name) None))
-    ⊎ (All (IsKnown accepted) names × (reply ≡ replies.Taken (length accepted))))
+abbrev pub IsLineReply : Held → List Name → Reply → Type 0
+IsLineReply held names reply =
+    Decides (held.accepted ≡ []) (replies.No NothingBegun None None) reply
+    (((name : Name) × IsFirstUnknown held.accepted names name × (reply ≡ replies.No UnknownProcess (Some name) None))
+    ⊎ (All (IsKnown held.accepted) names × (reply ≡ replies.Taken held.front)))
 
 -- what is told of a process that lives, or that retired into this target
 abbrev pub state_by : Option Name → List AnyReport → Name → Reply
@@ -39,20 +51,37 @@ IsStateReply accepted p reply =
     (Decides (¬ IsKnown accepted p) (replies.No UnknownProcess (Some p) None) reply
     (reply ≡ state_by (target_of p accepted) accepted p))
 
--- the reply to a report: that of admission, or for want of memory in one that takes memory
-abbrev pub IsReportTurn : Fate → List AnyReport → AnyReport → Reply → List AnyReport → Type 0
-IsReportTurn fine accepted r reply after = IsAdmission accepted r reply × (after ≡ accepted_after accepted r reply)
-IsReportTurn memory accepted r reply after =
-    (answer : Reply) × IsAdmission accepted r answer × TakesMemory answer × (reply ≡ no_memory) × (after ≡ accepted)
+-- The reply to a report where the store is not stopped: that of admission, or for want of memory in one that takes memory;
+-- where the device fails, the report is not accepted, and the store is stopped.
+abbrev pub IsReportTurn : Fate → Held → AnyReport → Reply → Held → Type 0
+IsReportTurn fine held r reply after = IsAdmission held r reply × (after ≡ accepted_after held r reply)
+IsReportTurn memory held r reply after =
+    (answer : Reply) × IsAdmission held r answer × TakesMemory answer × (reply ≡ no_memory) × (after ≡ held)
+IsReportTurn before held r reply after = Passes held r × (reply ≡ replies.Fail Before) × (after ≡ with_stop held)
+IsReportTurn unknown held r reply after = Passes held r × (reply ≡ replies.Fail Unknown) × (after ≡ with_stop held)
 
--- From this accepted list, with this fate, the call is replied to so, and this is accepted then.
-abbrev pub IsTurnWith : Fate → List AnyReport → Call → Reply → List AnyReport → Type 0
-IsTurnWith fate accepted (Report r) reply after = IsReportTurn fate accepted r reply after
-IsTurnWith fate accepted (Line names) reply after = IsLineReply accepted names reply × (after ≡ accepted)
-IsTurnWith fate accepted (State p) reply after = IsStateReply accepted p reply × (after ≡ accepted)
-IsTurnWith fate accepted Bye reply after = (reply ≡ replies.Bye) × (after ≡ accepted)
-IsTurnWith fate accepted (Bad n) reply after = (reply ≡ replies.Bad n) × (after ≡ accepted)
-IsTurnWith fate accepted Unread reply after = (reply ≡ no_memory) × (after ≡ accepted)
+-- the reply to a call that changes nothing, with which nothing is amiss
+abbrev pub IsPlainTurn : Fate → Held → (Reply → Type 0) → Reply → Held → Type 0
+IsPlainTurn fate held Answers reply after = (fate ≡ fine) × Answers reply × (after ≡ held)
 
-abbrev pub IsTurn : List AnyReport → Call → Reply → List AnyReport → Type 0
-IsTurn accepted call reply after = (fate : Fate) × IsTurnWith fate accepted call reply after
+-- the same of a call that a stopped store refuses
+abbrev pub IsQuestionTurn : Bool → Fate → Held → (Reply → Type 0) → Reply → Held → Type 0
+IsQuestionTurn true fate held Answers reply after = IsPlainTurn fate held (λ x. x ≡ replies.Fail Stopped) reply after
+IsQuestionTurn false fate held Answers reply after = IsPlainTurn fate held Answers reply after
+
+-- the reply to a report, whether the store is stopped or not
+abbrev pub IsReported : Bool → Fate → Held → AnyReport → Reply → Held → Type 0
+IsReported true fate held r reply after = IsPlainTurn fate held (λ x. x ≡ replies.Fail Stopped) reply after
+IsReported false fate held r reply after = IsReportTurn fate held r reply after
+
+-- From what is held, with this fate, the call is replied to so, and this is held then.
+abbrev pub IsTurnWith : Fate → Held → Call → Reply → Held → Type 0
+IsTurnWith fate held (Report r) reply after = IsReported held.stopped fate held r reply after
+IsTurnWith fate held (Line names) reply after = IsQuestionTurn held.stopped fate held (IsLineReply held names) reply after
+IsTurnWith fate held (State p) reply after = IsQuestionTurn held.stopped fate held (IsStateReply held.accepted p) reply after
+IsTurnWith fate held Bye reply after = IsPlainTurn fate held (λ x. x ≡ replies.Bye) reply after
+IsTurnWith fate held (Bad n) reply after = IsPlainTurn fate held (λ x. x ≡ replies.Bad n) reply after
+IsTurnWith fate held Unread reply after = IsPlainTurn fate held (λ x. x ≡ no_memory) reply after
+
+abbrev pub IsTurn : Held → Call → Reply → Held → Type 0
+IsTurn held call reply after = (fate : Fate) × IsTurnWith fate held call reply after

@@ -2,7 +2,6 @@
 
 ghost use Rattle.std.specs.Prelude.{◌≡◌, ◌≢◌, ◌≤◌, ◌<◌, ◌+◌, ◌∷◌, ◌++◌, ℕ, [], ⊤, IfOk, MatchResult, MatchOption, IsTrue, ◌↔◌, OnOk, List, Contains, length, slice_get, option_copied, Some, None, true, map, min, vec_len, vec_capacity, ◌-◌, ◌^◌, nat_eq, slice_index_or, slice_set};
 ghost use Rattle.std.specs.Option.{option_map};
-ghost use Rattle.report_line.specs.declared.reply.Reply.TheVariants.{Accepted};
 ghost use Rattle.report_line.specs.View.{action_of};
 ghost use Rattle.id_tree.specs.IdTree.{One};
 ghost use Rattle.event_tree.specs.EventTree.{Leaf};
@@ -12,12 +11,13 @@ ghost use Rattle.chains.specs.Stamps.{stamp_of};
 ghost use Rattle.chains.specs.Positions.{IsLastSurviving};
 ghost use Rattle.chains.specs.Knowledge.{events_at, retired_events};
 ghost use Rattle.chains.specs.States.{IsStateOf};
+ghost use Rattle.chains.specs.Held.{held_of, counting, with_report};
 ghost use Rattle.chains.specs.Admission.{IsReachable, IsAdmission, report_limit, process_limit};
 ghost use Rattle.chains.specs.Folded.{IsFolded};
 ghost use Rattle.chains.specs.Kept.{Kept, HasRoomFor};
 ghost use Rattle.chains.specs.Inside.{first_stamp};
 ghost use Rattle.chains.specs.Answers.{IsReady, MayBeAccepted, Prepares, Commits, IsNumberOf, reply_of};
-ghost use Rattle.chains.specs.Turns.{Fate, IsReportTurn};
+ghost use Rattle.chains.specs.Turns.{Fate, IsDeviceFree, IsReportTurn};
 ghost use Rattle.chains.specs.Keeping.{kept_of, view_of, Tests};
 ghost use Rattle.chains.specs.Laws.{ArePartsOfAll, NeverFall};
 ghost use Rattle.chains.specs.Testing.{IsNumberIn};
@@ -77,7 +77,7 @@ impl Model for Chains {
 impl Chains {
     /// No reports. It takes no memory.
     pub fn new(alloc: Global) -> Chains
-        ensures { result.accepted ≡ [] }
+        ensures { held_of result ≡ counting [] }
     {
         Chains {
             alloc,
@@ -91,7 +91,7 @@ impl Chains {
 
     /// The same reports once more, each of which both chains share.
     pub fn copy(&self) -> Result<Chains, AllocError>
-        ensures { IfOk result (λ copy. copy.accepted ≡ self.now.accepted) }
+        ensures { IfOk result (λ copy. held_of copy ≡ held_of self.now) }
     {
         let reports = share_all(self.alloc, &self.reports)?;
         let names = copy_names(self.alloc, self.names.as_slice())?;
@@ -114,6 +114,8 @@ impl Chains {
     /// Tells a proof what holds of all chains.
     pub fn lawful(&self)
         ensures reachable { IsReachable self.now.accepted }
+        // The front counts the accepted reports.
+        ensures counted { self.now.front ≡ length self.now.accepted }
         ensures folded { IsFolded self.now.accepted }
         ensures few { length self.now.accepted ≤ report_limit }
         ensures few_known { length (known self.now.accepted) ≤ process_limit }
@@ -127,9 +129,16 @@ impl Chains {
 
     /// How many reports are accepted.
     pub fn front(&self) -> u32
-        ensures { result ≡ length self.now.accepted }
+        ensures { result ≡ self.now.front }
     {
         self.reports.len() as u32
+    }
+
+    /// Whether none is.
+    pub fn is_empty(&self) -> bool
+        ensures { IsTrue result ↔ (self.now.accepted ≡ []) }
+    {
+        self.reports.is_empty()
     }
 
     /// How many processes are known.
@@ -373,7 +382,7 @@ impl Chains {
     /// Makes room for one more report, of the process of this number if it is that of a known one.
     fn grow(&mut self, number: Option<u32>) -> Result<(), AllocError>
         requires { IsPlaceWithin number (length (known self.old.accepted)) }
-        ensures same { self.new.accepted ≡ self.old.accepted }
+        ensures same { held_of self.new ≡ held_of self.old }
         ensures room { OnOk result (0 < self.new.room) }
         ensures element_room { OnOk result (HasPlace number self.new.rooms) }
     {
@@ -391,7 +400,7 @@ impl Chains {
     ) -> Result<Ready, AllocError>
         requires number { IsNumberIn self.old.accepted report number }
         requires known { IsFound report number }
-        ensures same { self.new.accepted ≡ self.old.accepted }
+        ensures same { held_of self.new ≡ held_of self.old }
         ensures report { IfOk result (λ r. r.report ≡ report) }
         ensures ready { IfOk result (λ r. IsNumberOf self.new.accepted report r.process × (0 < self.new.room) × HasRoomFor self.new report r.process) }
     {
@@ -408,11 +417,11 @@ impl Chains {
         })
     }
 
-    /// Makes the tests of a report and every growth that accepting it needs. The accepted list stays as it is, also
-    /// where what is answered is dropped.
+    /// Makes the tests of a report and every growth that accepting it needs. What is held stays as it is, also where what is
+    /// answered is dropped.
     pub fn prepare(&mut self, report: &PackedReport) -> Result<Prepared, No>
-        ensures same { self.new.accepted ≡ self.old.accepted }
-        ensures answer { Prepares self.old.accepted report.now result }
+        ensures same { held_of self.new ≡ held_of self.old }
+        ensures answer { Prepares (held_of self.old) report.now result }
         ensures ready { IfOk result (λ prepared. IsReady prepared self.new) }
     {
         let number = self.number_in(report);
@@ -433,7 +442,7 @@ impl Chains {
     /// Accepts a report.
     fn accept(&mut self, ready: Ready)
         requires { MayBeAccepted self.old ready }
-        ensures { self.new.accepted ≡ self.old.accepted ++ ready.report ∷ [] }
+        ensures { held_of self.new ≡ with_report (held_of self.old) ready.report }
     {
         let front = self.reports.len() as u32;
         let Ready {
@@ -456,7 +465,7 @@ impl Chains {
     /// Accepts a report that was prepared on these chains at this front. It takes no memory and cannot fail.
     pub fn commit(&mut self, prepared: Prepared) -> Admitted
         requires { IsReady prepared self.old }
-        ensures { Commits prepared self.old.accepted result self.new.accepted }
+        ensures { Commits prepared (held_of self.old) result (held_of self.new) }
     {
         match prepared {
             Prepared::Old(front) => Admitted::Old(front),
@@ -469,7 +478,7 @@ impl Chains {
 
     /// Tests a report and accepts it where it passes. A refusal changes nothing.
     pub fn admit(&mut self, report: &PackedReport) -> Result<Admitted, No>
-        ensures turn { (fate : Fate) × IsReportTurn fate self.old.accepted report.now (reply_of result) self.new.accepted }
+        ensures turn { (fate : Fate) × IsDeviceFree fate × IsReportTurn fate (held_of self.old) report.now (reply_of result) (held_of self.new) }
     {
         let prepared = self.prepare(report)?;
         Ok(self.commit(prepared))
@@ -477,7 +486,7 @@ impl Chains {
 
     /// Tests a report and accepts it where it passes: it is then shared, and not copied. A refusal changes nothing.
     pub fn admit_shared(&mut self, report: Shared<PackedReport>) -> Result<Admitted, No>
-        ensures turn { (fate : Fate) × IsReportTurn fate self.old.accepted report (reply_of result) self.new.accepted }
+        ensures turn { (fate : Fate) × IsDeviceFree fate × IsReportTurn fate (held_of self.old) report (reply_of result) (held_of self.new) }
     {
         let number = self.number_in(&report);
         match self.tested(&report, number) {

@@ -6,7 +6,8 @@ ghost use Rattle.report_line.specs.declared.report.Report.{Report};
 ghost use Rattle.report_line.specs.declared.report.Report.TheVariants.{Numbered};
 ghost use Rattle.report_line.specs.declared.call.Call.{Call};
 ghost use Rattle.report_line.specs.declared.reply.Reply.{Reply};
-ghost use Rattle.chains.specs.Admission.{IsReachable, IsAdmission, accepted_after};
+ghost use Rattle.chains.specs.Held.{Held, counting};
+ghost use Rattle.chains.specs.Admission.{IsReachable, IsReached, IsAdmission, accepted_after};
 ghost use Rattle.chains.specs.Processes.{Name, reports_of, last_report};
 ghost use Rattle.chains.specs.Folded.{IsFit, IsFolded};
 ghost use Rattle.chains.specs.Turns.{IsTurn};
@@ -28,8 +29,8 @@ pub fn folded_lists_are_lawful()
 {}
 
 /// From a list that admission reaches, whatever it replies to a report, it reaches what is accepted then; and so it is with
-/// each turn, whatever its call.
+/// each turn, whatever its call and its fate. The front goes on counting the reports.
 pub fn replies_keep_lists_reachable()
-    ensures report { (accepted : List Report) (r : Report) (answer : Reply) → IsReachable accepted → IsAdmission accepted r answer → IsReachable (accepted_after accepted r answer) }
-    ensures turn { (accepted after : List Report) (call : Call) (reply : Reply) → IsReachable accepted → IsTurn accepted call reply after → IsReachable after }
+    ensures report { (accepted : List Report) (r : Report) (answer : Reply) → IsReachable accepted → IsAdmission (counting accepted) r answer → IsReached (accepted_after (counting accepted) r answer) }
+    ensures turn { (held after : Held) (call : Call) (reply : Reply) → IsReached held → IsTurn held call reply after → IsReached after }
 {}

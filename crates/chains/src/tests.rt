@@ -11,6 +11,7 @@ ghost use Rattle.report_line.specs.View.{action_of, numbered_of};
 ghost use Rattle.report_line.specs.declared.report.Action.TheVariants as actions;
 ghost use Rattle.chains.specs.Processes.{Name as AnyName, known, newborn, IsKnown, last_report, last_events, registered_id, target_of, Waits};
 ghost use Rattle.chains.specs.Elements.{name_of};
+ghost use Rattle.chains.specs.Held.{held_of};
 ghost use Rattle.chains.specs.Admission.{FitsOrNot, AreGrown, IsActionReply, IsStampReply, IsWaitingReply, IsStandingReply, IsNumberedReply, IsBeginReply, IsAdmission, report_limit, process_limit};
 ghost use Rattle.chains.specs.Keeping.{Tests};
 ghost use Rattle.chains.specs.Testing.{IsNumberIn, IsNoAbsorb, RefusesWith, IsFull};
@@ -133,7 +134,7 @@ impl Chains {
     #[inline(always)]
     pub(crate) fn tested(&self, report: &PackedReport, number: Option<u32>) -> Result<Verdict, No>
         requires { IsNumberIn self.now.accepted report.now number }
-        ensures { Tests (IsAdmission self.now.accepted report.now) self.now.accepted result }
+        ensures { Tests (IsAdmission (held_of self.now) report.now) self.now.front result }
     {
         match self.test(report, number) {
             Ok(verdict) => Ok(verdict),
@@ -148,12 +149,12 @@ impl Chains {
         number: Option<u32>,
     ) -> Result<Verdict, Refusal<'a>>
         requires { IsNumberIn self.now.accepted report.now number }
-        ensures { Tests (IsAdmission self.now.accepted report.now) self.now.accepted result }
+        ensures { Tests (IsAdmission (held_of self.now) report.now) self.now.front result }
     {
         match report.view() {
             ReportView::Begin { process } => self.test_begin(report, process),
             ReportView::Numbered(fields) => {
-                if self.front() == 0 {
+                if self.is_empty() {
                     return Err(Refusal {
                         code: Code::NothingBegun,
                         name: None,
@@ -175,7 +176,7 @@ impl Chains {
         name: &'a Name,
     ) -> Result<Verdict, Refusal<'a>>
         requires { report.now ≡ reports.Begin name.now }
-        ensures { Tests (IsBeginReply (slice_get (known self.now.accepted) 0) self.now.accepted name.now) self.now.accepted result }
+        ensures { Tests (IsBeginReply (slice_get (known self.now.accepted) 0) (held_of self.now) name.now) self.now.front result }
     {
         match self.root() {
             None => self.test_room(report),
@@ -198,7 +199,7 @@ impl Chains {
     ) -> Result<Verdict, Refusal<'a>>
         requires place { name_of self.now.accepted place ≡ Some fields.process.now }
         requires fields { report.now ≡ reports.Numbered (numbered_of fields) }
-        ensures { Tests (IsNumberedReply self.now.accepted (numbered_of fields.entry)) self.now.accepted result }
+        ensures { Tests (IsNumberedReply (held_of self.now) (numbered_of fields.entry)) self.now.front result }
     {
         if self.is_last(place, report) {
             return Ok(Verdict::Old);
@@ -235,7 +236,7 @@ impl Chains {
         requires place { name_of self.now.accepted place ≡ Some fields.process.now }
         requires fields { report.now ≡ reports.Numbered (numbered_of fields) }
         requires lives { target_of fields.process.now self.now.accepted ≡ None }
-        ensures { Tests (IsStandingReply None self.now.accepted (numbered_of fields.entry)) self.now.accepted result }
+        ensures { Tests (IsStandingReply None (held_of self.now) (numbered_of fields.entry)) self.now.front result }
     {
         self.lawful();
         let next = self.reports_of(place) + 1;
@@ -293,7 +294,7 @@ impl Chains {
         requires place { name_of self.now.accepted place ≡ Some fields.process.now }
         requires fields { report.now ≡ reports.Numbered (numbered_of fields) }
         requires own { IsNoAbsorb (action_of fields.action) }
-        ensures { Tests (IsStampReply self.now.accepted (numbered_of fields.entry) (action_of fields.entry.action)) self.now.accepted result }
+        ensures { Tests (IsStampReply (held_of self.now) (numbered_of fields.entry) (action_of fields.entry.action)) self.now.front result }
     {
         let registered = self.registered_id(place);
         if !fields.stamp.id.equal(registered) {
@@ -319,7 +320,7 @@ impl Chains {
         requires registered { registered.now ≡ registered_id fields.process.now self.now.accepted }
         requires fields { report.now ≡ reports.Numbered (numbered_of fields) }
         requires own { IsNoAbsorb (action_of fields.action) }
-        ensures { Tests (IsActionReply self.now.accepted (numbered_of fields.entry) (action_of fields.entry.action)) self.now.accepted result }
+        ensures { Tests (IsActionReply (held_of self.now) (numbered_of fields.entry) (action_of fields.entry.action)) self.now.front result }
     {
         match fields.action {
             ActionView::Fork(forked) => self.test_fork(report, fields, registered, forked),
@@ -340,7 +341,7 @@ impl Chains {
     ) -> Result<Verdict, Refusal<'a>>
         requires registered { registered.now ≡ registered_id fields.process.now self.now.accepted }
         requires fields { report.now ≡ reports.Numbered (numbered_of fields) }
-        ensures { Tests (IsActionReply self.now.accepted (numbered_of fields.entry) (actions.Fork forked.now)) self.now.accepted result }
+        ensures { Tests (IsActionReply (held_of self.now) (numbered_of fields.entry) (actions.Fork forked.now)) self.now.front result }
     {
         match self.number_of(&forked.child) {
             Some(_) => return Err(refusal(Code::NameTaken, &forked.child)),
@@ -364,7 +365,7 @@ impl Chains {
         target: &'a Name,
     ) -> Result<Verdict, Refusal<'a>>
         requires { report.now ≡ reports.Numbered (numbered_of fields) }
-        ensures { Tests (IsActionReply self.now.accepted (numbered_of fields.entry) (actions.Retire target.now)) self.now.accepted result }
+        ensures { Tests (IsActionReply (held_of self.now) (numbered_of fields.entry) (actions.Retire target.now)) self.now.front result }
     {
         if target.as_bytes() == fields.process.as_bytes() {
             return Err(refusal(Code::WrongTarget, target));
@@ -389,7 +390,7 @@ impl Chains {
         requires waits { Waits self.now.accepted retired.now fields.process.now }
         requires apart { AreDisjoint (registered_id fields.process.now self.now.accepted) (registered_id retired.now self.now.accepted) }
         requires fields { report.now ≡ reports.Numbered (numbered_of fields) }
-        ensures { Tests (IsStampReply self.now.accepted (numbered_of fields.entry) (actions.Absorb retired.now)) self.now.accepted result }
+        ensures { Tests (IsStampReply (held_of self.now) (numbered_of fields.entry) (actions.Absorb retired.now)) self.now.front result }
     {
         let registered = self.registered_id(place);
         let other = self.registered_id(partner);
@@ -422,7 +423,7 @@ impl Chains {
     /// Whether one more report fits, and one more process where one is born by it.
     #[inline(always)]
     fn test_room<'a>(&'a self, report: &PackedReport) -> Result<Verdict, Refusal<'a>>
-        ensures { Tests (FitsOrNot self.now.accepted report.now) self.now.accepted result }
+        ensures { Tests (FitsOrNot (held_of self.now) report.now) self.now.front result }
     {
         if self.front() >= REPORT_LIMIT {
             return Err(full(self.alloc(), REPORT_LIMIT));

@@ -8,6 +8,7 @@ ghost use Rattle.chains.specs.Positions.{last_rank};
 ghost use Rattle.chains.specs.Folded.{IsFolded};
 ghost use Rattle.chains.specs.declared.position.Place.{Place as AnyPlace};
 ghost use Rattle.reasons.specs.declared.certificate.Certificate.{Certificate as AnyCertificate};
+ghost use Rattle.chains.specs.Held.{Held, held_of};
 ghost use Rattle.reasons.specs.Certificates.{AreReasons, Certifies, positions_of};
 ghost use Rattle.propagate.specs.Greatest.{IsGreatestCut};
 ghost use Rattle.propagate.specs.Rounds.{AreTops, AreRounds};
@@ -126,7 +127,7 @@ pub fn greatest_cut(chains: &Chains, failed: &Failed) -> Result<Cut, AllocError>
 
 /// The certificate of the greatest cut over these chains for those of the failed set that are known.
 pub fn certificate(chains: &Chains, failed: &Failed) -> Result<Certificate, AllocError>
-    ensures certifies { IfOk result (λ c. Certifies chains.now.accepted c) }
+    ensures certifies { IfOk result (λ c. Certifies (held_of chains.now) c) }
     ensures failed { IfOk result (λ c. (p : ℕ) → (Contains c.failed p ↔ (Contains failed.now p × (p < length (known chains.now.accepted))))) }
 {
     let failed = failed.known_to(chains)?;
@@ -139,7 +140,7 @@ pub fn certificate(chains: &Chains, failed: &Failed) -> Result<Certificate, Allo
     })
 }
 
-/// What certifies for a folded list is its greatest stamp-consistent cut.
+/// What certifies for what is held, where its list is folded, is the greatest stamp-consistent cut of that list.
 pub fn certified_lines_are_the_greatest()
-    ensures { (accepted : List Report) (c : AnyCertificate) → IsFolded accepted → Certifies accepted c → IsGreatestCut accepted c.failed (positions_of c.line) }
+    ensures { (held : Held) (c : AnyCertificate) → IsFolded held.accepted → Certifies held c → IsGreatestCut held.accepted c.failed (positions_of c.line) }
 {}

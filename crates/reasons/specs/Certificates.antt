@@ -6,6 +6,7 @@ use Rattle.report_line.specs.declared.report.Report.{Report}
 use Rattle.chains.specs.declared.position.Position.{Position}
 use Rattle.chains.specs.declared.position.Position.TheVariants.{At, Retired}
 use Rattle.chains.specs.Processes.{Name, known}
+use Rattle.chains.specs.Held.{Held}
 use Rattle.chains.specs.Elements.{elements, name_of}
 use Rattle.chains.specs.declared.position.Place.{Place}
 use Rattle.chains.specs.Positions.{IsLastSurviving, position_in, IsCut, is_retired, rank}
@@ -68,14 +69,14 @@ pub record AreReasons (accepted : List Report) (failed : List ℕ) (cut : List P
   pub just_these : (p : ℕ) → (Contains fallen p ↔ Falls accepted failed cut p)
   pub each : HaveReasons accepted failed cut fallen chains
 
-pub record Certifies (accepted : List Report) (c : Certificate) : Type 0 where
-  pub front : c.front ≡ length accepted
+pub record Certifies (held : Held) (c : Certificate) : Type 0 where
+  pub front : c.front ≡ held.front
   pub failed : IsStrictlyIncreasing c.failed
-  pub known_failed : (p : ℕ) → Contains c.failed p → p < length (known accepted)
-  pub in_order : map (λ x. x.process) c.line ≡ range_with_len 0 (length (known accepted))
-  pub cut : IsCut accepted c.failed (positions_of c.line)
-  pub consistent : IsStampConsistent accepted (positions_of c.line)
-  pub reasons : AreReasons accepted c.failed (positions_of c.line) c.reasons
+  pub known_failed : (p : ℕ) → Contains c.failed p → p < length (known held.accepted)
+  pub in_order : map (λ x. x.process) c.line ≡ range_with_len 0 (length (known held.accepted))
+  pub cut : IsCut held.accepted c.failed (positions_of c.line)
+  pub consistent : IsStampConsistent held.accepted (positions_of c.line)
+  pub reasons : AreReasons held.accepted c.failed (positions_of c.line) c.reasons
 
 -- the failed processes are just those that are named
 abbrev pub IsForNames : List Report → List Name → Certificate → Type 0

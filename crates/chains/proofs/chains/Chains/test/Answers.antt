@@ -1,9 +1,11 @@
-use Rattle.std.proofs.Common.{◌≡◌, ℕ, sym, ap, subst, ◌∙◌, [], length, Option, None, Some}
+use Rattle.std.proofs.Common.{◌≡◌, ℕ, sym, subst, [], Option, None, Some}
+use Rattle.std.proofs.lemmas.Bool.{both_ways}
 use Rattle.report_line.specs.declared.code.Code.TheVariants.{NothingBegun, UnknownProcess}
 use Rattle.report_line.specs.declared.report.Report.{Report}
 use Rattle.report_line.specs.declared.reply.Reply.TheVariants.{No}
 use Rattle.report_line.specs.View.{numbered_of}
 use Rattle.chains.specs.Processes.{IsKnown}
+use Rattle.chains.specs.Held.{held_of}
 use Rattle.chains.specs.Admission.{Decides, IsNumberedReply, IsAdmission}
 use Rattle.chains.specs.Keeping.{Tests}
 use Rattle.chains.specs.Testing.{IsNumberIn, IsPlaceOf}
@@ -11,19 +13,21 @@ use Rattle.chains.proofs.LookUps.{known_from}
 use Rattle.chains.proofs.Tested.{passed_on, refuses_first}
 use Rattle.chains.proofs.chains.Chains.test.Goals as goal
 
-pub returns-then-front-eq0 : goal.returns-then-front-eq0
-returns-then-front-eq0 c =
-    refuses_first c.args.self.now.accepted c.args.report.now (numbered_of c.in-Numbered.fields) c.in-Numbered.ensures (sym c.front.ensures ∙ c.if-front-eq0.true)
+pub returns-then-is_empty : goal.returns-then-is_empty
+returns-then-is_empty c =
+    refuses_first (held_of c.args.self.now) c.args.report.now (numbered_of c.in-Numbered.fields) c.in-Numbered.ensures (c.is_empty.ensures.0 c.if-is_empty.true)
 
 pub returns-in-Some : goal.returns-in-Some
 returns-in-Some c =
-    let accepted = c.args.self.now.accepted in
+    let held = held_of c.args.self.now in
+    let accepted = held.accepted in
+    let front = held.front in
     let r = numbered_of c.in-Numbered.fields in
-    let later = IsNumberedReply accepted r in
+    let later = IsNumberedReply held r in
     let result = c.test_numbered.result in
     let is = c.in-Numbered.ensures in
     let number = subst (λ (x : Report). IsNumberIn accepted x c.args.number) is c.requires in
     let place = subst (λ (o : Option ℕ). IsPlaceOf accepted r.process o) c.in-Some.is number in
-    subst (λ (x : Report). Tests (IsAdmission accepted x) accepted result) (sym is)
-    (passed_on (accepted ≡ []) (No NothingBegun None None) (λ a. Decides (¬ IsKnown accepted r.process) (No UnknownProcess (Some r.process) None) a (later a)) accepted result (λ e. c.if-front-eq0.false (c.front.ensures ∙ ap length e))
-    (passed_on (¬ IsKnown accepted r.process) (No UnknownProcess (Some r.process) None) later accepted result (λ h. h (known_from accepted c.in-Some.place r.process place)) c.test_numbered.ensures))
+    subst (λ (x : Report). Tests (IsAdmission held x) front result) (sym is)
+    (passed_on (accepted ≡ []) (No NothingBegun None None) (λ a. Decides (¬ IsKnown accepted r.process) (No UnknownProcess (Some r.process) None) a (later a)) front result (λ e. both_ways c.is_empty.result c.if-is_empty.false (c.is_empty.ensures.1 e))
+    (passed_on (¬ IsKnown accepted r.process) (No UnknownProcess (Some r.process) None) later front result (λ h. h (known_from accepted c.in-Some.place r.process place)) c.test_numbered.ensures))

@@ -12,6 +12,7 @@ use Rattle.report_line.specs.declared.report.Report.{Report}
 use Rattle.report_line.specs.declared.report.Report.TheVariants.{Numbered}
 use Rattle.report_line.specs.declared.reply.Reply.TheVariants.{No}
 use Rattle.chains.specs.Processes.{known, registered_id, last_events}
+use Rattle.chains.specs.Held.{held_of}
 use Rattle.chains.specs.Admission.{Decides, AreGrown, FitsOrNot, IsActionReply}
 use Rattle.chains.specs.Keeping.{Tests}
 use Rattle.chains.proofs.Tested.{refuses, passed_on, told_sum}
@@ -22,7 +23,9 @@ sum_text-requires c = rw (c.registered_id-registered.ensures c.args.fields.proce
 
 pub returns-then-not-is_sum_of : goal.returns-then-not-is_sum_of
 returns-then-not-is_sum_of c =
-    let accepted = c.args.self.now.accepted in
+    let held = held_of c.args.self.now in
+    let accepted = held.accepted in
+    let front = held.front in
     let report = numbered_of c.args.fields in
     let p = report.process in
     let r = c.args.retired.now in
@@ -30,8 +33,8 @@ returns-then-not-is_sum_of c =
     let left = c.registered_id-registered.ensures p c.requires.place in
     let right = c.registered_id-other.ensures r c.requires.partner in
     let expected = sum_of (registered_id p accepted) (registered_id r accepted) in
-    refuses (s.id ≢ expected) (λ a. Decides (¬ AreGrown (last_events p accepted) (registered_id p accepted) s.events) (No NotGrown (Some p) None) a (IsActionReply accepted report (Absorb r) a))
-    accepted c.refusal_with.result WrongId p (spelling expected) c.sum_text.result c.refusal_with.ensures (rw (← left, ← right) c.sum_text.ensures)
+    refuses (s.id ≢ expected) (λ a. Decides (¬ AreGrown (last_events p accepted) (registered_id p accepted) s.events) (No NotGrown (Some p) None) a (IsActionReply held report (Absorb r) a))
+    front c.refusal_with.result WrongId p (spelling expected) c.sum_text.result c.refusal_with.ensures (rw (← left, ← right) c.sum_text.ensures)
     (λ e. both_ways c.is_sum_of.result c.if-not-is_sum_of.true ((told_sum _ _ (registered_id p accepted) (registered_id r accepted) s.id c.is_sum_of.result left right c.requires.apart c.is_sum_of.ensures.sum).1 e))
 
 pub is_grown-requires-clause-place : goal.is_grown-requires-clause-place
@@ -42,7 +45,9 @@ last_events-requires c = slice_get_within (known c.args.self.now.accepted) c.arg
 
 pub returns : goal.returns
 returns c =
-    let accepted = c.args.self.now.accepted in
+    let held = held_of c.args.self.now in
+    let accepted = held.accepted in
+    let front = held.front in
     let report = numbered_of c.args.fields in
     let p = report.process in
     let r = c.args.retired.now in
@@ -50,12 +55,12 @@ returns c =
     let expected = sum_of (registered_id p accepted) (registered_id r accepted) in
     let grown = AreGrown (last_events p accepted) (registered_id p accepted) s.events in
     let joined = IsAtOrBelow (last_events r accepted) s.events in
-    let action = IsActionReply accepted report (Absorb r) in
+    let action = IsActionReply held report (Absorb r) in
     let left = c.registered_id-registered.ensures p c.requires.place in
     let right = c.registered_id-other.ensures r c.requires.partner in
     let told = told_sum _ _ (registered_id p accepted) (registered_id r accepted) s.id c.is_sum_of.result left right c.requires.apart c.is_sum_of.ensures.sum in
-    let room = subst (λ (x : Report). Tests (FitsOrNot accepted x) accepted c.test_room.result) c.requires.fields c.test_room.ensures in
-    passed_on (s.id ≢ expected) (No WrongId (Some p) (Some (spelling expected))) (λ a. Decides (¬ grown) (No NotGrown (Some p) None) a (action a)) accepted c.test_room.result (λ h. h (told.0 c.if-not-is_sum_of.false))
-    (passed_on (¬ grown) (No NotGrown (Some p) None) action accepted c.test_room.result (λ h. h ((c.is_grown.ensures p c.requires.place).0 c.if-not-is_grown.false))
-    (passed_on (¬ joined) (No NotJoined (Some r) None) (FitsOrNot accepted (Numbered report)) accepted c.test_room.result
+    let room = subst (λ (x : Report). Tests (FitsOrNot held x) front c.test_room.result) c.requires.fields c.test_room.ensures in
+    passed_on (s.id ≢ expected) (No WrongId (Some p) (Some (spelling expected))) (λ a. Decides (¬ grown) (No NotGrown (Some p) None) a (action a)) front c.test_room.result (λ h. h (told.0 c.if-not-is_sum_of.false))
+    (passed_on (¬ grown) (No NotGrown (Some p) None) action front c.test_room.result (λ h. h ((c.is_grown.ensures p c.requires.place).0 c.if-not-is_grown.false))
+    (passed_on (¬ joined) (No NotJoined (Some r) None) (FitsOrNot held (Numbered report)) front c.test_room.result
     (λ h. h (subst (λ (e : EventTree). IsAtOrBelow e s.events) (c.last_events.ensures r c.requires.partner) (c.leq.ensures.pointwise.0 c.if-not-leq.false))) room))

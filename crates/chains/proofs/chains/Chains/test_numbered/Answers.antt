@@ -1,6 +1,7 @@
 use Rattle.std.proofs.Common.{subst, Option, Err}
 use Rattle.report_line.specs.View.{numbered_of}
 use Rattle.chains.specs.Processes.{Name}
+use Rattle.chains.specs.Held.{held_of}
 use Rattle.chains.specs.Admission.{IsStandingReply}
 use Rattle.chains.specs.Keeping.{Tests}
 use Rattle.chains.proofs.Tested.{not_last, refuses_ended}
@@ -8,17 +9,19 @@ use Rattle.chains.proofs.chains.Chains.test_numbered.Goals as goal
 
 pub returns-in-Some : goal.returns-in-Some
 returns-in-Some c =
-    let accepted = c.args.self.now.accepted in
+    let held = held_of c.args.self.now in
+    let front = held.front in
     let r = numbered_of c.args.fields in
     let refusal = c.refusal_with.result in
-    not_last accepted c.args.report.now r (Err refusal) c.is_last.result c.if-is_last.false (c.is_last.ensures r.process c.requires.place) c.requires.fields
-    (subst (λ (o : Option Name). Tests (IsStandingReply o accepted r) accepted (Err refusal)) (c.in-Some.ensures r.process c.requires.place)
-    (refuses_ended c.in-Some.target.now accepted r refusal c.name_text.result c.refusal_with.ensures c.name_text.ensures))
+    not_last held c.args.report.now r (Err refusal) c.is_last.result c.if-is_last.false (c.is_last.ensures r.process c.requires.place) c.requires.fields
+    (subst (λ (o : Option Name). Tests (IsStandingReply o held r) front (Err refusal)) (c.in-Some.ensures r.process c.requires.place)
+    (refuses_ended c.in-Some.target.now held r refusal c.name_text.result c.refusal_with.ensures c.name_text.ensures))
 
 pub returns-in-None : goal.returns-in-None
 returns-in-None c =
-    let accepted = c.args.self.now.accepted in
+    let held = held_of c.args.self.now in
+    let front = held.front in
     let r = numbered_of c.args.fields in
     let result = c.test_number.result in
-    not_last accepted c.args.report.now r result c.is_last.result c.if-is_last.false (c.is_last.ensures r.process c.requires.place) c.requires.fields
-    (subst (λ (o : Option Name). Tests (IsStandingReply o accepted r) accepted result) (c.in-None.ensures r.process c.requires.place) c.test_number.ensures)
+    not_last held c.args.report.now r result c.is_last.result c.if-is_last.false (c.is_last.ensures r.process c.requires.place) c.requires.fields
+    (subst (λ (o : Option Name). Tests (IsStandingReply o held r) front result) (c.in-None.ensures r.process c.requires.place) c.test_number.ensures)

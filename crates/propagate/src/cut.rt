@@ -10,6 +10,7 @@ ghost use Rattle.chains.specs.declared.position.Place.{Place as AnyPlace};
 ghost use Rattle.reasons.specs.declared.certificate.Certificate.{Certificate as AnyCertificate};
 ghost use Rattle.chains.specs.Held.{Held, held_of};
 ghost use Rattle.reasons.specs.Certificates.{AreReasons, Certifies, positions_of};
+ghost use Rattle.history_law.specs.Headline.{IsLineOfHistories};
 ghost use Rattle.propagate.specs.Greatest.{IsGreatestCut};
 ghost use Rattle.propagate.specs.Rounds.{AreTops, AreRounds};
 ghost use Rattle.propagate.specs.Ranks.{AreNextRanks, RanksAfter, AreAllBounds};
@@ -104,10 +105,12 @@ fn settle(chains: &Chains, tops: &[u32]) -> Result<Settled, AllocError>
     }
 }
 
-/// The greatest stamp-consistent cut over these chains for a failed set.
+/// The greatest stamp-consistent cut over these chains for a failed set. In every lawful history that agrees with the accepted
+/// reports it is the greatest closed cut.
 pub fn greatest_cut(chains: &Chains, failed: &Failed) -> Result<Cut, AllocError>
     ensures in_order { IfOk result (λ cut. map (λ (x : AnyPlace). x.process) cut.line ≡ range_with_len 0 (length (known chains.now.accepted))) }
     ensures line { IfOk result (λ cut. IsGreatestCut chains.now.accepted failed.now (positions_of cut.line)) }
+    ensures of_histories { IfOk result (λ cut. IsLineOfHistories chains.now.accepted failed.now (positions_of cut.line)) }
     ensures reasons { IfOk result (λ cut. AreReasons chains.now.accepted failed.now (positions_of cut.line) cut.reasons) }
     ensures rounds { IfOk result (λ cut. AreRounds chains.now.accepted failed.now cut.rounds (positions_of cut.line)) }
     // The sum counts the surviving positions above 0.
@@ -128,6 +131,7 @@ pub fn greatest_cut(chains: &Chains, failed: &Failed) -> Result<Cut, AllocError>
 /// The certificate of the greatest cut over these chains for those of the failed set that are known.
 pub fn certificate(chains: &Chains, failed: &Failed) -> Result<Certificate, AllocError>
     ensures certifies { IfOk result (λ c. Certifies (held_of chains.now) c) }
+    ensures of_histories { IfOk result (λ c. IsLineOfHistories chains.now.accepted c.failed (positions_of c.line)) }
     ensures failed { IfOk result (λ c. (p : ℕ) → (Contains c.failed p ↔ (Contains failed.now p × (p < length (known chains.now.accepted))))) }
 {
     let failed = failed.known_to(chains)?;
@@ -140,7 +144,9 @@ pub fn certificate(chains: &Chains, failed: &Failed) -> Result<Certificate, Allo
     })
 }
 
-/// What certifies for what is held, where its list is folded, is the greatest stamp-consistent cut of that list.
+/// What certifies for what is held, where its list is folded, is the greatest stamp-consistent cut of that list, and so the
+/// greatest closed cut of every lawful history that agrees with it.
 pub fn certified_lines_are_the_greatest()
-    ensures { (held : Held) (c : AnyCertificate) → IsFolded held.accepted → Certifies held c → IsGreatestCut held.accepted c.failed (positions_of c.line) }
+    ensures cut { (held : Held) (c : AnyCertificate) → IsFolded held.accepted → Certifies held c → IsGreatestCut held.accepted c.failed (positions_of c.line) }
+    ensures of_histories { (held : Held) (c : AnyCertificate) → IsFolded held.accepted → Certifies held c → IsLineOfHistories held.accepted c.failed (positions_of c.line) }
 {}

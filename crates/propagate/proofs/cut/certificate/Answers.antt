@@ -3,6 +3,7 @@ use Rattle.chains.specs.Processes.{known}
 use Rattle.std.specs.List.Sorted.{IsStrictlyIncreasing}
 use Rattle.chains.specs.Positions.{IsCut}
 use Rattle.reasons.specs.Certificates.{AreReasons, positions_of}
+use Rattle.history_law.specs.Headline.{IsLineOfHistories}
 use Rattle.propagate.proofs.cut.certificate.Goals as goal
 
 module _ (c : goal.After-front) where
@@ -25,3 +26,6 @@ returns-clause-certifies c = record {
 
 pub returns-clause-failed : goal.returns-clause-failed
 returns-clause-failed c = just_these c
+
+pub returns-clause-of_histories : goal.returns-clause-of_histories
+returns-clause-of_histories c = subst (λ (ps : List ℕ). IsLineOfHistories c.args.chains.now.accepted ps (positions_of c.in_ok-cut.cut.line)) (failed c) c.in_ok-cut.ensures.of_histories

@@ -3,6 +3,7 @@ use Rattle.chains.specs.declared.position.Place.{Place}
 use Rattle.knows_row.specs.Knowing.{IsLawful}
 use Rattle.knows_row.proofs.Lawful.{lawful}
 use Rattle.reasons.specs.Certificates.{AreReasons, positions_of}
+use Rattle.history_law.proofs.Lines.{line_of_histories}
 use Rattle.propagate.specs.Greatest.{IsGreatestCut}
 use Rattle.propagate.specs.Ranks.{positions_from, places_from}
 use Rattle.propagate.specs.Rounds.{AreTops, AreRounds}
@@ -29,14 +30,20 @@ module _ (c : goal.After-drop-tops-2) where
   positions : positions_from c.args.chains.now.accepted 0 c.in_ok-settled.settled.stage.cut.items ≡ positions_of c.in_ok-line.line
   positions = sym (line_positions c.args.chains.now.accepted c.in_ok-settled.settled.stage.cut.items c.in_ok-line.line line)
 
+  greatest : IsGreatestCut c.args.chains.now.accepted c.args.failed.now (positions_of c.in_ok-line.line)
+  greatest =
+      let rounds = c.in_ok-settled.ensures.rounds in
+      subst (IsGreatestCut c.args.chains.now.accepted c.args.failed.now) positions
+      (settled_is_greatest c.args.chains.now.accepted c.args.failed.now c.deref.result.now c.in_ok-settled.settled.stage.cut.items rounds.0 laws tops rounds.2 c.in_ok-settled.ensures.settled)
+
 pub returns-clause-in_order : goal.returns-clause-in_order
 returns-clause-in_order c = line_in_order c.args.chains.now.accepted c.in_ok-settled.settled.stage.cut.items c.in_ok-line.line c.in_ok-settled.ensures.standing.complete (line c)
 
 pub returns-clause-line : goal.returns-clause-line
-returns-clause-line c =
-    let rounds = c.in_ok-settled.ensures.rounds in
-    subst (IsGreatestCut c.args.chains.now.accepted c.args.failed.now) (positions c)
-    (settled_is_greatest c.args.chains.now.accepted c.args.failed.now c.deref.result.now c.in_ok-settled.settled.stage.cut.items rounds.0 (laws c) (tops c) rounds.2 c.in_ok-settled.ensures.settled)
+returns-clause-line c = greatest c
+
+pub returns-clause-of_histories : goal.returns-clause-of_histories
+returns-clause-of_histories c = line_of_histories c.args.chains.now.accepted c.args.failed.now (positions_of c.in_ok-line.line) c.lawful.ensures.folded (greatest c)
 
 pub returns-clause-reasons : goal.returns-clause-reasons
 returns-clause-reasons c =

@@ -1,19 +1,13 @@
--- What admission reaches is folded, and what is accepted behind a reply is reached.
-use Rattle.std.proofs.Common.{◌≡◌, ◌≢◌, ℕ, ◌+◌, Bool, true, false, List, [], ◌∷◌, ◌++◌, length, refl, sym, ap, subst, ◌∙◌, arith}
-use Rattle.std.proofs.lemmas.List.{length-append}
+-- What admission reaches is folded.
+use Rattle.std.proofs.Common.{◌≡◌, ◌≢◌, ℕ, ◌+◌, List, [], ◌∷◌, ◌++◌, length, refl, sym, ap, ◌∙◌, arith}
 use Rattle.report_line.specs.declared.report.Report.{Report}
 use Rattle.report_line.specs.declared.report.Report.TheVariants.{Begin, Numbered}
-use Rattle.report_line.specs.declared.call.Call.{Call}
-use Rattle.report_line.specs.declared.call.Call.TheVariants as calls
-use Rattle.report_line.specs.declared.reply.Reply.{Reply}
-use Rattle.report_line.specs.declared.reply.Reply.TheVariants.{Accepted, Fail}
-use Rattle.report_line.specs.declared.reply.Outcome.TheVariants.{Before, Unknown}
+use Rattle.report_line.specs.declared.reply.Reply.TheVariants.{Accepted}
 use Rattle.chains.specs.Processes.{Name, known}
 use Rattle.chains.specs.Held.{Held, counting}
-use Rattle.chains.specs.Admission.{IsReachable, nothing_accepted, one_more, IsReached, IsAdmission, Passes, accepted_after}
+use Rattle.chains.specs.Admission.{IsReachable, nothing_accepted, one_more, IsAdmission}
 use Rattle.chains.specs.Folded.{IsFit, IsFolded, nothing_folded, one_folded}
-use Rattle.chains.specs.Turns.{Fate, fine, memory, before, unknown, IsQuestionTurn, IsReported, IsTurn}
-use Rattle.chains.proofs.Passed.{passed, passed_tests, begins, has_room}
+use Rattle.chains.proofs.Passed.{passed_tests, begins}
 use Rattle.chains.proofs.Stepping.{known-push, still_known}
 
 no_push : {X : Type 0} (xs : List X) (x : X) → xs ++ x ∷ [] ≢ []
@@ -23,9 +17,9 @@ no_push (y ∷ ys) x e = cc
 -- where no process is known nothing was accepted
 pub unbegun : (accepted : List Report) → IsFolded accepted → known accepted ≡ [] → accepted ≡ []
 unbegun _ nothing_folded e = refl
-unbegun _ (one_folded earlier (Begin p) folded fit) e = absurd (no_push (known earlier) p (sym (known-push earlier (Begin p)) ∙ e))
-unbegun _ (one_folded earlier (Numbered r) folded fit) e =
-    let there = still_known earlier (Numbered r) r.process fit.is_known in
+unbegun _ (one_folded before (Begin p) folded fit) e = absurd (no_push (known before) p (sym (known-push before (Begin p)) ∙ e))
+unbegun _ (one_folded before (Numbered r) folded fit) e =
+    let there = still_known before (Numbered r) r.process fit.is_known in
     let some = there.1 in
     let none = ap (λ (ks : List Name). length ks) e in
     absurd (omega arith)
@@ -39,43 +33,6 @@ fit_of held (Numbered r) front folded admitted = passed_tests held r front admit
 
 pub reached_folded : (accepted : List Report) → IsReachable accepted → IsFolded accepted
 reached_folded _ nothing_accepted = nothing_folded
-reached_folded _ (one_more earlier r reach admitted) =
-    let folded = reached_folded earlier reach in
-    one_folded earlier r folded (fit_of (counting earlier) r (length earlier + 1) folded admitted)
-
--- ---- behind a reply
-
--- a report that is accepted passed all tests, and its reply tells the front with it
-passes : (held : Held) (r : Report) (front : ℕ) → IsAdmission held r (Accepted front) → Passes held r
-passes held r front admitted = subst (λ (answer : Reply). IsAdmission held r answer) (passed (passed (has_room held r front admitted)).1).1 admitted
-
-pub still_reached : (accepted : List Report) (r : Report) (answer : Reply) → IsReachable accepted → IsAdmission (counting accepted) r answer → IsReached (accepted_after (counting accepted) r answer)
-still_reached accepted r (Accepted front) reach admitted =
-    record { reachable = one_more accepted r reach (passes (counting accepted) r front admitted); counted = omega (arith, length-append accepted (r ∷ [])) }
-still_reached accepted r (Fail Before) reach admitted = record { reachable = reach; counted = refl }
-still_reached accepted r (Fail Unknown) reach admitted = record { reachable = reach; counted = refl }
-still_reached accepted r _ reach admitted = record { reachable = reach; counted = refl }
-
--- where the front counts the reports, it is any number that is their count
-report_reached : (accepted : List Report) (front : ℕ) (stopped : Bool) (fate : Fate) (r : Report) (reply : Reply) (after : Held) → IsReachable accepted → front ≡ length accepted
-    → IsReported stopped fate (record { accepted = accepted; front = front; stopped = stopped }) r reply after → IsReached after
-report_reached accepted front true fate r reply after reach counted t = subst IsReached (sym t.2) (record { reachable = reach; counted = counted })
-report_reached accepted front false fine r reply after reach counted t =
-    let told = subst (λ (n : ℕ). IsReported false fine (record { accepted = accepted; front = n; stopped = false }) r reply after) counted t in
-    subst IsReached (sym told.1) (still_reached accepted r reply reach told.0)
-report_reached accepted front false memory r reply after reach counted t = subst IsReached (sym t.4) (record { reachable = reach; counted = counted })
-report_reached accepted front false before r reply after reach counted t = subst IsReached (sym t.2) (record { reachable = reach; counted = counted })
-report_reached accepted front false unknown r reply after reach counted t = subst IsReached (sym t.2) (record { reachable = reach; counted = counted })
-
--- a question changes nothing
-pub unchanged : (stopped : Bool) (fate : Fate) (held : Held) (Answers : Reply → Type 0) (reply : Reply) (after : Held) → IsQuestionTurn stopped fate held Answers reply after → after ≡ held
-unchanged true fate held Answers reply after t = t.2
-unchanged false fate held Answers reply after t = t.2
-
-pub turn_reached : (held after : Held) (call : Call) (reply : Reply) → IsReached held → IsTurn held call reply after → IsReached after
-turn_reached held after (calls.Report r) reply reach (fate, t) = report_reached held.accepted held.front held.stopped fate r reply after reach.reachable reach.counted t
-turn_reached held after (calls.Line names) reply reach (fate, t) = subst IsReached (sym (unchanged held.stopped fate held _ reply after t)) reach
-turn_reached held after (calls.State p) reply reach (fate, t) = subst IsReached (sym (unchanged held.stopped fate held _ reply after t)) reach
-turn_reached held after calls.Bye reply reach (fate, t) = subst IsReached (sym t.2) reach
-turn_reached held after (calls.Bad n) reply reach (fate, t) = subst IsReached (sym t.2) reach
-turn_reached held after calls.Unread reply reach (fate, t) = subst IsReached (sym t.2) reach
+reached_folded _ (one_more before r reach admitted) =
+    let folded = reached_folded before reach in
+    one_folded before r folded (fit_of (counting before) r (length before + 1) folded admitted)

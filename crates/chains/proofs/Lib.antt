@@ -9,6 +9,8 @@ pub mod Stepping
 pub mod Certain
 pub mod Passed
 pub mod Folding
+pub mod Turning
+pub mod Unfailing
 pub mod Distinct
 pub mod Parts
 pub mod Made

@@ -6,7 +6,7 @@ use Rattle.std.proofs.lemmas.List.{length-append, take-append-le}
 use Rattle.std.proofs.lemmas.List.Concat.{flat_map-append}
 use Rattle.std.proofs.Math.Seq.{take-append_seam}
 use borrow.Author.Count.{below_more}
-use Rattle.report_line.specs.declared.report.Report.{Report}
+use Rattle.chains.specs.Held.{Held}
 use Rattle.report_line.specs.Cutting.{Stand, onto, cut_from, cut_of}
 use Rattle.report_line.proofs.Streams.{cut_append}
 use Rattle.session.specs.declared.kind.Kind.{Kind}
@@ -85,9 +85,9 @@ prompt_then {K} told link pieces piece turned more before here =
 
 -- ---- one read after the other
 
-pub going_none : {K : Type 0} (told : K → LinkState) (link : K) (stand : Stand) (accepted : List Report) → stand ≡ Some [] → Going told link link stand accepted accepted 0 0
+pub going_none : {K : Type 0} (told : K → LinkState) (link : K) (stand : Stand) (held : Held) → stand ≡ Some [] → Going told link link stand held held 0 0
 unfolding cut_from
-going_none told link stand accepted new =
+going_none told link stand held new =
     rw new record {
       pieces = [];
       turned = [];
@@ -111,9 +111,9 @@ sound_hand_on : {E : Type 0} (old new : LinkState) (u : Unit {0}) → IsHandOn {
 sound_hand_on old new u hand = record { failures = hand.failures; stalls = hand.stalls }
 
 -- the state in which the next read is made
-read_at : {K E : Type 0} (told : K → LinkState) (link now reading : K) (stand : Stand) (accepted mid : List Report) (reads count : ℕ) (u : Unit {0}) (more : List Exchange) → (s : Going told link now stand accepted mid reads count)
+read_at : {K E : Type 0} (told : K → LinkState) (link now reading : K) (stand : Stand) (held mid : Held) (reads count : ℕ) (u : Unit {0}) (more : List Exchange) → (s : Going told link now stand held mid reads count)
     → IsHandOn {E = E} (told now) (told reading) (Ok u) → IsReadAt told link (length s.pieces) (joined s.pieces) (s.turned ++ more)
-read_at told link now reading stand accepted mid reads count u more s hand =
+read_at told link now reading stand held mid reads count u more s hand =
     record {
       reading = reading;
       reads_are = hand.reads ∙ s.reads_are ∙ ap (λ (n : ℕ). up n (told link).reads) (sym s.made);
@@ -144,9 +144,9 @@ stop_gave kinds.Memory pieces piece gave g = all_more pieces piece gave g
 stop_gave kinds.WriteFailed pieces piece gave g = all_more pieces piece gave g
 stop_gave kinds.Endless pieces piece gave g = all_more pieces piece gave g
 
-pub going_on : {K E : Type 0} (told : K → LinkState) (link now reading next : K) (stand stand_after : Stand) (accepted mid after : List Report) (reads count more : ℕ) (u : Unit {0}) → Going told link now stand accepted mid reads count
-    → IsHandOn {E = E} (told now) (told reading) (Ok u) → Steps (told reading) (told next) stand stand_after mid after None more → Going told link next stand_after accepted after (reads + 1) (count + more)
-going_on told link now reading next stand stand_after accepted mid after reads count more u s hand t =
+pub going_on : {K E : Type 0} (told : K → LinkState) (link now reading next : K) (stand stand_after : Stand) (held mid after : Held) (reads count more : ℕ) (u : Unit {0}) → Going told link now stand held mid reads count
+    → IsHandOn {E = E} (told now) (told reading) (Ok u) → Steps (told reading) (told next) stand stand_after mid after None more → Going told link next stand_after held after (reads + 1) (count + more)
+going_on told link now reading next stand stand_after held mid after reads count more u s hand t =
     let cut = cut_more s.pieces t.piece stand s.stands in
     let lines : (cut_from stand t.piece).0 ≡ t.front = t.lines_are ∙ ap (λ (l : List (List ℕ)). t.front ++ l) t.how.1 ∙ append-nil t.front in
     record {
@@ -159,7 +159,7 @@ going_on told link now reading next stand stand_after accepted mid after reads c
       is_open = subst (λ (x : Stand). IsSome x) (t.stands refl) t.how.2;
       no_bye = no_bye_then s.turned t.turned s.no_bye t.how.0;
       gave = all_more s.pieces t.piece s.gave t.gave;
-      served = served_then accepted mid after s.turned t.turned s.served t.served;
+      served = served_then held mid after s.turned t.turned s.served t.served;
       consumed = subst (λ (l : List ℕ). Consumes (told link).left (told next).left l) (joined_more s.pieces t.piece)
           (consumes_then (told link).left (told reading).left (told next).left (joined s.pieces) t.piece (subst (λ (l : Option (List ℕ)). Consumes (told link).left l (joined s.pieces)) (sym hand.left) s.consumed) t.consumed);
       written = subst (λ (l : List ℕ). Appends (told link).held (told next).held l) (ap (λ (l : List ℕ). session_text s.turned ++ l) t.how.3.0 ∙ text_then s.turned t.turned)
@@ -167,7 +167,7 @@ going_on told link now reading next stand stand_after accepted mid after reads c
       count_is = omega (arith, length-append s.turned t.turned, s.count_is, t.how.3.1);
       reads_are = reads_more (told link).reads (told now).reads (told reading).reads (told next).reads reads s.reads_are hand.reads t.reads;
       sound = sound_then (told link) (told reading) (told next) (sound_then (told link) (told now) (told reading) s.sound (sound_hand_on (told now) (told reading) u hand)) t.faults;
-      prompt = prompt_then told link s.pieces t.piece s.turned t.turned s.prompt (read_at told link now reading stand accepted mid reads count u t.turned s hand);
+      prompt = prompt_then told link s.pieces t.piece s.turned t.turned s.prompt (read_at told link now reading stand held mid reads count u t.turned s hand);
     }
 
 -- ---- where it stops
@@ -185,7 +185,7 @@ LeftBy kinds.WriteFailed old now = IsFault old now
 LeftBy _ old now = IsSound old now
 
 -- a session before its ending line
-pub record Stopping {K : Type 0} (told : K → LinkState) (link now : K) (accepted after : List Report) (kind : Kind) (count : ℕ) : Type 0 where
+pub record Stopping {K : Type 0} (told : K → LinkState) (link now : K) (held after : Held) (kind : Kind) (count : ℕ) : Type 0 where
   pub pieces : List (List ℕ)
   pub front : List (List ℕ)
   pub later : List (List ℕ)
@@ -194,7 +194,7 @@ pub record Stopping {K : Type 0} (told : K → LinkState) (link now : K) (accept
   pub lines_are : (cut_of (joined pieces)).0 ≡ front ++ later
   pub mean : Mean front turned
   pub how : StopsTo kind pieces (cut_of (joined pieces)).1 front later turned text count
-  pub served : Served accepted turned after
+  pub served : Served held turned after
   pub consumed : Consumes (told link).left (told now).left (joined pieces)
   pub written : Appends (told link).held (told now).held text
   pub reads : (told now).reads ≡ up (length pieces) (told link).reads
@@ -232,10 +232,10 @@ quiet_end kind old now nothing quiet is = let q = rw is at quiet in (q.0 ∙ not
 quiet_failed : (kind : Kind) (old now : LinkState) → old.waiting ≡ [] → IsQuiet (Some kind) old now → kind ≡ kinds.ReadFailed → now.waiting ≡ []
 quiet_failed kind old now nothing quiet is = let q = rw is at quiet in q ∙ nothing
 
-pub stopping : {K E : Type 0} (told : K → LinkState) (link now reading next : K) (kind : Kind) (stand stand_after : Stand) (accepted mid after : List Report) (reads count more : ℕ) (u : Unit {0}) → reads < most_reads
-    → Going told link now stand accepted mid reads count → IsHandOn {E = E} (told now) (told reading) (Ok u) → Steps (told reading) (told next) stand stand_after mid after (Some kind) more
-    → Stopping told link next accepted after kind (count + more)
-stopping told link now reading next kind stand stand_after accepted mid after reads count more u few s hand t =
+pub stopping : {K E : Type 0} (told : K → LinkState) (link now reading next : K) (kind : Kind) (stand stand_after : Stand) (held mid after : Held) (reads count more : ℕ) (u : Unit {0}) → reads < most_reads
+    → Going told link now stand held mid reads count → IsHandOn {E = E} (told now) (told reading) (Ok u) → Steps (told reading) (told next) stand stand_after mid after (Some kind) more
+    → Stopping told link next held after kind (count + more)
+stopping told link now reading next kind stand stand_after held mid after reads count more u few s hand t =
     let cut = cut_more s.pieces t.piece stand s.stands in
     let before = appends_held (told link).held (told now).held (told reading).held (session_text s.turned) s.written hand.held in
     let sound = sound_then (told link) (told now) (told reading) s.sound (sound_hand_on (told now) (told reading) u hand) in
@@ -249,22 +249,22 @@ stopping told link now reading next kind stand stand_after accepted mid after re
       mean = mean_then (cut_of (joined s.pieces)).0 t.front s.turned t.turned s.mean t.mean;
       how = subst (λ (x : Stand). StopsTo kind (s.pieces ++ t.piece ∷ []) x ((cut_of (joined s.pieces)).0 ++ t.front) t.later (s.turned ++ t.turned) (session_text s.turned ++ t.text) (count + more)) (sym (ap (λ (c : Cut). c.1) cut))
           (stops_then kind s.pieces t.piece (cut_from stand t.piece).1 t.front t.later s.turned t.turned (session_text s.turned) t.text count more s.no_bye (refl, s.count_is) t.how);
-      served = served_then accepted mid after s.turned t.turned s.served t.served;
+      served = served_then held mid after s.turned t.turned s.served t.served;
       consumed = subst (λ (l : List ℕ). Consumes (told link).left (told next).left l) (joined_more s.pieces t.piece)
           (consumes_then (told link).left (told reading).left (told next).left (joined s.pieces) t.piece (subst (λ (l : Option (List ℕ)). Consumes (told link).left l (joined s.pieces)) (sym hand.left) s.consumed) t.consumed);
       written = appends_then (told link).held (told reading).held (told next).held (session_text s.turned) t.text before t.written;
       reads = reads_more (told link).reads (told now).reads (told reading).reads (told next).reads (length s.pieces) (rw s.made s.reads_are) hand.reads t.reads ∙ ap (λ (n : ℕ). up n (told link).reads) (sym (length_more s.pieces t.piece));
       few = omega (arith, length_more s.pieces t.piece, s.made);
-      prompt = prompt_then told link s.pieces t.piece s.turned t.turned s.prompt (read_at told link now reading stand accepted mid reads count u t.turned s hand);
+      prompt = prompt_then told link s.pieces t.piece s.turned t.turned s.prompt (read_at told link now reading stand held mid reads count u t.turned s hand);
       leaves = left_by kind (told link) (told next) (faults_then (Some kind) (told link) (told reading) (told next) sound t.faults) (quiet_end kind (told reading) (told next) hand.handed t.quiet)
           (quiet_failed kind (told reading) (told next) hand.handed t.quiet);
       gave = stop_gave kind s.pieces t.piece s.gave t.gave;
     }
 
 -- all lines of all reads were answered
-said_all : {K : Type 0} (told : K → LinkState) (link now : K) (stand : Stand) (accepted after : List Report) (reads count : ℕ) (kind : Kind) → (s : Going told link now stand accepted after reads count) → reads ≤ most_reads
-    → StopsTo kind s.pieces (cut_of (joined s.pieces)).1 (cut_of (joined s.pieces)).0 [] s.turned (session_text s.turned) count → LeftBy kind (told link) (told now) → GaveAll kind s.pieces → Stopping told link now accepted after kind count
-said_all told link now stand accepted after reads count kind s few how leaves gave =
+said_all : {K : Type 0} (told : K → LinkState) (link now : K) (stand : Stand) (held after : Held) (reads count : ℕ) (kind : Kind) → (s : Going told link now stand held after reads count) → reads ≤ most_reads
+    → StopsTo kind s.pieces (cut_of (joined s.pieces)).1 (cut_of (joined s.pieces)).0 [] s.turned (session_text s.turned) count → LeftBy kind (told link) (told now) → GaveAll kind s.pieces → Stopping told link now held after kind count
+said_all told link now stand held after reads count kind s few how leaves gave =
     record {
       pieces = s.pieces;
       front = (cut_of (joined s.pieces)).0;
@@ -284,10 +284,10 @@ said_all told link now stand accepted after reads count kind s few how leaves ga
       gave = gave;
     }
 
-pub stopping_endless : {K : Type 0} (told : K → LinkState) (link now : K) (stand : Stand) (accepted after : List Report) (reads count : ℕ) → reads ≡ most_reads → Going told link now stand accepted after reads count
-    → Stopping told link now accepted after kinds.Endless count
-stopping_endless told link now stand accepted after reads count all s =
-    said_all told link now stand accepted after reads count kinds.Endless s (omega arith)
+pub stopping_endless : {K : Type 0} (told : K → LinkState) (link now : K) (stand : Stand) (held after : Held) (reads count : ℕ) → reads ≡ most_reads → Going told link now stand held after reads count
+    → Stopping told link now held after kinds.Endless count
+stopping_endless told link now stand held after reads count all s =
+    said_all told link now stand held after reads count kinds.Endless s (omega arith)
     ((s.no_bye, refl, subst (λ (x : Stand). IsSome x) (sym s.stands) s.is_open, s.made ∙ all), (refl, s.count_is)) s.sound s.gave
 
 -- ---- the ending line
@@ -306,15 +306,15 @@ ends_by kinds.ReadFailed pieces stand front later turned text count reached whol
 ends_by kinds.Endless pieces stand front later turned text count reached whole = (reached, whole)
 
 -- how it ended, and what the link tells then
-pub record Finished {K : Type 0} (told : K → LinkState) (link final : K) (accepted after : List Report) (end : Kind) (total : ℕ) : Type 0 where
-  pub ended : Ended told link final accepted after end total
+pub record Finished {K : Type 0} (told : K → LinkState) (link final : K) (held after : Held) (end : Kind) (total : ℕ) : Type 0 where
+  pub ended : Ended told link final held after end total
   pub leaves : Leaves end (told link) (told final)
 
 -- behind a session that stopped so, this more was written, and that is how it ends
-ended_then : {K : Type 0} (told : K → LinkState) (link now final : K) (accepted after : List Report) (kind end : Kind) (count total : ℕ) (more : List ℕ) → (s : Stopping told link now accepted after kind count) → GaveAll end s.pieces
+ended_then : {K : Type 0} (told : K → LinkState) (link now final : K) (held after : Held) (kind end : Kind) (count total : ℕ) (more : List ℕ) → (s : Stopping told link now held after kind count) → GaveAll end s.pieces
     → Ends end s.pieces (cut_of (joined s.pieces)).1 s.front s.later s.turned (s.text ++ more) total → Appends (told now).held (told final).held more → (told final).left ≡ (told now).left → (told final).reads ≡ (told now).reads
-    → Ended told link final accepted after end total
-ended_then told link now final accepted after kind end count total more s gave ends sent left reads =
+    → Ended told link final held after end total
+ended_then told link now final held after kind end count total more s gave ends sent left reads =
     record {
       pieces = s.pieces;
       turned = s.turned;
@@ -329,27 +329,27 @@ ended_then told link now final accepted after kind end count total more s gave e
     }
 
 -- nothing more was written
-ended_so : {K : Type 0} (told : K → LinkState) (link now final : K) (accepted after : List Report) (kind : Kind) (count : ℕ) → (s : Stopping told link now accepted after kind count)
-    → Ends kind s.pieces (cut_of (joined s.pieces)).1 s.front s.later s.turned s.text count → told final ≡ told now → Ended told link final accepted after kind count
-ended_so told link now final accepted after kind count s ends same =
-    ended_then told link now final accepted after kind kind count count [] s s.gave
+ended_so : {K : Type 0} (told : K → LinkState) (link now final : K) (held after : Held) (kind : Kind) (count : ℕ) → (s : Stopping told link now held after kind count)
+    → Ends kind s.pieces (cut_of (joined s.pieces)).1 s.front s.later s.turned s.text count → told final ≡ told now → Ended told link final held after kind count
+ended_so told link now final held after kind count s ends same =
+    ended_then told link now final held after kind kind count count [] s s.gave
     (subst (λ (l : List ℕ). Ends kind s.pieces (cut_of (joined s.pieces)).1 s.front s.later s.turned l count) (sym (append-nil s.text)) ends)
     (subst (λ (h : Option (List ℕ)). Appends (told now).held h []) (sym (ap (λ (x : LinkState). x.held) same)) (appends_none (told now).held)) (ap (λ (x : LinkState). x.left) same) (ap (λ (x : LinkState). x.reads) same)
 
-closed_by : {K : Type 0} (told : K → LinkState) (link now final : K) (accepted after : List Report) (kind end : Kind) (count total : ℕ) → (s : Stopping told link now accepted after kind count)
+closed_by : {K : Type 0} (told : K → LinkState) (link now final : K) (held after : Held) (kind end : Kind) (count total : ℕ) → (s : Stopping told link now held after kind count)
     → Reached kind s.pieces (cut_of (joined s.pieces)).1 s.front s.later s.turned × IsSaid s.turned s.text count → IsSound (told link) (told now) → (IsSound (told link) (told final) → (told final).waiting ≡ [] → Leaves kind (told link) (told final))
-    → (GaveAll kind s.pieces → Gave s.pieces) → Closing kind (told now) (told final) count end total → Finished told link final accepted after end total
-closed_by told link now final accepted after kind end count total s how sound leaves plain c = elim c.closed [
+    → (GaveAll kind s.pieces → Gave s.pieces) → Closing kind (told now) (told final) count end total → Finished told link final held after end total
+closed_by told link now final held after kind end count total s how sound leaves plain c = elim c.closed [
   | inl w ↦ rw w.0 record {
-    ended = ended_then told link now final accepted after kind kind count total (ending_line kind) s s.gave
+    ended = ended_then told link now final held after kind kind count total (ending_line kind) s s.gave
         (ends_by kind s.pieces (cut_of (joined s.pieces)).1 s.front s.later s.turned (s.text ++ ending_line kind) total how.0 (whole_by kind s.turned s.text count total how.1 w.1)) w.2 c.left c.reads;
     leaves = leaves (sound_then (told link) (told now) (told final) sound w.3) w.4;
   }
   | inr w ↦ rw w.0 record {
     ended = elim w.2 [
-      | inl v ↦ ended_then told link now final accepted after kind kinds.WriteFailed count total v.1.0 s (plain s.gave)
+      | inl v ↦ ended_then told link now final held after kind kinds.WriteFailed count total v.1.0 s (plain s.gave)
           (inr (kind, how.0, inl (record { part = v.1.0; short = v.1.1; text_is = ap (λ (l : List ℕ). l ++ v.1.0) how.1.0; count_is = v.0 ∙ how.1.1 }))) v.1.2 c.left c.reads
-      | inr v ↦ ended_then told link now final accepted after kind kinds.WriteFailed count total (ending_line kind) s (plain s.gave)
+      | inr v ↦ ended_then told link now final held after kind kinds.WriteFailed count total (ending_line kind) s (plain s.gave)
           (inr (kind, how.0, inr (whole_by kind s.turned s.text count total how.1 v.0))) v.1 c.left c.reads
     ];
     leaves = fault_then (told link) (told now) (told final) sound w.1;
@@ -362,32 +362,32 @@ said_whole turned text count said = (said.0 ∙ sym (append-nil (session_text tu
 same_leaves : (kind : Kind) (old now final : LinkState) → final ≡ now → Leaves kind old now → Leaves kind old final
 same_leaves kind old now final same leaves = subst (λ (x : LinkState). Leaves kind old x) (sym same) leaves
 
-pub finished : {K : Type 0} (told : K → LinkState) (link now final : K) (accepted after : List Report) (kind end : Kind) (count total : ℕ) → Stopping told link now accepted after kind count
-    → Closes kind (told now) (told final) count end total → Finished told link final accepted after end total
-finished told link now final accepted after kinds.End end count total s c =
+pub finished : {K : Type 0} (told : K → LinkState) (link now final : K) (held after : Held) (kind end : Kind) (count total : ℕ) → Stopping told link now held after kind count
+    → Closes kind (told now) (told final) count end total → Finished told link final held after end total
+finished told link now final held after kinds.End end count total s c =
     rw (c.0, c.1) record {
-      ended = ended_so told link now final accepted after kinds.End count s (s.how.0, said_whole s.turned s.text count s.how.1) c.2;
+      ended = ended_so told link now final held after kinds.End count s (s.how.0, said_whole s.turned s.text count s.how.1) c.2;
       leaves = same_leaves kinds.End (told link) (told now) (told final) c.2 s.leaves;
     }
-finished told link now final accepted after kinds.ReadFailed end count total s c =
+finished told link now final held after kinds.ReadFailed end count total s c =
     rw (c.0, c.1) record {
-      ended = ended_so told link now final accepted after kinds.ReadFailed count s (s.how.0, said_whole s.turned s.text count s.how.1) c.2;
+      ended = ended_so told link now final held after kinds.ReadFailed count s (s.how.0, said_whole s.turned s.text count s.how.1) c.2;
       leaves = same_leaves kinds.ReadFailed (told link) (told now) (told final) c.2 s.leaves;
     }
-finished told link now final accepted after kinds.WriteFailed end count total s c =
+finished told link now final held after kinds.WriteFailed end count total s c =
     rw (c.0, c.1) record {
-      ended = ended_so told link now final accepted after kinds.WriteFailed count s (inl s.how) c.2;
+      ended = ended_so told link now final held after kinds.WriteFailed count s (inl s.how) c.2;
       leaves = same_leaves kinds.WriteFailed (told link) (told now) (told final) c.2 s.leaves;
     }
-finished told link now final accepted after kinds.Bye end count total s c = closed_by told link now final accepted after kinds.Bye end count total s s.how s.leaves (λ sound nothing. (sound, nothing)) (λ g. g) c
-finished told link now final accepted after kinds.TooLong end count total s c = closed_by told link now final accepted after kinds.TooLong end count total s s.how s.leaves (λ sound nothing. (sound, nothing)) (λ g. g) c
-finished told link now final accepted after kinds.Memory end count total s c = closed_by told link now final accepted after kinds.Memory end count total s s.how s.leaves (λ sound nothing. (sound, nothing)) (λ g. g) c
-finished told link now final accepted after kinds.Endless end count total s c = closed_by told link now final accepted after kinds.Endless end count total s s.how s.leaves (λ sound nothing. (sound, nothing)) (λ g. g) c
+finished told link now final held after kinds.Bye end count total s c = closed_by told link now final held after kinds.Bye end count total s s.how s.leaves (λ sound nothing. (sound, nothing)) (λ g. g) c
+finished told link now final held after kinds.TooLong end count total s c = closed_by told link now final held after kinds.TooLong end count total s s.how s.leaves (λ sound nothing. (sound, nothing)) (λ g. g) c
+finished told link now final held after kinds.Memory end count total s c = closed_by told link now final held after kinds.Memory end count total s s.how s.leaves (λ sound nothing. (sound, nothing)) (λ g. g) c
+finished told link now final held after kinds.Endless end count total s c = closed_by told link now final held after kinds.Endless end count total s s.how s.leaves (λ sound nothing. (sound, nothing)) (λ g. g) c
 
 -- what was written could not be handed on before a read
-pub not_handed_on : {K E : Type 0} (told : K → LinkState) (link now final : K) (stand : Stand) (accepted after : List Report) (reads count : ℕ) (e : E) → reads ≤ most_reads → Going told link now stand accepted after reads count
-    → IsHandOn (told now) (told final) (Err e) → Finished told link final accepted after kinds.WriteFailed count
-not_handed_on told link now final stand accepted after reads count e few s hand =
+pub not_handed_on : {K E : Type 0} (told : K → LinkState) (link now final : K) (stand : Stand) (held after : Held) (reads count : ℕ) (e : E) → reads ≤ most_reads → Going told link now stand held after reads count
+    → IsHandOn (told now) (told final) (Err e) → Finished told link final held after kinds.WriteFailed count
+not_handed_on told link now final stand held after reads count e few s hand =
     let all : Reached kinds.End s.pieces (cut_of (joined s.pieces)).1 (cut_of (joined s.pieces)).0 [] s.turned = (s.no_bye, refl, subst (λ (x : Stand). IsSome x) (sym s.stands) s.is_open) in
     record {
       ended = record {

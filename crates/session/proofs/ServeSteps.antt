@@ -3,7 +3,7 @@ use Rattle.std.proofs.Common.{◌≡◌, ℕ, ◌+◌, get_or, take, drop, List,
 use Rattle.std.specs.List.{slice_get}
 use Rattle.std.proofs.lemmas.Option.{slice_get_within, get_or_from_slice_get}
 use Rattle.std.proofs.lemmas.List.{take-append-drop, drop_more, take_more}
-use Rattle.report_line.specs.declared.report.Report.{Report}
+use Rattle.chains.specs.Held.{Held}
 use Rattle.report_line.specs.declared.call.Call.{Call}
 use Rattle.report_line.specs.declared.call.Call.TheVariants as calls
 use Rattle.report_line.specs.declared.reply.Reply.{Reply}
@@ -34,9 +34,9 @@ one_text : (e : Exchange) → exchange_line e ≡ session_text (e ∷ [])
 one_text e = sym (append-nil (exchange_line e))
 
 -- a line whose reply was written whole, and which was no bye, or was one
-pub said_on : {E : Type 0} (old new : LinkState) (line : List ℕ) (accepted after : List Report) (call : Call) (shown : Reply) (u : Unit {0}) → Means line call → Shows accepted call after shown
-    → Puts {E = E} old new (Ok u) (ended (reply_text shown)) → ¬ (call ≡ calls.Bye) → Serves old new (line ∷ []) accepted after None 1
-said_on old new line accepted after call shown u means turned puts on =
+pub said_on : {E : Type 0} (old new : LinkState) (line : List ℕ) (held after : Held) (call : Call) (shown : Reply) (u : Unit {0}) → Means line call → Shows held call after shown
+    → Puts {E = E} old new (Ok u) (ended (reply_text shown)) → ¬ (call ≡ calls.Bye) → Serves old new (line ∷ []) held after None 1
+said_on old new line held after call shown u means turned puts on =
     let e : Exchange = record { call = call; shown = shown } in
     record {
       front = line ∷ [];
@@ -53,9 +53,9 @@ said_on old new line accepted after call shown u means turned puts on =
       reads = puts.reads;
     }
 
-pub said_bye : {E : Type 0} (old new : LinkState) (line : List ℕ) (accepted after : List Report) (call : Call) (shown : Reply) (u : Unit {0}) → Means line call → Shows accepted call after shown
-    → Puts {E = E} old new (Ok u) (ended (reply_text shown)) → call ≡ calls.Bye → Serves old new (line ∷ []) accepted after (Some kinds.Bye) 1
-said_bye old new line accepted after call shown u means turned puts bye =
+pub said_bye : {E : Type 0} (old new : LinkState) (line : List ℕ) (held after : Held) (call : Call) (shown : Reply) (u : Unit {0}) → Means line call → Shows held call after shown
+    → Puts {E = E} old new (Ok u) (ended (reply_text shown)) → call ≡ calls.Bye → Serves old new (line ∷ []) held after (Some kinds.Bye) 1
+said_bye old new line held after call shown u means turned puts bye =
     let e : Exchange = record { call = call; shown = shown } in
     record {
       front = line ∷ [];
@@ -73,9 +73,9 @@ said_bye old new line accepted after call shown u means turned puts bye =
     }
 
 -- a line whose reply was cut
-pub said_part : {E : Type 0} (old new : LinkState) (line : List ℕ) (accepted after : List Report) (call : Call) (shown : Reply) (fault : E) → Means line call → Shows accepted call after shown
-    → Puts old new (Err fault) (ended (reply_text shown)) → Serves old new (line ∷ []) accepted after (Some kinds.WriteFailed) 0
-said_part old new line accepted after call shown fault means turned puts =
+pub said_part : {E : Type 0} (old new : LinkState) (line : List ℕ) (held after : Held) (call : Call) (shown : Reply) (fault : E) → Means line call → Shows held call after shown
+    → Puts old new (Err fault) (ended (reply_text shown)) → Serves old new (line ∷ []) held after (Some kinds.WriteFailed) 0
+said_part old new line held after call shown fault means turned puts =
     let e : Exchange = record { call = call; shown = shown } in
     let sent = puts.sent in
     record {
@@ -94,8 +94,8 @@ said_part old new line accepted after call shown fault means turned puts =
     }
 
 -- a question without memory
-pub unsaid : (s : LinkState) (line : List ℕ) (accepted after : List Report) (call : Call) → Means line call → IsQuestion call → after ≡ accepted → Serves s s (line ∷ []) accepted after (Some kinds.Memory) 0
-unsaid s line accepted after call means question same =
+pub unsaid : (s : LinkState) (line : List ℕ) (held after : Held) (call : Call) → Means line call → IsQuestion call → after ≡ held → Serves s s (line ∷ []) held after (Some kinds.Memory) 0
+unsaid s line held after call means question same =
     record {
       front = [];
       later = line ∷ [];
@@ -113,8 +113,8 @@ unsaid s line accepted after call means question same =
 
 -- ---- a loop over lines
 
-pub serves_none : (s : LinkState) (accepted : List Report) → Serves s s [] accepted accepted None 0
-serves_none s accepted =
+pub serves_none : (s : LinkState) (held : Held) → Serves s s [] held held None 0
+serves_none s held =
     record {
       front = [];
       later = [];
@@ -131,9 +131,9 @@ serves_none s accepted =
     }
 
 -- one more line behind some that were all answered; later ones follow only where it ends
-serves_then : (end : Option Kind) (old mid new : LinkState) (lines more later : List (List ℕ)) (accepted now after : List Report) (m n : ℕ) → Serves old mid lines accepted now None m → Serves mid new more now after end n
-    → (end ≡ None → later ≡ []) → Serves old new (lines ++ (more ++ later)) accepted after end (m + n)
-serves_then end old mid new lines more later accepted now after m n s t none =
+serves_then : (end : Option Kind) (old mid new : LinkState) (lines more later : List (List ℕ)) (held now after : Held) (m n : ℕ) → Serves old mid lines held now None m → Serves mid new more now after end n
+    → (end ≡ None → later ≡ []) → Serves old new (lines ++ (more ++ later)) held after end (m + n)
+serves_then end old mid new lines more later held now after m n s t none =
     record {
       front = s.front ++ t.front;
       later = t.later ++ later;
@@ -143,7 +143,7 @@ serves_then end old mid new lines more later accepted now after m n s t none =
           ∙ ap (λ (l : List (List ℕ)). s.front ++ (l ++ later)) t.lines_are ∙ ap (λ (l : List (List ℕ)). s.front ++ l) (append_assoc t.front t.later later)
           ∙ sym (append_assoc s.front t.front (t.later ++ later));
       mean = mean_then s.front t.front s.turned t.turned s.mean t.mean;
-      served = served_then accepted now after s.turned t.turned s.served t.served;
+      served = served_then held now after s.turned t.turned s.served t.served;
       how = far_then end t.later later s.turned t.turned s.text t.text m n s.how.0 s.how.2 none t.how;
       written = appends_then old.held mid.held new.held s.text t.text s.written t.written;
       faults = faults_then end old mid new s.faults t.faults;
@@ -152,19 +152,19 @@ serves_then end old mid new lines more later accepted now after m n s t none =
     }
 
 -- the line at an index, where those before it were answered, and it is the last that is served
-pub serves_to : (end : Option Kind) (old mid new : LinkState) (lines : List (List ℕ)) (i : ℕ) (line : List ℕ) (accepted now after : List Report) (m n : ℕ) → slice_get lines i ≡ Some line
-    → Serves old mid (take i lines) accepted now None m → Serves mid new (line ∷ []) now after end n → ¬ (end ≡ None) → Serves old new lines accepted after end (m + n)
-serves_to end old mid new lines i line accepted now after m n at s t stops =
+pub serves_to : (end : Option Kind) (old mid new : LinkState) (lines : List (List ℕ)) (i : ℕ) (line : List ℕ) (held now after : Held) (m n : ℕ) → slice_get lines i ≡ Some line
+    → Serves old mid (take i lines) held now None m → Serves mid new (line ∷ []) now after end n → ¬ (end ≡ None) → Serves old new lines held after end (m + n)
+serves_to end old mid new lines i line held now after m n at s t stops =
     let is : line ≡ get_or lines i line = sym (get_or_from_slice_get lines i line line at) in
     let whole : take i lines ++ line ∷ drop (i + 1) lines ≡ lines =
     ap (λ (l : List ℕ). take i lines ++ l ∷ drop (i + 1) lines) is ∙ ap (λ (l : List (List ℕ)). take i lines ++ l) (sym (drop_more lines i line (slice_get_within lines i line at))) ∙ take-append-drop i lines in
-    subst (λ (l : List (List ℕ)). Serves old new l accepted after end (m + n)) whole
-    (serves_then end old mid new (take i lines) (line ∷ []) (drop (i + 1) lines) accepted now after m n s t (λ none. absurd (stops none)))
+    subst (λ (l : List (List ℕ)). Serves old new l held after end (m + n)) whole
+    (serves_then end old mid new (take i lines) (line ∷ []) (drop (i + 1) lines) held now after m n s t (λ none. absurd (stops none)))
 
 -- the line at an index, where those before it were answered, and it was too
-pub serves_on : (old mid new : LinkState) (lines : List (List ℕ)) (i : ℕ) (line : List ℕ) (accepted now after : List Report) (m n : ℕ) → slice_get lines i ≡ Some line
-    → Serves old mid (take i lines) accepted now None m → Serves mid new (line ∷ []) now after None n → Serves old new (take (i + 1) lines) accepted after None (m + n)
-serves_on old mid new lines i line accepted now after m n at s t =
+pub serves_on : (old mid new : LinkState) (lines : List (List ℕ)) (i : ℕ) (line : List ℕ) (held now after : Held) (m n : ℕ) → slice_get lines i ≡ Some line
+    → Serves old mid (take i lines) held now None m → Serves mid new (line ∷ []) now after None n → Serves old new (take (i + 1) lines) held after None (m + n)
+serves_on old mid new lines i line held now after m n at s t =
     let is : line ≡ get_or lines i line = sym (get_or_from_slice_get lines i line line at) in
     let more : take i lines ++ (line ∷ [] ++ []) ≡ take (i + 1) lines = ap (λ (l : List ℕ). take i lines ++ l ∷ []) is ∙ sym (take_more lines i line (slice_get_within lines i line at)) in
-    subst (λ (l : List (List ℕ)). Serves old new l accepted after None (m + n)) more (serves_then None old mid new (take i lines) (line ∷ []) [] accepted now after m n s t (λ none. refl))
+    subst (λ (l : List (List ℕ)). Serves old new l held after None (m + n)) more (serves_then None old mid new (take i lines) (line ∷ []) [] held now after m n s t (λ none. refl))

@@ -2,7 +2,7 @@
 use Rattle.std.proofs.Common.{◌≡◌, ℕ, ◌+◌, List, [], ◌∷◌, ◌++◌, length, Option, Some, None, refl, sym, ap, subst, ◌∙◌, append_assoc, append-nil, arith}
 use Rattle.std.proofs.lemmas.List.{length-append}
 use Rattle.std.proofs.lemmas.List.Concat.{flat_map-append}
-use Rattle.report_line.specs.declared.report.Report.{Report}
+use Rattle.chains.specs.Held.{Held}
 use Rattle.session.specs.declared.kind.Kind.{Kind}
 use Rattle.session.specs.declared.kind.Kind.TheVariants as kinds
 use Rattle.session.specs.SessionText.{Exchange, Mean, NoBye, LastSaysBye, StartsWithQuestion, exchange_line, session_text, IsCutInReply}
@@ -15,9 +15,9 @@ Lines = List (List ℕ)
 abbrev Exchanges : Type 0
 Exchanges = List Exchange
 
-pub served_then : (accepted mid after : List Report) (es fs : Exchanges) → Served accepted es mid → Served mid fs after → Served accepted (es ++ fs) after
-served_then accepted mid after [] fs s t = subst (λ (x : List Report). Served x fs after) s t
-served_then accepted mid after (e ∷ es) fs s t = (s.0, s.1, served_then s.0 mid after es fs s.2 t)
+pub served_then : (held mid after : Held) (es fs : Exchanges) → Served held es mid → Served mid fs after → Served held (es ++ fs) after
+served_then held mid after [] fs s t = subst (λ (x : Held). Served x fs after) s t
+served_then held mid after (e ∷ es) fs s t = (s.0, s.1, served_then s.0 mid after es fs s.2 t)
 
 pub mean_then : (lines more : Lines) (es fs : Exchanges) → Mean lines es → Mean more fs → Mean (lines ++ more) (es ++ fs)
 mean_then [] more [] fs p q = q

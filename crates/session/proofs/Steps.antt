@@ -2,7 +2,7 @@
 use Rattle.std.proofs.Common.{◌≡◌, ℕ, ◌≤◌, ◌<◌, List, [], ◌∷◌, ◌++◌, length, take, Option, Some, None, Ok, Err, refl, sym, ap, subst, ◌∙◌, arith, inl, inr, true, false}
 use Rattle.std.specs.Prelude.{Bool, ◌==◌, nat_lt, if◌then◌else◌}
 use Rattle.std.specs.Io.KnownBytes.{Appends, Consumes, Keeps}
-use Rattle.report_line.specs.declared.report.Report.{Report}
+use Rattle.chains.specs.Held.{Held}
 use Rattle.report_line.specs.Cutting.{Stand, onto, cut_from}
 use Rattle.session.specs.declared.kind.Kind.{Kind}
 use Rattle.session.specs.declared.kind.Kind.TheVariants as kinds
@@ -26,9 +26,9 @@ abbrev same_held : (a b : Option (List ℕ)) → b ≡ a → Appends a b []
 same_held a b same = subst (λ (x : Option (List ℕ)). Appends a x []) (sym same) (appends_none a)
 
 -- a read that failed
-pub read_failed : {E : Type 0} (old new : LinkState) (stand : Stand) (accepted : List Report) (e : E) (buf : List ℕ) → ¬ (stand ≡ None) → IsRead old new (Err e) buf → Steps old new stand stand accepted accepted (Some kinds.ReadFailed) 0
-read_failed old new None accepted e buf some read = absurd (some refl)
-read_failed old new (Some rest) accepted e buf some read =
+pub read_failed : {E : Type 0} (old new : LinkState) (stand : Stand) (held : Held) (e : E) (buf : List ℕ) → ¬ (stand ≡ None) → IsRead old new (Err e) buf → Steps old new stand stand held held (Some kinds.ReadFailed) 0
+read_failed old new None held e buf some read = absurd (some refl)
+read_failed old new (Some rest) held e buf some read =
     record {
       piece = [];
       front = [];
@@ -49,10 +49,10 @@ read_failed old new (Some rest) accepted e buf some read =
     }
 
 -- a read at the end
-pub read_end : {E : Type 0} (old new : LinkState) (stand : Stand) (accepted : List Report) (n : ℕ) (buf : List ℕ) → ¬ (stand ≡ None) → n ≡ 0 → 0 < length buf → IsRead {E = E} old new (Ok n) buf
-    → Steps old new stand stand accepted accepted (Some kinds.End) 0
-read_end old new None accepted n buf some none room read = absurd (some refl)
-read_end old new (Some rest) accepted n buf some none room read =
+pub read_end : {E : Type 0} (old new : LinkState) (stand : Stand) (held : Held) (n : ℕ) (buf : List ℕ) → ¬ (stand ≡ None) → n ≡ 0 → 0 < length buf → IsRead {E = E} old new (Ok n) buf
+    → Steps old new stand stand held held (Some kinds.End) 0
+read_end old new None held n buf some none room read = absurd (some refl)
+read_end old new (Some rest) held n buf some none room read =
     record {
       piece = [];
       front = [];
@@ -73,9 +73,9 @@ read_end old new (Some rest) accepted n buf some none room read =
     }
 
 -- no memory for the lines of a piece
-pub read_refused : {E : Type 0} (old new : LinkState) (stand stand_after : Stand) (accepted : List Report) (n : ℕ) (buf : List ℕ) → 0 < length (take n buf) → IsRead {E = E} old new (Ok n) buf
-    → Steps old new stand stand_after accepted accepted (Some kinds.Memory) 0
-read_refused old new stand stand_after accepted n buf some read =
+pub read_refused : {E : Type 0} (old new : LinkState) (stand stand_after : Stand) (held : Held) (n : ℕ) (buf : List ℕ) → 0 < length (take n buf) → IsRead {E = E} old new (Ok n) buf
+    → Steps old new stand stand_after held held (Some kinds.Memory) 0
+read_refused old new stand stand_after held n buf some read =
     record {
       piece = take n buf;
       front = [];
@@ -134,9 +134,9 @@ gave_by (Some kinds.ReadFailed) end stand later turned text count piece f far so
 gave_by (Some kinds.Endless) end stand later turned text count piece f far some = absurd far
 
 -- the lines of a piece were served
-pub read_served : {E : Type 0} (from end : Option Kind) (old mid new : LinkState) (stand stand_after : Stand) (accepted after : List Report) (n count : ℕ) (buf : List ℕ) (lines : List (List ℕ)) → 0 < length (take n buf) → IsRead {E = E} old mid (Ok n) buf
-    → cut_from stand (take n buf) ≡ (lines, stand_after) → Serves mid new lines accepted after from count → Follows from stand_after end → Steps old new stand stand_after accepted after end count
-read_served from end old mid new stand stand_after accepted after n count buf lines some read cut s follows =
+pub read_served : {E : Type 0} (from end : Option Kind) (old mid new : LinkState) (stand stand_after : Stand) (held after : Held) (n count : ℕ) (buf : List ℕ) (lines : List (List ℕ)) → 0 < length (take n buf) → IsRead {E = E} old mid (Ok n) buf
+    → cut_from stand (take n buf) ≡ (lines, stand_after) → Serves mid new lines held after from count → Follows from stand_after end → Steps old new stand stand_after held after end count
+read_served from end old mid new stand stand_after held after n count buf lines some read cut s follows =
     record {
       piece = take n buf;
       front = s.front;

@@ -1,5 +1,5 @@
 -- Turns of questions.
-use Rattle.std.proofs.Common.{◌≡◌, ℕ, ◌<◌, List, [], ◌∷◌, length, Option, Some, None, Result, Ok, Err, true, refl, ap, arith, inl, inr, All, rules}
+use Rattle.std.proofs.Common.{◌≡◌, ℕ, ◌<◌, List, [], length, Option, Some, None, Result, Ok, Err, true, refl, ap, inl, inr, All, rules}
 use Rattle.std.specs.Prelude.{◌⊎◌, ◌↔◌, Contains, option_copied, is_some}
 use Rattle.std.proofs.lemmas.Option.{slice_get_within}
 use denote.Ref.{Bor}
@@ -15,6 +15,8 @@ use Rattle.report_line.specs.declared.reply.Reply.{Reply}
 use Rattle.report_line.specs.declared.reply.Reply.TheVariants as replies
 use Rattle.chains.specs.Processes.{Name, known, IsKnown, reports_of, target_of}
 use Rattle.chains.specs.Elements.{elements_of}
+use Rattle.chains.specs.Kept.{Kept}
+use Rattle.chains.specs.Held.{Held, held_of}
 use Rattle.chains.specs.States.{live_id, IsStateOf}
 use Rattle.chains.specs.declared.state.State.{State}
 use Rattle.chains.specs.Failures.{IsFirstUnknown, IsFailedSet}
@@ -27,42 +29,35 @@ use Rattle.session.specs.SessionText.{Means}
 use Rattle.session.specs.Turned.{Shows}
 use Rattle.session.specs.Parts.{call_read, id_text}
 
-nothing_of : (accepted : List Report) → length accepted ≡ 0 → accepted ≡ []
-nothing_of [] e = refl
-nothing_of (r ∷ rs) e = absurd (omega arith)
+pub nothing_begun : (k : Kept) (names : List Name) → k.accepted ≡ [] → Shows (held_of k) (calls.Line names) (held_of k) (replies.No NothingBegun None None)
+nothing_begun k names none = record { reply = replies.No NothingBegun None None; turned = (fine, (refl, inl (none, refl), refl)); fits = refl }
 
-something_of : (accepted : List Report) → 0 < length accepted → ¬ (accepted ≡ [])
-something_of accepted lt e = let none : length accepted ≡ 0 = ap length e in absurd (omega arith)
+pub unknown_name : (k : Kept) (names : List Name) (name : Name) → ¬ (k.accepted ≡ []) → IsFirstUnknown k.accepted names name
+    → Shows (held_of k) (calls.Line names) (held_of k) (replies.No UnknownProcess (Some name) None)
+unknown_name k names name some first =
+    record { reply = replies.No UnknownProcess (Some name) None; turned = (fine, (refl, inr (some, inl (name, first, refl)), refl)); fits = refl }
 
-pub nothing_begun : (accepted : List Report) (names : List Name) → length accepted ≡ 0 → Shows accepted (calls.Line names) accepted (replies.No NothingBegun None None)
-nothing_begun accepted names none = record { reply = replies.No NothingBegun None None; turned = (fine, (inl (nothing_of accepted none, refl), refl)); fits = refl }
+taken : (k : Kept) (names : List Name) (shown : Reply) → ¬ (k.accepted ≡ []) → All (IsKnown k.accepted) names
+    → (((text : List ℕ) × (shown ≡ replies.Line text) × IsLineText (held_of k) names text) ⊎ (shown ≡ no_memory)) → Shows (held_of k) (calls.Line names) (held_of k) shown
+taken k names shown some known shows =
+    record { reply = replies.Taken k.front; turned = (fine, (refl, inr (some, inr (known, refl)), refl)); fits = shows }
 
-pub unknown_name : (accepted : List Report) (names : List Name) (name : Name) → 0 < length accepted → IsFirstUnknown accepted names name
-    → Shows accepted (calls.Line names) accepted (replies.No UnknownProcess (Some name) None)
-unknown_name accepted names name some first =
-    record { reply = replies.No UnknownProcess (Some name) None; turned = (fine, (inr (something_of accepted some, inl (name, first, refl)), refl)); fits = refl }
+pub shown_text : (k : Kept) (names : List Name) (text : List ℕ) → ¬ (k.accepted ≡ []) → All (IsKnown k.accepted) names → IsLineText (held_of k) names text
+    → Shows (held_of k) (calls.Line names) (held_of k) (replies.Line text)
+shown_text k names text some known is = taken k names (replies.Line text) some known (inl (text, refl, is))
 
-taken : (accepted : List Report) (names : List Name) (shown : Reply) → 0 < length accepted → All (IsKnown accepted) names
-    → (((text : List ℕ) × (shown ≡ replies.Line text) × IsLineText accepted names text) ⊎ (shown ≡ no_memory)) → Shows accepted (calls.Line names) accepted shown
-taken accepted names shown some known shows =
-    record { reply = replies.Taken (length accepted); turned = (fine, (inr (something_of accepted some, inr (known, refl)), refl)); fits = shows }
+pub shown_none : (k : Kept) (names : List Name) → ¬ (k.accepted ≡ []) → All (IsKnown k.accepted) names → Shows (held_of k) (calls.Line names) (held_of k) no_memory
+shown_none k names some known = taken k names no_memory some known (inr refl)
 
-pub shown_text : (accepted : List Report) (names : List Name) (text : List ℕ) → 0 < length accepted → All (IsKnown accepted) names → IsLineText accepted names text
-    → Shows accepted (calls.Line names) accepted (replies.Line text)
-shown_text accepted names text some known is = taken accepted names (replies.Line text) some known (inl (text, refl, is))
+pub bad_line : (held after : Held) (n : ℕ) → after ≡ held → Shows held (calls.Bad n) after (replies.Bad n)
+bad_line held after n same = record { reply = replies.Bad n; turned = (fine, (refl, refl, same)); fits = refl }
 
-pub shown_none : (accepted : List Report) (names : List Name) → 0 < length accepted → All (IsKnown accepted) names → Shows accepted (calls.Line names) accepted no_memory
-shown_none accepted names some known = taken accepted names no_memory some known (inr refl)
+pub nothing_begun_state : (k : Kept) (p : Name) → k.accepted ≡ [] → Shows (held_of k) (calls.State p) (held_of k) (replies.No NothingBegun None None)
+nothing_begun_state k p none = record { reply = replies.No NothingBegun None None; turned = (fine, (refl, inl (none, refl), refl)); fits = refl }
 
-pub bad_line : (accepted after : List Report) (n : ℕ) → after ≡ accepted → Shows accepted (calls.Bad n) after (replies.Bad n)
-bad_line accepted after n same = record { reply = replies.Bad n; turned = (fine, (refl, same)); fits = refl }
-
-pub nothing_begun_state : (accepted : List Report) (p : Name) → length accepted ≡ 0 → Shows accepted (calls.State p) accepted (replies.No NothingBegun None None)
-nothing_begun_state accepted p none = record { reply = replies.No NothingBegun None None; turned = (fine, (inl (nothing_of accepted none, refl), refl)); fits = refl }
-
-pub unknown_state : (accepted : List Report) (p : Name) → 0 < length accepted → ¬ IsKnown accepted p → Shows accepted (calls.State p) accepted (replies.No UnknownProcess (Some p) None)
-unknown_state accepted p some unknown =
-    record { reply = replies.No UnknownProcess (Some p) None; turned = (fine, (inr (something_of accepted some, inl (unknown, refl)), refl)); fits = refl }
+pub unknown_state : (k : Kept) (p : Name) → ¬ (k.accepted ≡ []) → ¬ IsKnown k.accepted p → Shows (held_of k) (calls.State p) (held_of k) (replies.No UnknownProcess (Some p) None)
+unknown_state k p some unknown =
+    record { reply = replies.No UnknownProcess (Some p) None; turned = (fine, (refl, inr (some, inl (unknown, refl)), refl)); fits = refl }
 
 -- what is shown for a state, by its registered id
 shown_by : (accepted : List Report) (p : Name) (target : Option Name) (reports elements : ℕ) (id : Option (Bor IdTree)) → reports ≡ reports_of p accepted → elements ≡ length (elements_of p accepted)
@@ -72,23 +67,23 @@ shown_by accepted p (Some t) reports elements None e f g = rw (e, f) refl
 shown_by accepted p None reports elements None e f g = absurd (search rules)
 shown_by accepted p (Some t) reports elements (Some i) e f g = absurd (search rules)
 
-pub shown_state : (accepted : List Report) (p : Name) (state : State) → 0 < length accepted → IsKnown accepted p → IsStateOf accepted p state
-    → Shows accepted (calls.State p) accepted (replies.State p state.reports state.elements (is_some state.id) (id_text (option_copied state.id)))
-shown_state accepted p state some known is =
-    let shown = shown_by accepted p (target_of p accepted) state.reports state.elements state.id is.reports is.elements is.id in
-    record { reply = replies.State p state.reports state.elements (is_some state.id) (id_text (option_copied state.id)); turned = (fine, (inr (something_of accepted some, inr (λ h. h known, shown)), refl)); fits = refl }
+pub shown_state : (k : Kept) (p : Name) (state : State) → ¬ (k.accepted ≡ []) → IsKnown k.accepted p → IsStateOf k.accepted p state
+    → Shows (held_of k) (calls.State p) (held_of k) (replies.State p state.reports state.elements (is_some state.id) (id_text (option_copied state.id)))
+shown_state k p state some known is =
+    let shown = shown_by k.accepted p (target_of p k.accepted) state.reports state.elements state.id is.reports is.elements is.id in
+    record { reply = replies.State p state.reports state.elements (is_some state.id) (id_text (option_copied state.id)); turned = (fine, (refl, inr (some, inr (λ h. h known, shown)), refl)); fits = refl }
 
-pub bye_said : (accepted : List Report) → Shows accepted calls.Bye accepted replies.Bye
-bye_said accepted = record { reply = replies.Bye; turned = (fine, (refl, refl)); fits = refl }
+pub bye_said : (held : Held) → Shows held calls.Bye held replies.Bye
+bye_said held = record { reply = replies.Bye; turned = (fine, (refl, refl, refl)); fits = refl }
 
 -- the certificate for a failed set that these names have is one for the names
-pub line_of_names : (accepted : List Report) (names : List Name) (failed text : List ℕ) (c : Certificate) → IsFailedSet accepted names failed
-    → ((p : ℕ) → (Contains c.failed p ↔ (Contains failed p × (p < length (known accepted))))) → Certifies accepted c → text ≡ certificate_text accepted c → IsLineText accepted names text
-line_of_names accepted names failed text c set just certifies is = record {
+pub line_of_names : (held : Held) (names : List Name) (failed text : List ℕ) (c : Certificate) → IsFailedSet held.accepted names failed
+    → ((p : ℕ) → (Contains c.failed p ↔ (Contains failed p × (p < length (known held.accepted))))) → Certifies held c → text ≡ certificate_text held.accepted c → IsLineText held names text
+line_of_names held names failed text c set just certifies is = record {
   certificate = c;
   for_names = λ p name at. (
     λ there. (set.just_named p name at).0 ((just p).0 there).0,
-    λ named. (just p).1 ((set.just_named p name at).1 named, slice_get_within (known accepted) p name at),
+    λ named. (just p).1 ((set.just_named p name at).1 named, slice_get_within (known held.accepted) p name at),
   );
   certifies = certifies;
   text_is = is;
@@ -108,5 +103,5 @@ bye_read (Err faults.Grammar) is = absurd cc
 bye_read (Err faults.Memory) is = absurd cc
 
 -- a line that memory did not suffice to read
-pub unread_line : (accepted : List Report) → Shows accepted calls.Unread accepted no_memory
-unread_line accepted = record { reply = no_memory; turned = (fine, (refl, refl)); fits = refl }
+pub unread_line : (held : Held) → Shows held calls.Unread held no_memory
+unread_line held = record { reply = no_memory; turned = (fine, (refl, refl, refl)); fits = refl }

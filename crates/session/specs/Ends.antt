@@ -1,7 +1,7 @@
--- What a session did to its link and to the accepted list.
+-- What a session did to its link and to what is held.
 use Rattle.std.specs.Prelude.{◌≡◌, ◌≤◌, ◌<◌, ℕ, List, [], ◌++◌, length, take, IsSome}
 use Rattle.std.specs.Io.KnownBytes.{Appends, Consumes, IsAtEnd}
-use Rattle.report_line.specs.declared.report.Report.{Report}
+use Rattle.chains.specs.Held.{Held}
 use Rattle.report_line.specs.Cutting.{cut_of}
 use Rattle.session.specs.declared.kind.Kind.{Kind}
 use Rattle.session.specs.declared.kind.Kind.TheVariants as kinds
@@ -29,12 +29,12 @@ abbrev pub IsPrompt : {K : Type 0} → (K → LinkState) → K → List (List �
 IsPrompt told link pieces turned = (n : ℕ) → n < length pieces → IsReadAt told link n (joined (take n pieces)) turned
 
 -- What each read gave, the session text of it, which was written, and the exchanges, which took turns.
-pub record Ended {K : Type 0} (told : K → LinkState) (link after_link : K) (accepted after : List Report) (kind : Kind) (count : ℕ) : Type 0 where
+pub record Ended {K : Type 0} (told : K → LinkState) (link after_link : K) (held after : Held) (kind : Kind) (count : ℕ) : Type 0 where
   pub pieces : List (List ℕ)
   pub turned : List Exchange
   pub text : List ℕ
   pub session : IsSession pieces kind turned text count
-  pub served : Served accepted turned after
+  pub served : Served held turned after
   pub consumed : Consumes (told link).left (told after_link).left (joined pieces)
   pub written : Appends (told link).held (told after_link).held text
   pub reads : (told after_link).reads ≡ up (length pieces) (told link).reads

@@ -3,7 +3,7 @@ use Rattle.std.specs.Prelude.{◌≡◌, ℕ, ◌+◌, ◌<◌, ◌⊎◌, List,
 use Rattle.std.specs.Io.KnownBytes.{Appends, Consumes, IsAtEnd}
 use Rattle.id_tree.specs.IdTree.{IdTree}
 use Rattle.id_tree.specs.Spelling.{spelling}
-use Rattle.report_line.specs.declared.report.Report.{Report}
+use Rattle.chains.specs.Held.{Held}
 use Rattle.report_line.specs.declared.call.Call.{Call}
 use Rattle.report_line.specs.declared.call.Call.TheVariants as calls
 use Rattle.report_line.specs.declared.fault.LineFault.{LineFault}
@@ -26,9 +26,9 @@ call_read (Err faults.Grammar) = calls.Bad 1
 call_read (Err faults.Memory) = calls.Unread
 
 -- the call took its turn; or it is a question, and for want of memory took none
-abbrev pub MakesTurn : {E : Type 0} → List Report → Call → List Report → Result Reply E → Type 0
-MakesTurn accepted call after (Ok shown) = Shows accepted call after shown
-MakesTurn accepted call after (Err e) = (after ≡ accepted) × IsQuestion call
+abbrev pub MakesTurn : {E : Type 0} → Held → Call → Held → Result Reply E → Type 0
+MakesTurn held call after (Ok shown) = Shows held call after shown
+MakesTurn held call after (Err e) = (after ≡ held) × IsQuestion call
 
 -- the text of a registered id, `0` for none
 abbrev pub id_text : Option IdTree → List ℕ
@@ -56,14 +56,14 @@ FaultsAt (Some kinds.WriteFailed) old new = IsFault old new
 FaultsAt _ old new = IsSound old new
 
 -- lines were served: so many replies were written whole
-pub record Serves (old new : LinkState) (lines : List (List ℕ)) (accepted after : List Report) (end : Option Kind) (count : ℕ) : Type 0 where
+pub record Serves (old new : LinkState) (lines : List (List ℕ)) (held after : Held) (end : Option Kind) (count : ℕ) : Type 0 where
   pub front : List (List ℕ)
   pub later : List (List ℕ)
   pub turned : List Exchange
   pub text : List ℕ
   pub lines_are : lines ≡ front ++ later
   pub mean : Mean front turned
-  pub served : Served accepted turned after
+  pub served : Served held turned after
   pub how : HowFar end later turned text count
   pub written : Appends old.held new.held text
   pub faults : FaultsAt end old new
@@ -105,7 +105,7 @@ GaveBy (Some kinds.ReadFailed) piece = piece ≡ []
 GaveBy _ piece = 0 < length piece
 
 -- one read, and the lines that it completes from where the stream stands
-pub record Steps (old new : LinkState) (stand stand_after : Stand) (accepted after : List Report) (end : Option Kind) (count : ℕ) : Type 0 where
+pub record Steps (old new : LinkState) (stand stand_after : Stand) (held after : Held) (end : Option Kind) (count : ℕ) : Type 0 where
   pub piece : List ℕ
   pub front : List (List ℕ)
   pub later : List (List ℕ)
@@ -113,7 +113,7 @@ pub record Steps (old new : LinkState) (stand stand_after : Stand) (accepted aft
   pub text : List ℕ
   pub lines_are : (cut_from stand piece).0 ≡ front ++ later
   pub mean : Mean front turned
-  pub served : Served accepted turned after
+  pub served : Served held turned after
   pub how : StepsTo end (cut_from stand piece).1 front later turned text count
   pub stands : end ≡ None → (cut_from stand piece).1 ≡ stand_after
   pub consumed : Consumes old.left new.left piece
@@ -126,7 +126,7 @@ pub record Steps (old new : LinkState) (stand stand_after : Stand) (accepted aft
 -- ---- a session
 
 -- so many reads were made, and each line that they complete was answered
-pub record Going {K : Type 0} (told : K → LinkState) (link now : K) (stand : Stand) (accepted after : List Report) (reads count : ℕ) : Type 0 where
+pub record Going {K : Type 0} (told : K → LinkState) (link now : K) (stand : Stand) (held after : Held) (reads count : ℕ) : Type 0 where
   pub pieces : List (List ℕ)
   pub turned : List Exchange
   pub made : length pieces ≡ reads
@@ -135,7 +135,7 @@ pub record Going {K : Type 0} (told : K → LinkState) (link now : K) (stand : S
   pub is_open : IsSome stand
   pub no_bye : NoBye turned
   pub gave : Gave pieces
-  pub served : Served accepted turned after
+  pub served : Served held turned after
   pub consumed : Consumes (told link).left (told now).left (joined pieces)
   pub written : Appends (told link).held (told now).held (session_text turned)
   pub count_is : count ≡ length turned

@@ -43,13 +43,12 @@ pub record LastSaysBye (exchanges : List Exchange) : Type 0 where
   pub none_before : NoBye before
   pub bye : SaysBye last
 
--- the calls that change nothing, and whose turn may want memory
+-- the question that for want of memory may get no turn: that for a state
 abbrev pub IsQuestion : Call → Type 0
-IsQuestion (calls.Line names) = ⊤
 IsQuestion (calls.State p) = ⊤
 IsQuestion _ = ⊥
 
--- the first of these lines is a question
+-- the first of these lines is such a question
 pub record StartsWithQuestion (lines : List (List ℕ)) : Type 0 where
   pub line : List ℕ
   pub later : List (List ℕ)

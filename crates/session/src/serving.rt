@@ -2,6 +2,7 @@
 
 ghost use Rattle.std.specs.Prelude.{◌≡◌, ◌≤◌, ◌↔◌, [], ◌∷◌, Ok, Some, IsTrue, length};
 ghost use Rattle.report_line.specs.declared.call.Call.TheVariants as calls;
+ghost use Rattle.chains.specs.Held.{held_of};
 ghost use Rattle.session.specs.Parts.{Serves, one_reply};
 
 use crate::kind::Kind;
@@ -20,7 +21,7 @@ fn is_bye(read: &Result<Call, LineFault>) -> bool
 
 /// One line: its turn is made, and then its reply is written. Answers why the session ends, if it does.
 fn serve_line<K: Link>(chains: &mut Chains, link: &mut K, line: &[u8]) -> Option<Kind>
-    ensures { Serves (K.told link.old) (K.told link.new) (line.now ∷ []) chains.old.accepted chains.new.accepted result (one_reply result) }
+    ensures { Serves (K.told link.old) (K.told link.new) (line.now ∷ []) (held_of chains.old) (held_of chains.new) result (one_reply result) }
 {
     let read = read_line(chains.alloc(), line);
     let last = is_bye(&read);
@@ -57,7 +58,7 @@ pub(crate) fn serve_lines<K: Link>(
     link: &mut K,
     lines: &Lines,
 ) -> (Option<Kind>, u64)
-    ensures served { Serves (K.told link.old) (K.told link.new) lines.now chains.old.accepted chains.new.accepted result.0 result.1 }
+    ensures served { Serves (K.told link.old) (K.told link.new) lines.now (held_of chains.old) (held_of chains.new) result.0 result.1 }
     ensures few { result.1 ≤ length lines.now }
 {
     let mut replies = 0u64;

@@ -1,6 +1,7 @@
 //! One client: lines in, replies out.
 
 ghost use Rattle.std.specs.Prelude.{◌≡◌, ◌≢◌, ◌≤◌, ◌<◌, ◌^◌, ℕ, None};
+ghost use Rattle.chains.specs.Held.{held_of};
 ghost use Rattle.session.specs.SessionText.{ending_line, ending_count};
 ghost use Rattle.session.specs.Ends.{Ended, Leaves};
 ghost use Rattle.session.specs.Parts.{Follows, Steps, Closing, Closes};
@@ -88,7 +89,7 @@ fn kind_after(end: Option<Kind>, feed: &Feed) -> Option<Kind>
 /// were written whole.
 fn step<K: Link>(chains: &mut Chains, feed: &mut Feed, link: &mut K) -> (Option<Kind>, u64)
     requires { feed.old ≢ None }
-    ensures steps { Steps (K.told link.old) (K.told link.new) feed.old feed.new chains.old.accepted chains.new.accepted result.0 result.1 }
+    ensures steps { Steps (K.told link.old) (K.told link.new) feed.old feed.new (held_of chains.old) (held_of chains.new) result.0 result.1 }
     ensures few { result.1 ≤ 8192 }
 {
     let mut buf = [0u8; 8192];
@@ -109,7 +110,7 @@ fn step<K: Link>(chains: &mut Chains, feed: &mut Feed, link: &mut K) -> (Option<
 /// line's turn is made; before each read and at the end it hands on what it wrote. What is written is the session text of
 /// what was read.
 pub fn run_lines<K: Link>(chains: &mut Chains, link: &mut K) -> SessionEnd
-    ensures session { Ended K.told link.old link.new chains.old.accepted chains.new.accepted result.kind result.replies }
+    ensures session { Ended K.told link.old link.new (held_of chains.old) (held_of chains.new) result.kind result.replies }
     ensures leaves { Leaves result.kind (K.told link.old) (K.told link.new) }
 {
     let mut feed = Feed::new(chains.alloc());

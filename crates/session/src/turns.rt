@@ -1,8 +1,8 @@
 //! Turns.
 
 ghost use Rattle.std.specs.Prelude.{◌≡◌, ℕ, List, IfOk, option_copied, None, Err};
-ghost use Rattle.report_line.specs.declared.report.Report.{Report as AnyReport};
 ghost use Rattle.report_line.specs.declared.call.Call.TheVariants as calls;
+ghost use Rattle.chains.specs.Held.{Held, held_of};
 ghost use Rattle.chains.specs.Failures.{IsFailedSet};
 ghost use Rattle.reasons.specs.Shown.{IsLineText};
 ghost use Rattle.session.specs.Turned.{Shows};
@@ -28,7 +28,7 @@ fn refusal(code: Code) -> Reply
 
 /// A report's turn.
 fn admit(chains: &mut Chains, report: Shared<PackedReport>) -> Reply
-    ensures { Shows chains.old.accepted (calls.Report report) chains.new.accepted result }
+    ensures { Shows (held_of chains.old) (calls.Report report) (held_of chains.new) result }
 {
     match chains.admit_shared(report) {
         Ok(Admitted::Accepted(front)) => Reply::Accepted(front),
@@ -43,7 +43,7 @@ fn admit(chains: &mut Chains, report: Shared<PackedReport>) -> Reply
 
 /// The text of the certificate of these failed processes.
 fn line_text(chains: &Chains, failed: &Failed) -> Result<Text, AllocError>
-    ensures { IfOk result (λ text. (names : List (List ℕ)) → IsFailedSet chains.now.accepted names failed.now → IsLineText chains.now.accepted names text) }
+    ensures { IfOk result (λ text. (names : List (List ℕ)) → IsFailedSet chains.now.accepted names failed.now → IsLineText (held_of chains.now) names text) }
 {
     let certificate = certificate(chains, failed)?;
     let text = to_json(chains, &certificate)?;
@@ -53,9 +53,9 @@ fn line_text(chains: &Chains, failed: &Failed) -> Result<Text, AllocError>
 /// The turn of a question for a line, and what is shown for it.
 #[cold]
 fn line_of(chains: &Chains, names: &[Name]) -> Reply
-    ensures { Shows chains.now.accepted (calls.Line names.now) chains.now.accepted result }
+    ensures { Shows (held_of chains.now) (calls.Line names.now) (held_of chains.now) result }
 {
-    if chains.front() == 0 {
+    if chains.is_empty() {
         return refusal(Code::NothingBegun);
     }
     match Failed::from_names(chains, names) {
@@ -86,9 +86,9 @@ fn text_of(alloc: Global, id: Option<&Id>) -> Result<Text, AllocError>
 
 /// What is shown for a question for a state, if memory suffices for it.
 fn state_of(chains: &Chains, name: &Name) -> Result<Reply, AllocError>
-    ensures { IfOk result (λ shown. Shows chains.now.accepted (calls.State name.now) chains.now.accepted shown) }
+    ensures { IfOk result (λ shown. Shows (held_of chains.now) (calls.State name.now) (held_of chains.now) shown) }
 {
-    if chains.front() == 0 {
+    if chains.is_empty() {
         return Ok(refusal(Code::NothingBegun));
     }
     let Some(
@@ -118,14 +118,14 @@ fn state_of(chains: &Chains, name: &Name) -> Result<Reply, AllocError>
 /// The turn of a question for a state, if memory suffices for it.
 #[cold]
 fn state_asked(chains: &Chains, name: Shared<Name>) -> Result<Reply, AllocError>
-    ensures { IfOk result (λ shown. Shows chains.now.accepted (calls.State name) chains.now.accepted shown) }
+    ensures { IfOk result (λ shown. Shows (held_of chains.now) (calls.State name) (held_of chains.now) shown) }
 {
     state_of(chains, &name)
 }
 
 /// The turn of a line that no call was read off.
 fn not_read(fault: LineFault) -> Reply
-    ensures { (accepted : List AnyReport) → Shows accepted (call_read (Err fault)) accepted result }
+    ensures { (held : Held) → Shows held (call_read (Err fault)) held result }
 {
     match fault {
         LineFault::Grammar => Reply::Bad(1),
@@ -140,7 +140,7 @@ pub(crate) fn make_turn(
     chains: &mut Chains,
     read: Result<Call, LineFault>,
 ) -> Result<Reply, AllocError>
-    ensures { MakesTurn chains.old.accepted (call_read read) chains.new.accepted result }
+    ensures { MakesTurn (held_of chains.old) (call_read read) (held_of chains.new) result }
 {
     match read {
         Ok(Call::Report(report)) => Ok(admit(chains, report)),

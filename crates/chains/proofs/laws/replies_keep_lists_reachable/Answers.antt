@@ -1,4 +1,4 @@
-use Rattle.chains.proofs.Folding.{still_reached, turn_reached}
+use Rattle.chains.proofs.Turning.{still_reached, turn_reached}
 use Rattle.chains.proofs.laws.replies_keep_lists_reachable.Goals as goal
 
 pub returns-clause-report : goal.returns-clause-report

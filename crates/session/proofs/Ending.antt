@@ -16,6 +16,8 @@ use Rattle.session.specs.SessionText.{Exchange, Mean, NoBye, exchange_line, sess
 use Rattle.session.specs.Turned.{Served}
 use Rattle.session.specs.Ends.{IsReadAt, IsPrompt, Ended, Leaves}
 use Rattle.session.specs.Parts.{IsSaid, FaultsAt, StepsTo, IsQuiet, GaveBy, Steps, Going, Closing, Closes}
+use Rattle.chains.specs.Admission.{IsReached}
+use Rattle.session.proofs.RightLines.{lines_are_right}
 use Rattle.session.proofs.Sent.{appends_none, appends_then, sound_none, sound_then, fault_then}
 use Rattle.session.proofs.Served.{served_then, mean_then, mean_length, no_bye_then, bye_then, said_then, cut_then}
 use Rattle.session.proofs.ServeSteps.{faults_then}
@@ -311,10 +313,10 @@ pub record Finished {K : Type 0} (told : K → LinkState) (link final : K) (held
   pub leaves : Leaves end (told link) (told final)
 
 -- behind a session that stopped so, this more was written, and that is how it ends
-ended_then : {K : Type 0} (told : K → LinkState) (link now final : K) (held after : Held) (kind end : Kind) (count total : ℕ) (more : List ℕ) → (s : Stopping told link now held after kind count) → GaveAll end s.pieces
+ended_then : {K : Type 0} (told : K → LinkState) (link now final : K) (held after : Held) (kind end : Kind) (count total : ℕ) (more : List ℕ) → IsReached held → (s : Stopping told link now held after kind count) → GaveAll end s.pieces
     → Ends end s.pieces (cut_of (joined s.pieces)).1 s.front s.later s.turned (s.text ++ more) total → Appends (told now).held (told final).held more → (told final).left ≡ (told now).left → (told final).reads ≡ (told now).reads
     → Ended told link final held after end total
-ended_then told link now final held after kind end count total more s gave ends sent left reads =
+ended_then told link now final held after kind end count total more reach s gave ends sent left reads =
     record {
       pieces = s.pieces;
       turned = s.turned;
@@ -326,30 +328,31 @@ ended_then told link now final held after kind end count total more s gave ends 
       reads = reads ∙ s.reads;
       few = s.few;
       prompt = s.prompt;
+      lines = lines_are_right held after s.turned reach s.served;
     }
 
 -- nothing more was written
-ended_so : {K : Type 0} (told : K → LinkState) (link now final : K) (held after : Held) (kind : Kind) (count : ℕ) → (s : Stopping told link now held after kind count)
+ended_so : {K : Type 0} (told : K → LinkState) (link now final : K) (held after : Held) (kind : Kind) (count : ℕ) → IsReached held → (s : Stopping told link now held after kind count)
     → Ends kind s.pieces (cut_of (joined s.pieces)).1 s.front s.later s.turned s.text count → told final ≡ told now → Ended told link final held after kind count
-ended_so told link now final held after kind count s ends same =
-    ended_then told link now final held after kind kind count count [] s s.gave
+ended_so told link now final held after kind count reach s ends same =
+    ended_then told link now final held after kind kind count count [] reach s s.gave
     (subst (λ (l : List ℕ). Ends kind s.pieces (cut_of (joined s.pieces)).1 s.front s.later s.turned l count) (sym (append-nil s.text)) ends)
     (subst (λ (h : Option (List ℕ)). Appends (told now).held h []) (sym (ap (λ (x : LinkState). x.held) same)) (appends_none (told now).held)) (ap (λ (x : LinkState). x.left) same) (ap (λ (x : LinkState). x.reads) same)
 
-closed_by : {K : Type 0} (told : K → LinkState) (link now final : K) (held after : Held) (kind end : Kind) (count total : ℕ) → (s : Stopping told link now held after kind count)
+closed_by : {K : Type 0} (told : K → LinkState) (link now final : K) (held after : Held) (kind end : Kind) (count total : ℕ) → IsReached held → (s : Stopping told link now held after kind count)
     → Reached kind s.pieces (cut_of (joined s.pieces)).1 s.front s.later s.turned × IsSaid s.turned s.text count → IsSound (told link) (told now) → (IsSound (told link) (told final) → (told final).waiting ≡ [] → Leaves kind (told link) (told final))
     → (GaveAll kind s.pieces → Gave s.pieces) → Closing kind (told now) (told final) count end total → Finished told link final held after end total
-closed_by told link now final held after kind end count total s how sound leaves plain c = elim c.closed [
+closed_by told link now final held after kind end count total reach s how sound leaves plain c = elim c.closed [
   | inl w ↦ rw w.0 record {
-    ended = ended_then told link now final held after kind kind count total (ending_line kind) s s.gave
+    ended = ended_then told link now final held after kind kind count total (ending_line kind) reach s s.gave
         (ends_by kind s.pieces (cut_of (joined s.pieces)).1 s.front s.later s.turned (s.text ++ ending_line kind) total how.0 (whole_by kind s.turned s.text count total how.1 w.1)) w.2 c.left c.reads;
     leaves = leaves (sound_then (told link) (told now) (told final) sound w.3) w.4;
   }
   | inr w ↦ rw w.0 record {
     ended = elim w.2 [
-      | inl v ↦ ended_then told link now final held after kind kinds.WriteFailed count total v.1.0 s (plain s.gave)
+      | inl v ↦ ended_then told link now final held after kind kinds.WriteFailed count total v.1.0 reach s (plain s.gave)
           (inr (kind, how.0, inl (record { part = v.1.0; short = v.1.1; text_is = ap (λ (l : List ℕ). l ++ v.1.0) how.1.0; count_is = v.0 ∙ how.1.1 }))) v.1.2 c.left c.reads
-      | inr v ↦ ended_then told link now final held after kind kinds.WriteFailed count total (ending_line kind) s (plain s.gave)
+      | inr v ↦ ended_then told link now final held after kind kinds.WriteFailed count total (ending_line kind) reach s (plain s.gave)
           (inr (kind, how.0, inr (whole_by kind s.turned s.text count total how.1 v.0))) v.1 c.left c.reads
     ];
     leaves = fault_then (told link) (told now) (told final) sound w.1;
@@ -362,32 +365,32 @@ said_whole turned text count said = (said.0 ∙ sym (append-nil (session_text tu
 same_leaves : (kind : Kind) (old now final : LinkState) → final ≡ now → Leaves kind old now → Leaves kind old final
 same_leaves kind old now final same leaves = subst (λ (x : LinkState). Leaves kind old x) (sym same) leaves
 
-pub finished : {K : Type 0} (told : K → LinkState) (link now final : K) (held after : Held) (kind end : Kind) (count total : ℕ) → Stopping told link now held after kind count
+pub finished : {K : Type 0} (told : K → LinkState) (link now final : K) (held after : Held) (kind end : Kind) (count total : ℕ) → IsReached held → Stopping told link now held after kind count
     → Closes kind (told now) (told final) count end total → Finished told link final held after end total
-finished told link now final held after kinds.End end count total s c =
+finished told link now final held after kinds.End end count total reach s c =
     rw (c.0, c.1) record {
-      ended = ended_so told link now final held after kinds.End count s (s.how.0, said_whole s.turned s.text count s.how.1) c.2;
+      ended = ended_so told link now final held after kinds.End count reach s (s.how.0, said_whole s.turned s.text count s.how.1) c.2;
       leaves = same_leaves kinds.End (told link) (told now) (told final) c.2 s.leaves;
     }
-finished told link now final held after kinds.ReadFailed end count total s c =
+finished told link now final held after kinds.ReadFailed end count total reach s c =
     rw (c.0, c.1) record {
-      ended = ended_so told link now final held after kinds.ReadFailed count s (s.how.0, said_whole s.turned s.text count s.how.1) c.2;
+      ended = ended_so told link now final held after kinds.ReadFailed count reach s (s.how.0, said_whole s.turned s.text count s.how.1) c.2;
       leaves = same_leaves kinds.ReadFailed (told link) (told now) (told final) c.2 s.leaves;
     }
-finished told link now final held after kinds.WriteFailed end count total s c =
+finished told link now final held after kinds.WriteFailed end count total reach s c =
     rw (c.0, c.1) record {
-      ended = ended_so told link now final held after kinds.WriteFailed count s (inl s.how) c.2;
+      ended = ended_so told link now final held after kinds.WriteFailed count reach s (inl s.how) c.2;
       leaves = same_leaves kinds.WriteFailed (told link) (told now) (told final) c.2 s.leaves;
     }
-finished told link now final held after kinds.Bye end count total s c = closed_by told link now final held after kinds.Bye end count total s s.how s.leaves (λ sound nothing. (sound, nothing)) (λ g. g) c
-finished told link now final held after kinds.TooLong end count total s c = closed_by told link now final held after kinds.TooLong end count total s s.how s.leaves (λ sound nothing. (sound, nothing)) (λ g. g) c
-finished told link now final held after kinds.Memory end count total s c = closed_by told link now final held after kinds.Memory end count total s s.how s.leaves (λ sound nothing. (sound, nothing)) (λ g. g) c
-finished told link now final held after kinds.Endless end count total s c = closed_by told link now final held after kinds.Endless end count total s s.how s.leaves (λ sound nothing. (sound, nothing)) (λ g. g) c
+finished told link now final held after kinds.Bye end count total reach s c = closed_by told link now final held after kinds.Bye end count total reach s s.how s.leaves (λ sound nothing. (sound, nothing)) (λ g. g) c
+finished told link now final held after kinds.TooLong end count total reach s c = closed_by told link now final held after kinds.TooLong end count total reach s s.how s.leaves (λ sound nothing. (sound, nothing)) (λ g. g) c
+finished told link now final held after kinds.Memory end count total reach s c = closed_by told link now final held after kinds.Memory end count total reach s s.how s.leaves (λ sound nothing. (sound, nothing)) (λ g. g) c
+finished told link now final held after kinds.Endless end count total reach s c = closed_by told link now final held after kinds.Endless end count total reach s s.how s.leaves (λ sound nothing. (sound, nothing)) (λ g. g) c
 
 -- what was written could not be handed on before a read
-pub not_handed_on : {K E : Type 0} (told : K → LinkState) (link now final : K) (stand : Stand) (held after : Held) (reads count : ℕ) (e : E) → reads ≤ most_reads → Going told link now stand held after reads count
+pub not_handed_on : {K E : Type 0} (told : K → LinkState) (link now final : K) (stand : Stand) (held after : Held) (reads count : ℕ) (e : E) → reads ≤ most_reads → IsReached held → Going told link now stand held after reads count
     → IsHandOn (told now) (told final) (Err e) → Finished told link final held after kinds.WriteFailed count
-not_handed_on told link now final stand held after reads count e few s hand =
+not_handed_on told link now final stand held after reads count e few reach s hand =
     let all : Reached kinds.End s.pieces (cut_of (joined s.pieces)).1 (cut_of (joined s.pieces)).0 [] s.turned = (s.no_bye, refl, subst (λ (x : Stand). IsSome x) (sym s.stands) s.is_open) in
     record {
       ended = record {
@@ -408,6 +411,7 @@ not_handed_on told link now final stand held after reads count e few s hand =
         reads = hand.reads ∙ s.reads_are ∙ ap (λ (n : ℕ). up n (told link).reads) (sym s.made);
         few = omega (arith, s.made);
         prompt = s.prompt;
+        lines = lines_are_right held after s.turned reach s.served;
       };
       leaves = inl (rw s.sound.failures at hand.failures, hand.stalls ∙ s.sound.stalls);
     }

@@ -5,3 +5,4 @@ mod Steps
 mod Ending
 mod Places
 mod TurnSteps
+pub mod RightLines

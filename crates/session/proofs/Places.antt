@@ -9,7 +9,7 @@ use Rattle.chains.specs.Turns.{IsTurn}
 use Rattle.chains.proofs.Turning.{unchanged, after_report_turn, turn_reached}
 use Rattle.reasons.specs.Shown.{IsShown}
 use Rattle.session.specs.SessionText.{Exchange}
-use Rattle.session.specs.Turned.{Served, after_call, accepted_by}
+use Rattle.session.specs.Turned.{Shows, Served, after_call, accepted_by}
 
 after_turn : (held after : Held) (call : Call) (reply shown : Reply) → IsTurn held call reply after → IsShown held call reply shown → after ≡ after_call held call shown
 after_turn held after (calls.Report r) reply shown (fate, t) s = after_report_turn held.stopped fate held r reply after t ∙ ap (accepted_after held r) (sym s)
@@ -31,3 +31,10 @@ reached_before held after (e ∷ es) later reach s =
 
 pub places_reached : (held after : Held) (exchanges before later : List Exchange) → IsReached held → Served held exchanges after → exchanges ≡ before ++ later → IsReached (accepted_by held before)
 places_reached held after exchanges before later reach s e = reached_before held after before later reach (subst (λ (es : List Exchange). Served held es after) e s)
+
+-- what is held at an exchange is told by those before it
+pub served_at : (held after : Held) (before later : List Exchange) (exchange : Exchange) → Served held (before ++ exchange ∷ later) after
+    → (between : Held) × Shows (accepted_by held before) exchange.call between exchange.shown
+served_at held after [] later exchange s = (s.0, s.1)
+served_at held after (e ∷ es) later exchange s =
+    subst (λ (a : Held). (between : Held) × Shows (accepted_by a es) exchange.call between exchange.shown) (after_turn held s.0 e.call s.1.reply e.shown s.1.turned s.1.fits) (served_at s.0 after es later exchange s.2)

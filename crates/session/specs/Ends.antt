@@ -8,6 +8,7 @@ use Rattle.session.specs.declared.kind.Kind.TheVariants as kinds
 use Rattle.session.specs.Links.{up, LinkState, IsSound, IsFault}
 use Rattle.session.specs.SessionText.{Exchange, NoBye, session_text, joined, most_reads, IsSession}
 use Rattle.session.specs.Turned.{Served}
+use Rattle.session.specs.Headline.{EachLineIsRight}
 
 -- A read after so many others, which gave these bytes: by then each line that is complete was answered, and all of the
 -- replies were handed on.
@@ -28,7 +29,8 @@ pub record IsReadAt {K : Type 0} (told : K → LinkState) (link : K) (reads : �
 abbrev pub IsPrompt : {K : Type 0} → (K → LinkState) → K → List (List ℕ) → List Exchange → Type 0
 IsPrompt told link pieces turned = (n : ℕ) → n < length pieces → IsReadAt told link n (joined (take n pieces)) turned
 
--- What each read gave, the session text of it, which was written, and the exchanges, which took turns.
+-- What each read gave, the session text of it, which was written, and the exchanges, which took turns; each LINE among them
+-- is right.
 pub record Ended {K : Type 0} (told : K → LinkState) (link after_link : K) (held after : Held) (kind : Kind) (count : ℕ) : Type 0 where
   pub pieces : List (List ℕ)
   pub turned : List Exchange
@@ -40,6 +42,7 @@ pub record Ended {K : Type 0} (told : K → LinkState) (link after_link : K) (he
   pub reads : (told after_link).reads ≡ up (length pieces) (told link).reads
   pub few : length pieces ≤ most_reads
   pub prompt : IsPrompt told link pieces turned
+  pub lines : EachLineIsRight held turned
 
 -- What a link tells where a session ends so: a read failed, or a write or a hand-on; or none did, and nothing waits.
 abbrev pub Leaves : Kind → LinkState → LinkState → Type 0

@@ -3,3 +3,4 @@ pub mod SessionText
 pub mod Turned
 pub mod Ends
 pub mod Parts
+pub mod Headline

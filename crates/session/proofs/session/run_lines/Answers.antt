@@ -14,17 +14,17 @@ loop-preserved g c =
 
 pub returns-in_default : goal.returns-in_default
 returns-in_default g c =
-    let ended = not_handed_on g.K.Link.told _ _ _ _ _ _ c.loop.counter c.loop.replies _ (omega arith) c.loop.invariant.going c.in_default.ensures in
+    let ended = not_handed_on g.K.Link.told _ _ _ _ _ _ c.loop.counter c.loop.replies _ (omega arith) (record { reachable = c.lawful.ensures.reachable; counted = c.lawful.ensures.counted }) c.loop.invariant.going c.in_default.ensures in
     record { session = ended.ended; leaves = ended.leaves }
 
 pub returns-in-Some : goal.returns-in-Some
 returns-in-Some g c =
     let stopped = stopping g.K.Link.told _ _ _ _ c.in-Some.kind _ _ _ _ _ c.loop.counter c.loop.replies _ _ (omega arith) c.loop.invariant.going c.in-Ok.ensures (rw c.in-Some.is at c.step-end.ensures.steps) in
-    let ended = finished g.K.Link.told _ _ _ _ _ c.in-Some.kind _ _ _ stopped c.close.ensures in
+    let ended = finished g.K.Link.told _ _ _ _ _ c.in-Some.kind _ _ _ (record { reachable = c.lawful.ensures.reachable; counted = c.lawful.ensures.counted }) stopped c.close.ensures in
     record { session = ended.ended; leaves = ended.leaves }
 
 pub returns : goal.returns
 returns g c =
     let stopped = stopping_endless g.K.Link.told _ _ _ _ _ c.loop.counter c.loop.replies (omega arith) c.loop.invariant.going in
-    let ended = finished g.K.Link.told _ _ _ _ _ _ _ _ _ stopped c.close-2.ensures in
+    let ended = finished g.K.Link.told _ _ _ _ _ _ _ _ _ (record { reachable = c.lawful.ensures.reachable; counted = c.lawful.ensures.counted }) stopped c.close-2.ensures in
     record { session = ended.ended; leaves = ended.leaves }

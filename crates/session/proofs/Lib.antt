@@ -4,4 +4,5 @@ mod ServeSteps
 mod Steps
 mod Ending
 mod Places
+mod Unfailing
 mod TurnSteps

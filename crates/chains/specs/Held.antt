@@ -1,5 +1,5 @@
 -- What a turn starts from and leaves.
-use Rattle.std.specs.Prelude.{◌≡◌, ℕ, ◌+◌, Bool, true, false, List, [], ◌∷◌, ◌++◌, length}
+use Rattle.std.specs.Prelude.{ℕ, ◌+◌, Bool, true, false, List, [], ◌∷◌, ◌++◌, length}
 use Rattle.report_line.specs.declared.report.Report.{Report}
 use Rattle.chains.specs.Kept.{Kept}
 

@@ -3,7 +3,6 @@
 ghost use Rattle.std.specs.Prelude.{◌≡◌, ◌<◌, ◌≤◌, ◌+◌, ◌-◌, ◌^◌, ◌↔◌, ℕ, List, IfOk, Contains, length, map, slice_index, sum};
 ghost use Rattle.std.specs.List.{range_with_len};
 ghost use Rattle.chains.specs.Processes.{known};
-ghost use Rattle.report_line.specs.declared.report.Report.{Report};
 ghost use Rattle.chains.specs.Positions.{last_rank};
 ghost use Rattle.chains.specs.Folded.{IsFolded};
 ghost use Rattle.chains.specs.declared.position.Place.{Place as AnyPlace};

@@ -1,7 +1,7 @@
 -- What the program answers when a session ended.
 use Rattle.std.specs.Prelude.{◌≡◌, ◌⊎◌, ℕ, List, [], ◌++◌, codes}
 use Rattle.std.specs.Io.KnownBytes.{Appends}
-use Rattle.report_line.specs.declared.report.Report.{Report}
+use Rattle.chains.specs.Held.{Held}
 use Rattle.report_line.specs.Cutting.{ended}
 use Rattle.session.specs.declared.kind.Kind.{Kind}
 use Rattle.session.specs.declared.kind.Kind.TheVariants as kinds
@@ -31,11 +31,11 @@ pub record Tells (old new : LinkState) (line : List ℕ) : Type 0 where
   pub told : (Appends old.held new.held line × (new.waiting ≡ []) × IsSound old new)
       ⊎ ((part more : List ℕ) × (line ≡ part ++ more) × Appends old.held new.held part × IsFault old new)
 
--- A session with the client ended so, from an accepted list; the status and the fault line say how.
-pub record Runs {K F : Type 0} (client_told : K → LinkState) (faults_told : F → LinkState) (client client_after : K) (faults faults_after : F) (accepted after : List Report) (status : ℕ) : Type 0 where
+-- A session with the client ended so, from what is held; the status and the fault line say how.
+pub record Runs {K F : Type 0} (client_told : K → LinkState) (faults_told : F → LinkState) (client client_after : K) (faults faults_after : F) (held after : Held) (status : ℕ) : Type 0 where
   pub kind : Kind
   pub replies : ℕ
-  pub session : Ended client_told client client_after accepted after kind replies
+  pub session : Ended client_told client client_after held after kind replies
   pub leaves : Leaves kind (client_told client) (client_told client_after)
   pub status_is : status ≡ status_of kind
   pub faults_are : Tells (faults_told faults) (faults_told faults_after) (fault_line kind)

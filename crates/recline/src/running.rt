@@ -1,7 +1,7 @@
 //! The command `run`.
 
-ghost use Rattle.std.specs.Prelude.{◌≡◌, [], List};
-ghost use Rattle.report_line.specs.declared.report.Report.{Report};
+ghost use Rattle.std.specs.Prelude.{◌≡◌, []};
+ghost use Rattle.chains.specs.Held.{Held, held_of, counting};
 ghost use Rattle.recline.specs.Outcome.{Runs, Tells, fault_line, status_of};
 
 use chains::Chains;
@@ -45,7 +45,7 @@ fn fault_for(kind: Kind) -> &'static [u8]
 
 /// Serves one client over these chains, tells how it ended where that was a fault, and answers the status of the process.
 pub fn run_over<K: Link, F: Link>(chains: &mut Chains, client: &mut K, faults: &mut F) -> u8
-    ensures { Runs K.told F.told client.old client.new faults.old faults.new chains.old.accepted chains.new.accepted result }
+    ensures { Runs K.told F.told client.old client.new faults.old faults.new (held_of chains.old) (held_of chains.new) result }
 {
     let end = run_lines(chains, client);
     tell(faults, fault_for(end.kind));
@@ -54,7 +54,7 @@ pub fn run_over<K: Link, F: Link>(chains: &mut Chains, client: &mut K, faults: &
 
 /// The command `run`: `run_over` over fresh chains.
 pub fn run_on<K: Link, F: Link>(alloc: Global, client: &mut K, faults: &mut F) -> u8
-    ensures { (after : List Report) × Runs K.told F.told client.old client.new faults.old faults.new [] after result }
+    ensures { (after : Held) × Runs K.told F.told client.old client.new faults.old faults.new (counting []) after result }
 {
     let mut chains = Chains::new(alloc);
     run_over(&mut chains, client, faults)

@@ -4,5 +4,6 @@ mod ServeSteps
 mod Steps
 mod Ending
 mod Places
+mod Unfailing
 mod TurnSteps
 pub mod RightLines

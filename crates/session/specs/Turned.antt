@@ -2,7 +2,9 @@
 use Rattle.std.specs.Prelude.{◌≡◌, List, [], ◌∷◌}
 use Rattle.report_line.specs.declared.call.Call.{Call}
 use Rattle.report_line.specs.declared.call.Call.TheVariants as calls
+use Rattle.report_line.specs.declared.reply.Outcome.{Outcome}
 use Rattle.report_line.specs.declared.reply.Reply.{Reply}
+use Rattle.report_line.specs.declared.reply.Reply.TheVariants.{Fail}
 use Rattle.chains.specs.Held.{Held}
 use Rattle.chains.specs.Admission.{accepted_after}
 use Rattle.chains.specs.Turns.{IsTurn}
@@ -20,6 +22,10 @@ abbrev pub Served : Held → List Exchange → Held → Type 0
 Served held [] after = after ≡ held
 Served held (exchange ∷ exchanges) after =
     (between : Held) × Shows held exchange.call between exchange.shown × Served between exchanges after
+
+-- what is shown tells that a device failed, or that the store was stopped by then
+abbrev pub ShowsFailure : Exchange → Type 0
+ShowsFailure exchange = (outcome : Outcome) × (exchange.shown ≡ Fail outcome)
 
 -- what is held behind a call for which this is shown: only a report changes it
 abbrev pub after_call : Held → Call → Reply → Held

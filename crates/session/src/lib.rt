@@ -14,7 +14,9 @@ mod streams;
 mod turns;
 
 pub use kind::{Kind, SessionEnd};
-pub use laws::{exchanges_keep_lists_reachable, exchanges_tell_what_is_accepted};
+pub use laws::{
+    exchanges_keep_lists_reachable, exchanges_tell_what_is_accepted, served_without_a_device,
+};
 pub use link::{Link, LinkFault, put};
 pub use session::run_lines;
 pub use streams::Streams;

@@ -108,7 +108,8 @@ fn step<K: Link>(chains: &mut Chains, feed: &mut Feed, link: &mut K) -> (Option<
 
 /// Serves one client: after each read it answers the lines that are complete, and writes each reply before the next
 /// line's turn is made; before each read and at the end it hands on what it wrote. What is written is the session text of
-/// what was read, and each line of recovery in it is the greatest closed cut of every lawful history that agrees.
+/// what was read, and each `LINE` in it is the greatest closed cut of every lawful history that agrees at its place
+/// (`specs/Headline.antt`). What chains hold is never stopped, so in no turn of it a device failed (`served_without_a_device`).
 pub fn run_lines<K: Link>(chains: &mut Chains, link: &mut K) -> SessionEnd
     ensures session { Ended K.told link.old link.new (held_of chains.old) (held_of chains.new) result.kind result.replies }
     ensures leaves { Leaves result.kind (K.told link.old) (K.told link.new) }

@@ -9,3 +9,4 @@ pub mod Retiring
 pub mod Rules
 pub mod Reported
 pub mod Example
+pub mod Paths

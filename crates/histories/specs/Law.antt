@@ -1,5 +1,5 @@
 -- The law of histories: who is beyond a birth, a check or a presentation has something in its past that came after it.
-use Rattle.std.specs.Prelude.{Some, ◌≡◌, ◌<◌, ◌≤◌, ◌≢◌, ◌↔◌, IsTrue}
+use Rattle.std.specs.Prelude.{Some, ◌≡◌, ◌⊎◌, ◌<◌, ◌≤◌, ◌≢◌, ◌↔◌, IsTrue}
 use Rattle.id_tree.specs.Points.{Point, owns}
 use Rattle.event_tree.specs.Values.{IsAtOrBelow, ExceedsOn}
 use Rattle.report_line.specs.declared.step.Deed.TheVariants.{Check, Present, Retire}
@@ -68,6 +68,12 @@ abbrev pub EachPointHasOneHolder : Type 0
 EachPointHasOneHolder =
     (root : Name) (h : History) (t : Point) → IsLawful root h
     → (p : Name) × IsHolder root h t p × ((q : Name) → IsHolder root h t q → q ≡ p)
+
+-- The events whose process owns a point after them lie on one path of edges: of two of them one is in the past of the other.
+abbrev pub OwnersLieOnOnePath : Type 0
+OwnersLieOnOnePath =
+    (root : Name) (h : History) (x y : Event) (t : Point) → IsLawful root h → Occurs root h x → Occurs root h y
+    → IsTrue (owns x.id t) → IsTrue (owns y.id t) → IsInPast root h x y ⊎ IsInPast root h y x
 
 -- Both ends of an edge are events of the history.
 abbrev pub BothEndsOccur : Type 0

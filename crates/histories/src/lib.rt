@@ -4,7 +4,7 @@
 //! the values of an event say of the events in its past, and that the rules for steps are what they seem to be.
 #![tactic(auto)]
 
-ghost use Rattle.histories.specs.Law.{BeyondBirthIsSomeInPast, BeyondIsLaterInPast, BothEndsOccur, EachPointHasOneHolder, NothingFollowsRetirement, OwnEventsAreInOrder, ValuesNeverFall};
+ghost use Rattle.histories.specs.Law.{BeyondBirthIsSomeInPast, BeyondIsLaterInPast, BothEndsOccur, EachPointHasOneHolder, NothingFollowsRetirement, OwnEventsAreInOrder, OwnersLieOnOnePath, ValuesNeverFall};
 ghost use Rattle.histories.specs.Rules.{LookUpsAreEvents, RulesAreTheLaw};
 ghost use Rattle.histories.specs.Example.{a, every_step};
 ghost use Rattle.report_line.specs.History.{Name, History};
@@ -17,12 +17,14 @@ pub fn beyond_is_later_in_past()
 {}
 
 /// What every lawful history keeps: both ends of an edge occur, one process's events are in order, values never fall along
-/// edges, each point has one holder, and no event of a process follows its retirement.
+/// edges, each point has one holder, the events whose process owns it lie on one path, and no event of a process follows its
+/// retirement.
 pub fn order_of_events()
     ensures ends { BothEndsOccur }
     ensures own { OwnEventsAreInOrder }
     ensures rising { ValuesNeverFall }
     ensures holder { EachPointHasOneHolder }
+    ensures path { OwnersLieOnOnePath }
     ensures retirement { NothingFollowsRetirement }
 {}
 

@@ -1,7 +1,8 @@
--- The clauses are proved in `Later`, `Holders` and `Retiring`.
+-- The clauses are proved in `Later`, `Holders`, `Paths` and `Retiring`.
 use Rattle.std.proofs.Common.{sym}
 use Rattle.histories.proofs.Later.{own_past, past_up}
 use Rattle.histories.proofs.Holders.{each_point_has_one_holder}
+use Rattle.histories.proofs.Paths.{owners_lie_on_one_path}
 use Rattle.histories.proofs.Retiring.{from_occurs, none_after, to_occurs}
 use Rattle.histories.proofs.order_of_events.Goals as goal
 
@@ -19,3 +20,6 @@ returns-clause-retirement c root h d e q lawful occurs retires occurs_e of_one =
 
 pub returns-clause-ends : goal.returns-clause-ends
 returns-clause-ends c root h x y edge = (from_occurs edge, to_occurs edge)
+
+pub returns-clause-path : goal.returns-clause-path
+returns-clause-path c = owners_lie_on_one_path

@@ -1,37 +1,15 @@
-//! The command line, and the command `run`.
+//! The command `run`, over streams that fail.
 
 use chains::Chains;
-use recline::{Command, read_args, run_on, run_over};
+use recline::run_over;
 use session::Streams;
 use std::alloc::Global;
 use std::io::{self, BufWriter, Empty, ErrorKind, Read, Write};
 use std::test::Fail;
 
-const LINE_OF_A: &str =
-    "LINE {\"failed\":[\"a\"],\"front\":1,\"line\":[[\"a\",1]],\"reasons\":[]}\n";
-
 /// A writer behind a buffer, and nothing to read.
 fn sink_of<W: Write + Drop>(alloc: Global, writer: W) -> io::Result<Streams<Empty, W>> {
     Ok(Streams::new(io::empty(), BufWriter::new(alloc, writer)?))
-}
-
-/// The command, over streams that do not fail.
-#[test]
-fn runs(rt: HostRuntime) -> Result<(), Fail> {
-    for (length, output) in [(8192usize, "BAD 1\nOK 1\n"), (8193, "BAD 2\n")] {
-        let mut input = vec![in rt.alloc(); b'x'; length]?;
-        input.extend_from_slice(b"\nBEGIN a\nLINE a\n")?;
-        let written = BufWriter::new(rt.alloc(), Vec::new(rt.alloc()))?;
-        let mut client = Streams::new(input.as_slice(), written);
-        let mut faults = sink_of(rt.alloc(), Vec::new(rt.alloc()))?;
-        assert_eq!(rt; run_on(rt.alloc(), &mut client, &mut faults), 0);
-        let (_rest, written) = client.into_inner();
-        assert_eq!(rt; written.buffer().len(), 0);
-        let text: &[u8] = written.get_ref().as_slice();
-        assert!(rt; text.starts_with(output.as_bytes()));
-        assert_eq!(rt; text.ends_with(LINE_OF_A.as_bytes()), length == 8192);
-    }
-    Ok(())
 }
 
 /// A reader that gives a line, fails, and would then give another one.
@@ -115,33 +93,6 @@ fn a_failed_hand_on_ends_a_run(rt: HostRuntime) -> Result<(), Fail> {
         assert_eq!(rt; rest.len(), left);
         assert_eq!(rt; written.get_ref().writes, writes);
         assert_eq!(rt; written.get_ref().flushes, 1);
-    }
-    Ok(())
-}
-
-#[test]
-fn commands(rt: HostRuntime) -> Result<(), Fail> {
-    assert_eq!(rt; read_args(rt.alloc(), &["recline", "run"])?, Command::Run);
-    for (words, to_stderr, start) in [
-        (["recline", "--version"].as_slice(), false, "recline 0.1.0"),
-        (["recline", "--help"].as_slice(), false, "Says where"),
-        (
-            ["recline"].as_slice(),
-            true,
-            "error: 'recline' requires a subcommand",
-        ),
-        (
-            ["recline", "run", "records"].as_slice(),
-            true,
-            "error: unexpected argument 'records' found",
-        ),
-    ] {
-        let Err(fault) = read_args(rt.alloc(), words) else {
-            return Err("a usage fault".into());
-        };
-        assert_eq!(rt; fault.use_stderr(), to_stderr);
-        let text = format!(in rt.alloc(); "{fault}")?;
-        assert!(rt; text.as_str().starts_with(start), "{text}");
     }
     Ok(())
 }

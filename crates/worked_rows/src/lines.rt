@@ -1,4 +1,4 @@
-//! Lines, replies, and lines out of pieces.
+//! Replies, names as keys, and lines out of pieces.
 
 ghost use Rattle.std.specs.Prelude.{◌≡◌, Some, nat_eq, OnOk, IfOk, IfSome};
 ghost use Rattle.std.specs.Cmp.Lexicographic.{pointwise};
@@ -6,99 +6,9 @@ ghost use Rattle.indexmap.specs.IndexMap.{get};
 ghost use Rattle.report_line.specs.Replies.{IsWritten};
 
 use indexmap::IndexMap;
-use report_line::{
-    Call, Code, Feed, LineFault, Name, Outcome, Reply, Text, read_line, write_line, write_reply,
-};
+use report_line::{Code, Feed, Name, Outcome, Reply, Text, write_reply};
 use std::alloc::{AllocError, AllocFailed, Global};
-use std::process::Abort;
 use std::test::Fail;
-
-// Whether the text is read as a call; a report is written as it was read.
-fn is_call(rt: &impl Abort, alloc: Global, text: &str) -> Result<bool, LineFault> {
-    let read = read_line(alloc, text.as_bytes());
-    match &read {
-        Ok(Call::Report(report)) => {
-            let again = write_line(alloc, report)?;
-            assert_eq!(rt; again.as_slice(), text.as_bytes(), "{text}");
-            Ok(true)
-        }
-        Ok(_) => Ok(true),
-        Err(LineFault::Grammar) => Ok(false),
-        Err(LineFault::Memory) => Err(LineFault::Memory),
-    }
-}
-
-#[test]
-fn lines(rt: HostRuntime) -> Result<(), Fail> {
-    for (text, is) in [
-        ("BEGIN a", true),
-        ("BEGIN abcdefghijklmnopqrstuvwxyz-_0123", true),
-        ("BEGIN abcdefghijklmnopqrstuvwxyz-_01234", false),
-        ("BEGIN", false),
-        ("BEGIN ", false),
-        ("BEGIN 1a", false),
-        ("BEGIN a\r", false),
-        ("BEGIN a ", false),
-        (" BEGIN a", false),
-        ("begin a", false),
-        ("CHECK a 0 1;1", false),
-        ("CHECK a 01 1;1", false),
-        ("CHECK a 4294967296 1;1", false),
-        ("CHECK a +1 1;1", false),
-        ("CHECK  a 1 1;1", false),
-        ("CHECK a 1", false),
-        ("check a 1 1;1", false),
-        ("LINE -", true),
-        ("LINE a", true),
-        ("LINE b,a,b", true),
-        ("LINE", false),
-        ("LINE ", false),
-        ("LINE a,", false),
-        ("LINE ,a", false),
-        ("LINE a,-", false),
-        ("LINE a b", false),
-        ("STATE a", true),
-        ("STATE", false),
-        ("STATE a b", false),
-        ("BYE", true),
-        ("BYE ", false),
-        ("BYE now", false),
-        ("GARBAGE", false),
-        ("", false),
-    ] {
-        assert_eq!(rt; is_call(&rt, rt.alloc(), text)?, is, "{text}");
-    }
-    Ok(())
-}
-
-#[test]
-fn stamped_lines(rt: HostRuntime) -> Result<(), Fail> {
-    for (text, is) in [
-        ("CHECK a 1 1;1", true),
-        ("CHECK a-1 4294967295 (1,0);(0,1,0)", true),
-        ("CHECK a 1 1;(0,1,1)", false),
-        ("CHECK a 1 1;01", false),
-        ("CHECK a 1 (1,1);1", false),
-        ("CHECK a 1 1;1 ", false),
-        ("CHECK a 1 1;1 x", false),
-        ("CHECK a 1 1", false),
-        ("CHECK a 1 ", false),
-        ("CHECK a 1 1;1 b", false),
-        ("PRESENT a 3 (1,0);(1,3,0)", true),
-        ("FORK a 1 1;1 (1,0) b (0,1)", true),
-        ("FORK a 1 1;1 (1,0) b", false),
-        ("FORK a 1 1;1 (1,0) b (0,1) ", false),
-        ("FORK a 1 1;1 (1,1) b (0,1)", false),
-        ("FORK a 1 1;1 (1,0) 1b (0,1)", false),
-        ("RETIRE b 1 (0,1);(1,0,1) a", true),
-        ("RETIRE b 1 (0,1);(1,0,1)", false),
-        ("ABSORB a 2 1;2 b", true),
-        ("ABSORB a 2 1;2 b c", false),
-    ] {
-        assert_eq!(rt; is_call(&rt, rt.alloc(), text)?, is, "{text}");
-    }
-    Ok(())
-}
 
 #[test]
 fn refusals(rt: HostRuntime) -> Result<(), Fail> {

@@ -1,0 +1,60 @@
+//! What the words of the command line ask for.
+
+use std::num::NonZeroU32;
+
+/// Which tool is wanted.
+#[derive(Drop)]
+pub enum Command {
+    /// The measure of sessions.
+    Session,
+    /// The measure of clock operations.
+    Clocks,
+    /// The measure of certificates.
+    Certificate,
+    /// An answer to each line.
+    Calls,
+    /// Lines of reports.
+    Traffic(Stream),
+}
+
+/// Which lines are wanted.
+#[derive(Drop)]
+pub enum Stream {
+    /// As many reports of one process as are accepted, the last one once more, and one report more.
+    Limit,
+    /// So many forks.
+    Forks(u32),
+    /// So many reports of a family of so many processes, which send messages to one another.
+    Messages { processes: NonZeroU32, reports: u32 },
+}
+
+/// What the words ask for, of which the first is the program's name; nothing, where they are no command.
+pub fn read(words: &[String]) -> Option<Command> {
+    let (_program, words) = words.split_first()?;
+    let (tool, rest) = words.split_first()?;
+    match (tool.as_str(), rest) {
+        ("session", []) => Some(Command::Session),
+        ("clocks", []) => Some(Command::Clocks),
+        ("certificate", []) => Some(Command::Certificate),
+        ("calls", []) => Some(Command::Calls),
+        ("traffic", rest) => Some(Command::Traffic(stream_of(rest)?)),
+        _ => None,
+    }
+}
+
+fn stream_of(words: &[String]) -> Option<Stream> {
+    let (kind, numbers) = words.split_first()?;
+    match (kind.as_str(), numbers) {
+        ("limit", []) => Some(Stream::Limit),
+        ("forks", [forks]) => Some(Stream::Forks(number_of(forks.as_str())?)),
+        ("messages", [processes, reports]) => Some(Stream::Messages {
+            processes: NonZeroU32::new(number_of(processes.as_str())?)?,
+            reports: number_of(reports.as_str())?,
+        }),
+        _ => None,
+    }
+}
+
+fn number_of(word: &str) -> Option<u32> {
+    word.parse::<u32>().ok()
+}

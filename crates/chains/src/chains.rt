@@ -439,6 +439,23 @@ impl Chains {
         }
     }
 
+    /// The same of a shared report, which is not copied: between this and `commit` a caller may keep it elsewhere, too.
+    pub fn prepare_shared(&mut self, report: Shared<PackedReport>) -> Result<Prepared, No>
+        ensures same { held_of self.new ≡ held_of self.old }
+        ensures answer { Prepares (held_of self.old) report result }
+        ensures ready { IfOk result (λ prepared. IsReady prepared self.new) }
+    {
+        let number = self.number_in(&report);
+        match self.tested(&report, number) {
+            Err(refused) => Err(refused),
+            Ok(Verdict::Old) => Ok(Prepared::Old(self.front())),
+            Ok(Verdict::Fits) => match self.ready(report, number) {
+                Ok(ready) => Ok(Prepared::Ready(ready)),
+                Err(_) => Err(out_of_memory()),
+            },
+        }
+    }
+
     /// Accepts a report.
     fn accept(&mut self, ready: Ready)
         requires { MayBeAccepted self.old ready }
@@ -488,15 +505,8 @@ impl Chains {
     pub fn admit_shared(&mut self, report: Shared<PackedReport>) -> Result<Admitted, No>
         ensures turn { (fate : Fate) × IsDeviceFree fate × IsReportTurn fate (held_of self.old) report (reply_of result) (held_of self.new) }
     {
-        let number = self.number_in(&report);
-        match self.tested(&report, number) {
-            Err(refused) => Err(refused),
-            Ok(Verdict::Old) => Ok(Admitted::Old(self.front())),
-            Ok(Verdict::Fits) => match self.ready(report, number) {
-                Ok(ready) => Ok(self.commit(Prepared::Ready(ready))),
-                Err(_) => Err(out_of_memory()),
-            },
-        }
+        let prepared = self.prepare_shared(report)?;
+        Ok(self.commit(prepared))
     }
 }
 

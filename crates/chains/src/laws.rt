@@ -1,6 +1,6 @@
 //! Laws of accepted lists.
 
-ghost use Rattle.std.specs.Prelude.{◌≡◌, ◌∷◌, ◌++◌, List, Some};
+ghost use Rattle.std.specs.Prelude.{◌≡◌, ◌∷◌, ◌++◌, List, Some, map};
 ghost use Rattle.report_line.specs.declared.report.NumberedReport.{NumberedReport};
 ghost use Rattle.report_line.specs.declared.report.Report.{Report};
 ghost use Rattle.report_line.specs.declared.report.Report.TheVariants.{Numbered};
@@ -9,6 +9,7 @@ ghost use Rattle.report_line.specs.declared.reply.Reply.{Reply};
 ghost use Rattle.chains.specs.Held.{Held, counting};
 ghost use Rattle.chains.specs.Admission.{IsReachable, IsReached, IsAdmission, accepted_after};
 ghost use Rattle.chains.specs.Processes.{Name, reports_of, last_report};
+ghost use Rattle.chains.specs.Elements.{elements_of, element_made, makers_of};
 ghost use Rattle.chains.specs.Folded.{IsFit, IsFolded};
 ghost use Rattle.chains.specs.Turns.{IsTurn};
 ghost use Rattle.chains.specs.Laws.{ArePartsOfAll, NeverFall};
@@ -26,6 +27,11 @@ pub fn folded_lists_are_lawful()
     ensures numbered { (accepted : List Report) (p : Name) (r : NumberedReport) → IsFolded accepted → last_report p accepted ≡ Some (Numbered r) → r.number ≡ reports_of p accepted }
     ensures parts { (accepted : List Report) → IsFolded accepted → ArePartsOfAll accepted }
     ensures rising { (accepted : List Report) → IsFolded accepted → NeverFall accepted }
+{}
+
+/// The makers of a process's elements make just these, one each, in order.
+pub fn makers_make_the_elements()
+    ensures { (p : Name) (accepted : List Report) → map (element_made p) (makers_of p accepted) ≡ map (λ s. Some s) (elements_of p accepted) }
 {}
 
 /// From a list that admission reaches, whatever it replies to a report, it reaches what is accepted then; and so it is with

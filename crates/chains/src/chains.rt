@@ -127,7 +127,7 @@ impl Chains {
         let _reports = &self.reports;
     }
 
-    /// How many reports are accepted.
+    /// The front: how many reports are accepted.
     pub fn front(&self) -> u32
         ensures { result ≡ self.now.front }
     {

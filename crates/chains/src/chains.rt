@@ -801,7 +801,10 @@ fn nth_by<'a>(
 ) -> Option<&'a Shared<PackedReport>>
     ensures { option_copied result ≡ slice_get (reports_by name.now reports.now) k }
 {
-    reports.iter().filter(|r| is_numbered_of(r, name)).nth(k as usize)
+    reports
+        .iter()
+        .filter(|r| is_numbered_of(r, name))
+        .nth(k as usize)
 }
 
 /// The id of a process after its report.

@@ -25,4 +25,5 @@ pub mod Counting
 pub mod Listing
 pub mod Failing
 pub mod Showing
+pub mod Making
 pub mod Copying

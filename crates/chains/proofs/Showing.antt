@@ -1,13 +1,13 @@
 -- The elements of a process, one by one.
 use Rattle.std.proofs.Common.{◌≡◌, ◌≢◌, ℕ, zero, suc, ◌+◌, ◌<◌, List, [], ◌∷◌, ◌++◌, length, get_or, Option, Some, None, refl, sym, ap, ◌∙◌, arith, length-append}
-use Rattle.std.specs.Prelude.{slice_get, if◌then◌else◌}
+use Rattle.std.specs.Prelude.{filter, slice_get, if◌then◌else◌}
 use Rattle.std.specs.Option.{is_some}
 use Rattle.std.specs.List.{cons_option, filter_map}
 use Rattle.std.proofs.lemmas.Option.{same_Some, slice_get-get_or, slice_get_within, slice_get_past}
 use Rattle.stamp.specs.declared.stamp.Stamp.{Stamp}
 use Rattle.report_line.specs.declared.report.Report.{Report}
 use Rattle.chains.specs.Processes.{Name, last_report}
-use Rattle.chains.specs.Elements.{name_of, lasting_made, lasting_of, present_in, elements_of, elements}
+use Rattle.chains.specs.Elements.{name_of, lasting_made, makes_lasting, lasting_of, present_in, elements_of, elements}
 use Rattle.chains.specs.declared.process.Process.{Process}
 use Rattle.chains.specs.Keeping.{KeptProcess, indexes_from}
 use Rattle.chains.proofs.Keeps.{AreKept, looked_up}
@@ -22,16 +22,27 @@ pub record IsMadeAt {X Y : Type 0} (made : X → Option Y) (n : ℕ) (xs : List 
   pub offset : j ≡ n + place
   pub there : slice_get xs place ≡ Some source
   pub makes : made source ≡ slice_get ys k
+  pub among : Some source ≡ slice_get (filter (λ x. is_some (made x)) xs) k
 
-made_later : {X Y : Type 0} (made : X → Option Y) (n : ℕ) (x : X) (xs : List X) (ys zs : List Y) (k m j : ℕ) → slice_get ys k ≡ slice_get zs m → IsMadeAt made (suc n) xs ys k j → IsMadeAt made n (x ∷ xs) zs m j
-made_later made n x xs ys zs k m j same h = record { place = suc h.place; source = h.source; offset = omega (arith, h.offset); there = h.there; makes = h.makes ∙ same }
+made_later : {X Y : Type 0} (made : X → Option Y) (n : ℕ) (x : X) (xs : List X) (ys zs : List Y) (k m j : ℕ) → slice_get ys k ≡ slice_get zs m
+    → slice_get (filter (λ y. is_some (made y)) xs) k ≡ slice_get (filter (λ y. is_some (made y)) (x ∷ xs)) m → IsMadeAt made (suc n) xs ys k j → IsMadeAt made n (x ∷ xs) zs m j
+made_later made n x xs ys zs k m j same one h =
+    record { place = suc h.place; source = h.source; offset = omega (arith, h.offset); there = h.there; makes = h.makes ∙ same; among = h.among ∙ one }
+
+-- what is sifted of a list, by what is made of its first element
+sifted_by : {X Y : Type 0} (made : X → Option Y) (x : X) (xs : List X) (o : Option Y) → made x ≡ o
+    → (if is_some o then x ∷ filter (λ y. is_some (made y)) xs else filter (λ y. is_some (made y)) xs) ≡ filter (λ y. is_some (made y)) (x ∷ xs)
+sifted_by made x xs o is = rw is refl
 
 made_step : {X Y : Type 0} (made : X → Option Y) (n : ℕ) (x : X) (xs : List X) (k j : ℕ) (o : Option Y) → made x ≡ o
     → ((i : ℕ) → slice_get (indexes_from made (suc n) xs) i ≡ Some j → IsMadeAt made (suc n) xs (filter_map made xs) i j)
     → slice_get ((if is_some o then n ∷ [] else []) ++ indexes_from made (suc n) xs) k ≡ Some j → IsMadeAt made n (x ∷ xs) (cons_option o (filter_map made xs)) k j
-made_step made n x xs k j None is later at = made_later made n x xs (filter_map made xs) (filter_map made xs) k k j refl (later k at)
-made_step made n x xs zero j (Some y) is later at = record { place = 0; source = x; offset = omega (arith, same_Some n j at); there = refl; makes = is }
-made_step made n x xs (suc k) j (Some y) is later at = made_later made n x xs (filter_map made xs) (y ∷ filter_map made xs) k (suc k) j refl (later k at)
+made_step made n x xs k j None is later at =
+    made_later made n x xs (filter_map made xs) (filter_map made xs) k k j refl (ap (λ l. slice_get l k) (sifted_by made x xs None is)) (later k at)
+made_step made n x xs zero j (Some y) is later at =
+    record { place = 0; source = x; offset = omega (arith, same_Some n j at); there = refl; makes = is; among = ap (λ l. slice_get l 0) (sifted_by made x xs (Some y) is) }
+made_step made n x xs (suc k) j (Some y) is later at =
+    made_later made n x xs (filter_map made xs) (y ∷ filter_map made xs) k (suc k) j refl (ap (λ l. slice_get l (suc k)) (sifted_by made x xs (Some y) is)) (later k at)
 
 pub made_at : {X Y : Type 0} (made : X → Option Y) (n : ℕ) (xs : List X) (k j : ℕ) → slice_get (indexes_from made n xs) k ≡ Some j → IsMadeAt made n xs (filter_map made xs) k j
 made_at made n [] k j at = absurd cc
@@ -48,11 +59,18 @@ lasting_at accepted processes i k j p kept h is there lt at =
 pub source_within : (p : Name) (accepted : List Report) (k j : ℕ) → IsMadeAt (lasting_made p) 0 accepted (lasting_of p accepted) k j → j < length accepted
 source_within p accepted k j h = omega (arith, h.offset, slice_get_within accepted h.place h.source h.there)
 
-pub source_makes : (p : Name) (accepted : List Report) (k j : ℕ) (r : Report) → IsMadeAt (lasting_made p) 0 accepted (lasting_of p accepted) k j → r ≡ get_or accepted j r → lasting_made p r ≡ slice_get (lasting_of p accepted) k
-source_makes p accepted k j r h at =
+-- the report at the index is the source
+source_is : (p : Name) (accepted : List Report) (k j : ℕ) (r : Report) → (h : IsMadeAt (lasting_made p) 0 accepted (lasting_of p accepted) k j) → r ≡ get_or accepted j r → r ≡ h.source
+source_is p accepted k j r h at =
     let same : j ≡ h.place = omega (arith, h.offset) in
     let found = sym (slice_get-get_or accepted j r (source_within p accepted k j h)) ∙ ap (λ (m : ℕ). slice_get accepted m) same ∙ h.there in
-    ap (λ (x : Report). lasting_made p x) (at ∙ same_Some (get_or accepted j r) h.source found) ∙ h.makes
+    at ∙ same_Some (get_or accepted j r) h.source found
+
+pub source_makes : (p : Name) (accepted : List Report) (k j : ℕ) (r : Report) → IsMadeAt (lasting_made p) 0 accepted (lasting_of p accepted) k j → r ≡ get_or accepted j r → lasting_made p r ≡ slice_get (lasting_of p accepted) k
+source_makes p accepted k j r h at = ap (λ (x : Report). lasting_made p x) (source_is p accepted k j r h at) ∙ h.makes
+
+pub source_among : (p : Name) (accepted : List Report) (k j : ℕ) (r : Report) → IsMadeAt (lasting_made p) 0 accepted (lasting_of p accepted) k j → r ≡ get_or accepted j r → Some r ≡ slice_get (filter (makes_lasting p) accepted) k
+source_among p accepted k j r h at = ap (λ (x : Report). Some x) (source_is p accepted k j r h at) ∙ h.among
 
 -- ---- element k
 

@@ -1,7 +1,7 @@
 -- The elements of a process: what it can be returned to.
-use Rattle.std.specs.Prelude.{ℕ, zero, suc, Bool, List, [], ◌∷◌, ◌++◌, Option, Some, None, slice_get, if◌then◌else◌}
+use Rattle.std.specs.Prelude.{ℕ, zero, suc, Bool, List, [], ◌∷◌, ◌++◌, Option, Some, None, filter, slice_get, if◌then◌else◌}
 use Rattle.std.specs.List.{filter_map}
-use Rattle.std.specs.Option.{option_map_or}
+use Rattle.std.specs.Option.{option_map_or, is_some}
 use Rattle.std.specs.Str.{bytes_eq}
 use Rattle.id_tree.specs.IdTree.{One}
 use Rattle.event_tree.specs.EventTree.{Leaf}
@@ -11,7 +11,7 @@ use Rattle.report_line.specs.declared.report.Action.TheVariants.{Check, Present,
 use Rattle.report_line.specs.declared.report.NumberedReport.{NumberedReport}
 use Rattle.report_line.specs.declared.report.Report.{Report}
 use Rattle.report_line.specs.declared.report.Report.TheVariants.{Begin, Numbered}
-use Rattle.chains.specs.Processes.{Name, known, last_report}
+use Rattle.chains.specs.Processes.{Name, first_of, known, last_report}
 
 -- a thing where the test holds
 abbrev pub only_if : {X : Type 0} → Bool → X → Option X
@@ -48,6 +48,28 @@ present_in (Some (Numbered r)) = present_by r.stamp r.action
 -- until its next report. Each is seen as its id and events.
 abbrev pub elements_of : Name → List Report → List Stamp
 elements_of p accepted = lasting_of p accepted ++ present_in (last_report p accepted)
+
+-- whether a report makes a lasting element of p
+abbrev pub makes_lasting : Name → Report → Bool
+makes_lasting p r = is_some (lasting_made p r)
+
+-- the report, by its action, if that is a present state
+abbrev pub present_report_by : NumberedReport → Action → List Report
+present_report_by r Present = Numbered r ∷ []
+present_report_by r _ = []
+
+abbrev pub present_report : Option Report → List Report
+present_report None = []
+present_report (Some (Begin p)) = []
+present_report (Some (Numbered r)) = present_report_by r r.action
+
+-- the reports that made the elements of p, in the order of the elements
+abbrev pub makers_of : Name → List Report → List Report
+makers_of p accepted = filter (makes_lasting p) accepted ++ present_report (last_report p accepted)
+
+-- the element of p that a report makes: a lasting one, or the present state that it is
+abbrev pub element_made : Name → Report → Option Stamp
+element_made p r = first_of (lasting_made p r) (slice_get (present_in (Some r)) 0)
 
 -- the name of a process by its number, counted from 0 in order of birth
 abbrev pub name_of : List Report → ℕ → Option Name

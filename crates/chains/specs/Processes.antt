@@ -1,5 +1,5 @@
 -- What an accepted list says of processes. An accepted list has its reports in the order of their acceptance.
-use Rattle.std.specs.Prelude.{◌≡◌, ℕ, ◌+◌, Bool, false, List, [], ◌∷◌, Option, Some, None, count_by, Contains, if◌then◌else◌}
+use Rattle.std.specs.Prelude.{◌≡◌, ℕ, ◌+◌, Bool, false, List, [], ◌∷◌, Option, Some, None, count_by, filter, Contains, if◌then◌else◌}
 use Rattle.std.specs.List.{filter_map, list_any}
 use Rattle.std.specs.Option.{option_map_or}
 -- the first of two that is there
@@ -41,6 +41,10 @@ IsKnown accepted p = Contains (known accepted) p
 abbrev pub is_numbered_of : Name → Report → Bool
 is_numbered_of p (Begin q) = false
 is_numbered_of p (Numbered r) = bytes_eq p r.process
+
+-- the reports of p with a number, in order
+abbrev pub reports_by : Name → List Report → List Report
+reports_by p accepted = filter (is_numbered_of p) accepted
 
 -- how many reports with a number are accepted of p
 abbrev pub reports_of : Name → List Report → ℕ

@@ -64,12 +64,12 @@ IsReportTurn unknown held r reply after = Passes held r × (reply ≡ replies.Fa
 abbrev pub IsPlainTurn : Fate → Held → (Reply → Type 0) → Reply → Held → Type 0
 IsPlainTurn fate held Answers reply after = (fate ≡ fine) × Answers reply × (after ≡ held)
 
--- the same of a call that a stopped store refuses
+-- The same of a question, which a stopped store refuses; whether it is stopped stands in front for the cases.
 abbrev pub IsQuestionTurn : Bool → Fate → Held → (Reply → Type 0) → Reply → Held → Type 0
 IsQuestionTurn true fate held Answers reply after = IsPlainTurn fate held (λ x. x ≡ replies.Fail Stopped) reply after
 IsQuestionTurn false fate held Answers reply after = IsPlainTurn fate held Answers reply after
 
--- the reply to a report, whether the store is stopped or not
+-- the reply to a report, which a stopped store refuses
 abbrev pub IsReported : Bool → Fate → Held → AnyReport → Reply → Held → Type 0
 IsReported true fate held r reply after = IsPlainTurn fate held (λ x. x ≡ replies.Fail Stopped) reply after
 IsReported false fate held r reply after = IsReportTurn fate held r reply after

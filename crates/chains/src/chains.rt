@@ -1,12 +1,12 @@
 //! The accepted reports, and what they say of processes.
 
-ghost use Rattle.std.specs.Prelude.{◌≡◌, ◌≢◌, ◌≤◌, ◌<◌, ◌+◌, ◌∷◌, ◌++◌, ℕ, [], ⊤, IfOk, MatchResult, MatchOption, IsTrue, ◌↔◌, OnOk, List, Contains, length, slice_get, option_copied, Some, None, true, map, min, vec_len, vec_capacity, ◌-◌, ◌^◌, nat_eq, slice_index_or, slice_set};
+ghost use Rattle.std.specs.Prelude.{◌≡◌, ◌≢◌, ◌≤◌, ◌<◌, ◌+◌, ◌∷◌, ◌++◌, ℕ, [], ⊤, IfOk, MatchResult, MatchOption, IsTrue, ◌↔◌, OnOk, List, Contains, filter, length, slice_get, option_copied, Some, None, true, map, min, vec_len, vec_capacity, ◌-◌, ◌^◌, nat_eq, slice_index_or, slice_set};
 ghost use Rattle.std.specs.Option.{option_map};
 ghost use Rattle.report_line.specs.View.{action_of};
 ghost use Rattle.id_tree.specs.IdTree.{One};
 ghost use Rattle.event_tree.specs.EventTree.{Leaf};
-ghost use Rattle.chains.specs.Processes.{Name as AnyName, known, newborn, IsKnown, reports_of, last_report, birth_report, id_after, id_at_birth, events_after, registered_id, last_events, target_of, target_after, is_absorbed};
-ghost use Rattle.chains.specs.Elements.{name_of, element, elements, elements_of, lasting_of, lasting_made, present_in};
+ghost use Rattle.chains.specs.Processes.{Name as AnyName, known, newborn, IsKnown, reports_of, last_report, birth_report, id_after, id_at_birth, events_after, registered_id, last_events, target_of, target_after, is_absorbed, is_numbered_of, reports_by};
+ghost use Rattle.chains.specs.Elements.{name_of, element, elements, elements_of, lasting_of, lasting_made, makes_lasting, present_in, present_report, makers_of};
 ghost use Rattle.chains.specs.Stamps.{stamp_of};
 ghost use Rattle.chains.specs.Positions.{IsLastSurviving};
 ghost use Rattle.chains.specs.Knowledge.{events_at, retired_events};
@@ -127,7 +127,7 @@ impl Chains {
         let _reports = &self.reports;
     }
 
-    /// How many reports are accepted.
+    /// The front: how many reports are accepted.
     pub fn front(&self) -> u32
         ensures { result ≡ self.now.front }
     {
@@ -292,10 +292,44 @@ impl Chains {
     fn lasting_report(&self, process: u32, k: u32) -> &PackedReport
         requires process { process < length (known self.now.accepted) }
         requires within { (p : AnyName) → name_of self.now.accepted process ≡ Some p → k < length (lasting_of p self.now.accepted) }
-        ensures { (p : AnyName) → name_of self.now.accepted process ≡ Some p → lasting_made p result.now ≡ slice_get (lasting_of p self.now.accepted) k }
+        ensures makes { (p : AnyName) → name_of self.now.accepted process ≡ Some p → lasting_made p result.now ≡ slice_get (lasting_of p self.now.accepted) k }
+        ensures among { (p : AnyName) → name_of self.now.accepted process ≡ Some p → Some result.now ≡ slice_get (filter (makes_lasting p) self.now.accepted) k }
     {
         let index = self.processes[process as usize].lasting[k as usize];
         &self.reports[index as usize]
+    }
+
+    /// The report that made element k of a process, counted from 0. It takes no memory.
+    pub fn maker(&self, process: u32, k: u32) -> Option<&PackedReport>
+        requires { process < length (known self.now.accepted) }
+        ensures { (p : AnyName) → name_of self.now.accepted process ≡ Some p → option_copied result ≡ slice_get (makers_of p self.now.accepted) k }
+    {
+        let lasting = self.lasting_count(process);
+        if k < lasting {
+            Some(self.lasting_report(process, k))
+        } else if k == lasting {
+            if_present(self.last_report(process))
+        } else {
+            None
+        }
+    }
+
+    /// Report i of the accepted ones, counted from 0. It takes no memory.
+    pub fn report(&self, i: u32) -> Option<&PackedReport>
+        ensures { option_copied result ≡ slice_get self.now.accepted i }
+    {
+        at_index(&self.reports, i)
+    }
+
+    /// Report k with a number of a process, counted from 0. It goes over the accepted reports, and takes no memory.
+    pub fn report_by(&self, process: u32, k: u32) -> Option<&PackedReport>
+        requires { process < length (known self.now.accepted) }
+        ensures { (p : AnyName) → name_of self.now.accepted process ≡ Some p → option_copied result ≡ slice_get (reports_by p self.now.accepted) k }
+    {
+        match nth_by(&self.reports, self.name_of(process), k) {
+            None => None,
+            Some(report) => Some(report),
+        }
     }
 
     /// The events of a place: those of its element, or of the retirement. It takes no memory.
@@ -439,6 +473,23 @@ impl Chains {
         }
     }
 
+    /// The same of a shared report, which is not copied: between this and `commit` a caller may keep it elsewhere, too.
+    pub fn prepare_shared(&mut self, report: Shared<PackedReport>) -> Result<Prepared, No>
+        ensures same { held_of self.new ≡ held_of self.old }
+        ensures answer { Prepares (held_of self.old) report result }
+        ensures ready { IfOk result (λ prepared. IsReady prepared self.new) }
+    {
+        let number = self.number_in(&report);
+        match self.tested(&report, number) {
+            Err(refused) => Err(refused),
+            Ok(Verdict::Old) => Ok(Prepared::Old(self.front())),
+            Ok(Verdict::Fits) => match self.ready(report, number) {
+                Ok(ready) => Ok(Prepared::Ready(ready)),
+                Err(_) => Err(out_of_memory()),
+            },
+        }
+    }
+
     /// Accepts a report.
     fn accept(&mut self, ready: Ready)
         requires { MayBeAccepted self.old ready }
@@ -488,15 +539,8 @@ impl Chains {
     pub fn admit_shared(&mut self, report: Shared<PackedReport>) -> Result<Admitted, No>
         ensures turn { (fate : Fate) × IsDeviceFree fate × IsReportTurn fate (held_of self.old) report (reply_of result) (held_of self.new) }
     {
-        let number = self.number_in(&report);
-        match self.tested(&report, number) {
-            Err(refused) => Err(refused),
-            Ok(Verdict::Old) => Ok(Admitted::Old(self.front())),
-            Ok(Verdict::Fits) => match self.ready(report, number) {
-                Ok(ready) => Ok(self.commit(Prepared::Ready(ready))),
-                Err(_) => Err(out_of_memory()),
-            },
-        }
+        let prepared = self.prepare_shared(report)?;
+        Ok(self.commit(prepared))
     }
 }
 
@@ -711,6 +755,56 @@ fn element_present<'a>(last: Option<&'a PackedReport>) -> Option<Element<'a>>
             },
         },
     }
+}
+
+/// The last report of a process, if it is a present state.
+fn if_present(last: Option<&PackedReport>) -> Option<&PackedReport>
+    ensures { option_copied result ≡ slice_get (present_report (option_copied last.entry)) 0 }
+{
+    match last {
+        None => None,
+        Some(last) => match last.view() {
+            ReportView::Begin { .. } => None,
+            ReportView::Numbered(fields) => match fields.action {
+                ActionView::Present => Some(last),
+                _ => None,
+            },
+        },
+    }
+}
+
+/// Report i of these, counted from 0.
+fn at_index(reports: &[Shared<PackedReport>], i: u32) -> Option<&PackedReport>
+    ensures { option_copied result ≡ slice_get reports.now i }
+{
+    match reports.get(i as usize) {
+        None => None,
+        Some(report) => Some(report),
+    }
+}
+
+/// Whether the report is one of this process, with a number.
+fn is_numbered_of(report: &PackedReport, name: &Name) -> bool
+    ensures { result ≡ is_numbered_of name.now report.now }
+{
+    match report.view() {
+        ReportView::Begin { .. } => false,
+        ReportView::Numbered(fields) => name.as_bytes() == fields.process.as_bytes(),
+    }
+}
+
+/// Report k of this process among these, counted from 0.
+fn nth_by<'a>(
+    reports: &'a [Shared<PackedReport>],
+    name: &Name,
+    k: u32,
+) -> Option<&'a Shared<PackedReport>>
+    ensures { option_copied result ≡ slice_get (reports_by name.now reports.now) k }
+{
+    reports
+        .iter()
+        .filter(|r| is_numbered_of(r, name))
+        .nth(k as usize)
 }
 
 /// The id of a process after its report.

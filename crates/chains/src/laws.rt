@@ -1,6 +1,6 @@
 //! Laws of accepted lists.
 
-ghost use Rattle.std.specs.Prelude.{◌≡◌, ◌∷◌, ◌++◌, List, Some};
+ghost use Rattle.std.specs.Prelude.{◌≡◌, ◌+◌, ◌∷◌, ◌++◌, ℕ, List, Some, map, slice_get};
 ghost use Rattle.report_line.specs.declared.report.NumberedReport.{NumberedReport};
 ghost use Rattle.report_line.specs.declared.report.Report.{Report};
 ghost use Rattle.report_line.specs.declared.report.Report.TheVariants.{Numbered};
@@ -8,7 +8,8 @@ ghost use Rattle.report_line.specs.declared.call.Call.{Call};
 ghost use Rattle.report_line.specs.declared.reply.Reply.{Reply};
 ghost use Rattle.chains.specs.Held.{Held, counting};
 ghost use Rattle.chains.specs.Admission.{IsReachable, IsReached, IsAdmission, accepted_after};
-ghost use Rattle.chains.specs.Processes.{Name, reports_of, last_report};
+ghost use Rattle.chains.specs.Processes.{Name, reports_by, reports_of, last_report};
+ghost use Rattle.chains.specs.Elements.{elements_of, element_made, makers_of};
 ghost use Rattle.chains.specs.Folded.{IsFit, IsFolded};
 ghost use Rattle.chains.specs.Turns.{IsTurn};
 ghost use Rattle.chains.specs.Laws.{ArePartsOfAll, NeverFall};
@@ -18,14 +19,20 @@ pub fn reachable_lists_are_folded()
     ensures { (accepted : List Report) → IsReachable accepted → IsFolded accepted }
 {}
 
-/// What holds of each folded list: each report is fit behind those before it, the number of a process's last report is how many
-/// it has, the ids of live processes and of retirements that wait are parts of everything, and from one report of a process to
+/// What holds of each folded list: each report is fit behind those before it, the reports of a process are counted by their
+/// numbers, and that of the last one is how many there are, the ids of live processes and of retirements that wait are parts of everything, and from one report of a process to
 /// its next the events never fall.
 pub fn folded_lists_are_lawful()
     ensures fit { (accepted before after : List Report) (r : Report) → IsFolded accepted → accepted ≡ before ++ r ∷ after → IsFit before r }
+    ensures counted { (accepted : List Report) (p : Name) (k : ℕ) (r : NumberedReport) → IsFolded accepted → slice_get (reports_by p accepted) k ≡ Some (Numbered r) → r.number ≡ k + 1 }
     ensures numbered { (accepted : List Report) (p : Name) (r : NumberedReport) → IsFolded accepted → last_report p accepted ≡ Some (Numbered r) → r.number ≡ reports_of p accepted }
     ensures parts { (accepted : List Report) → IsFolded accepted → ArePartsOfAll accepted }
     ensures rising { (accepted : List Report) → IsFolded accepted → NeverFall accepted }
+{}
+
+/// The makers of a process's elements make just these, one each, in order.
+pub fn makers_make_the_elements()
+    ensures { (p : Name) (accepted : List Report) → map (element_made p) (makers_of p accepted) ≡ map (λ s. Some s) (elements_of p accepted) }
 {}
 
 /// From a list that admission reaches, whatever it replies to a report, it reaches what is accepted then; and so it is with

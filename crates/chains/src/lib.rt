@@ -17,7 +17,10 @@ mod tests;
 pub use chains::Chains;
 pub use elements::{Element, Elements};
 pub use failed::{Failed, FailedFault};
-pub use laws::{folded_lists_are_lawful, reachable_lists_are_folded, replies_keep_lists_reachable};
+pub use laws::{
+    folded_lists_are_lawful, makers_make_the_elements, reachable_lists_are_folded,
+    replies_keep_lists_reachable,
+};
 pub use places::{Line, Places};
 pub use position::{Place, Position};
 pub use prepared::{Prepared, Ready};

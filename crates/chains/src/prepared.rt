@@ -1,5 +1,7 @@
 //! A report between its tests and its acceptance.
 
+ghost use Rattle.std.specs.Prelude.{◌≡◌};
+
 use report_line::{PackedReport, Shared};
 use std::marker::Model;
 
@@ -24,6 +26,15 @@ impl Model for Ready {
     ghost view = { ready_in };
 
     ghost invariant = { HasBirthRoom };
+}
+
+impl Ready {
+    /// The report.
+    pub fn report(&self) -> &PackedReport
+        ensures { result.now ≡ self.now.report }
+    {
+        &self.report
+    }
 }
 
 /// What `Chains::prepare` answers, for `Chains::commit`.

@@ -1,7 +1,9 @@
 //! Reports in the shape in which they are kept.
 
-ghost use Rattle.std.specs.Prelude.{◌≡◌, ◌↔◌, IsTrue, IfOk};
+ghost use Rattle.std.specs.Prelude.{◌≡◌, ◌≢◌, ◌↔◌, Some, IsTrue, IfOk};
+ghost use Rattle.report_line.specs.declared.call.Call.TheVariants as calls;
 ghost use Rattle.report_line.specs.Reports.{process_of, number_of};
+ghost use Rattle.report_line.specs.Spelling.{IsAction, HasSpelling};
 ghost use Rattle.report_line.specs.View.{Shows, action_of, numbered_of};
 
 use crate::name::Name;
@@ -103,6 +105,27 @@ pub enum ReportView<'a> {
 }
 
 impl<'a> ActionView<'a> {
+    /// Tells a proof that what stands behind the stamp has a spelling.
+    fn known(self)
+        ensures { IsAction (action_of self.entry) }
+    {
+        match self {
+            ActionView::Check => {}
+            ActionView::Present => {}
+            ActionView::Fork(forked) => {
+                forked.kept.known();
+                let _name = forked.child.as_bytes();
+                forked.given.known();
+            }
+            ActionView::Retire { target } => {
+                let _name = target.as_bytes();
+            }
+            ActionView::Absorb { retired } => {
+                let _name = retired.as_bytes();
+            }
+        }
+    }
+
     /// Whether the two are one action.
     pub fn equal(self, other: ActionView<'a>) -> bool
         ensures { IsTrue result ↔ (action_of self.entry ≡ action_of other.entry) }
@@ -243,6 +266,22 @@ impl PackedReport {
                 stamp,
                 action: ActionView::Absorb { retired },
             }),
+        }
+    }
+
+    /// Tells a proof that the report has a line: of its fields only a number that is 0 is never written.
+    pub fn known(&self)
+        ensures { number_of self.now ≢ Some 0 → HasSpelling (calls.Report self.now) }
+    {
+        match self.view() {
+            ReportView::Begin { process } => {
+                let _name = process.as_bytes();
+            }
+            ReportView::Numbered(fields) => {
+                let _name = fields.process.as_bytes();
+                fields.stamp.known();
+                fields.action.known();
+            }
         }
     }
 

@@ -10,7 +10,7 @@ pub returns-then-k-lasting : goal.returns-then-k-lasting
 returns-then-k-lasting c =
     let there = named c.args.self.now.accepted c.args.process c.requires in
     shows_lasting c.args.self.now.accepted c.args.process c.args.k c.lasting_count-lasting.result there.0 c.lasting_report.result.now (stamp_of c.element_made.result) there.1
-    (c.lasting_count-lasting.ensures.count there.0 there.1) c.if-k-lasting.true (c.lasting_report.ensures there.0 there.1) (c.element_made.ensures there.0)
+    (c.lasting_count-lasting.ensures.count there.0 there.1) c.if-k-lasting.true (c.lasting_report.ensures.makes there.0 there.1) (c.element_made.ensures there.0)
 
 pub returns-then-k-lasting-2 : goal.returns-then-k-lasting-2
 returns-then-k-lasting-2 c =

@@ -1,4 +1,17 @@
-//! The calls of the libraries, a call a line.
+//! The calls of the libraries, a call a line. An answer is the value, or the name of the fault; `?` where a line is no call.
+//!
+//! - ids: `id I` (as it is written again), `owns_any I`, `disjoint I I`, `is_sum I I I` (whether the first is the sum of the
+//!   others), `split I`, `sum I I`;
+//! - event trees: `events E`, `leq E E`, `exceeds_on E E I`, `join E E`, `after_event I E`;
+//! - stamps: `first`, `stamp S`, `event S`, `peek S`, `fork S`, `receive S E`, `absorb S S`;
+//! - lines: `line TEXT` (a report as it is written again, `call` for another call); any line of a client gets its reply, over
+//!   the chains of the bench; `new` begins with fresh chains, `keep` keeps a copy of them, and `back` takes that again;
+//! - replies: `refusal CAUSE` (the refusal for this cause that names nothing);
+//! - places, a position being a number or `retired`: `knows NAME POSITION NAME POSITION`, `need NAME POSITION NAME`,
+//!   `last_known NAME POSITION NAME FROM TO`;
+//! - failed sets, `*` for all processes, `-` for none, or names parted by commas: `last_surviving NAME FAILED`,
+//!   `rounds FAILED`, `certificate FAILED`;
+//! - certificates: `read TEXT` (whether it is one), `write TEXT` (as it is written again), `check TEXT` (the verdict).
 
 mod answer;
 mod bench;
@@ -8,6 +21,7 @@ mod fault;
 mod ids;
 mod lines;
 mod processes;
+mod replies;
 mod stamps;
 
 use anyhow::Result;

@@ -6,38 +6,9 @@ ghost use Rattle.indexmap.specs.IndexMap.{get};
 ghost use Rattle.report_line.specs.Replies.{IsWritten};
 
 use indexmap::IndexMap;
-use report_line::{Code, Feed, Name, Outcome, Reply, Text, write_reply};
+use report_line::{Feed, Name, Outcome, Reply, Text, write_reply};
 use std::alloc::{AllocError, AllocFailed, Global};
 use std::test::Fail;
-
-#[test]
-fn refusals(rt: HostRuntime) -> Result<(), Fail> {
-    for (code, text) in [
-        (Code::UnknownProcess, "NO 3 - -"),
-        (Code::Ended, "NO 4 - -"),
-        (Code::WrongNumber, "NO 5 - -"),
-        (Code::WrongId, "NO 6 - -"),
-        (Code::NotGrown, "NO 7 - -"),
-        (Code::NameTaken, "NO 8 - -"),
-        (Code::WrongParts, "NO 9 - -"),
-        (Code::WrongTarget, "NO 10 - -"),
-        (Code::NotWaiting, "NO 11 - -"),
-        (Code::NotJoined, "NO 12 - -"),
-        (Code::OtherRoot, "NO 13 - -"),
-        (Code::NothingBegun, "NO 14 - -"),
-        (Code::Full, "NO 15 - -"),
-        (Code::OutOfMemory, "NO 16 - -"),
-    ] {
-        let reply = Reply::No {
-            code,
-            name: None,
-            value: None,
-        };
-        let written = write_reply(rt.alloc(), &reply)?;
-        assert_eq!(rt; written.as_slice(), text.as_bytes(), "{text}");
-    }
-    Ok(())
-}
 
 fn state(
     alloc: Global,

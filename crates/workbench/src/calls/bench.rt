@@ -1,7 +1,7 @@
 //! The chains that calls are made on.
 
 use super::fault::Fault;
-use super::{certificates, event_trees, ids, lines, processes, stamps};
+use super::{certificates, event_trees, ids, lines, processes, replies, stamps};
 use anyhow::Result as Answered;
 use chains::Chains;
 use std::alloc::Global;
@@ -44,6 +44,9 @@ impl Bench {
             return Ok(true);
         }
         if stamps::answer(alloc, words, out)? {
+            return Ok(true);
+        }
+        if replies::answer(alloc, words, out)? {
             return Ok(true);
         }
         processes::answer(&self.chains, words, out)

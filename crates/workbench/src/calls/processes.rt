@@ -58,7 +58,7 @@ pub fn failed_of(chains: &Chains, word: &str) -> Result<Failed, Fault> {
         Ok(failed) => Ok(failed),
         Err(FailedFault::Unknown(name)) => match str::from_utf8(name.as_bytes()) {
             Ok(name) => Err(unknown(chains.alloc(), name)),
-            Err(_) => Err(Fault::Grammar),
+            Err(_) => Err(Fault::Grammar), // No name comes here, since names are ASCII.
         },
         Err(FailedFault::Memory) => Err(Fault::Memory(AllocError)),
     }

@@ -7,7 +7,7 @@ use anyhow::Result;
 use chains::{Chains, Failed};
 use propagate::certificate;
 use reason_check::check;
-use reasons::{from_json, to_json};
+use reasons::{Certificate, from_json, to_json};
 use report_line::{Call, read_line};
 use std::alloc::Global;
 use std::io::Read;
@@ -28,50 +28,99 @@ fn chains_of(alloc: Global, input: &[u8]) -> Chains {
     chains
 }
 
-/// How long finding and writing takes, in microseconds, and the text.
-fn time_finding(rt: &HostRuntime, chains: &Chains) -> Result<(u64, String)> {
-    let start = Instant::now(rt)?;
+/// The certificate of the line where no process failed.
+fn text_of_line(chains: &Chains) -> Result<String> {
     let Ok(failed) = Failed::from_names(chains, &[]) else {
         anyhow::bail!("no failed set");
     };
-    let text = to_json(chains, &certificate(chains, &failed)?)?;
-    let took = start.elapsed(rt)?.as_micros();
-    Ok((u64::try_from(took)?, text))
+    let found = certificate(chains, &failed)?;
+    Ok(to_json(chains, &found)?)
 }
 
-/// How long reading takes, and how long the check, in microseconds; and the verdict.
-fn time_checking(rt: &HostRuntime, chains: &Chains, text: &str) -> Result<(u64, u64, Vec<u8>)> {
+/// What is read of the text.
+fn certificate_of(chains: &Chains, text: &str) -> Result<Certificate> {
+    match from_json(chains, text.as_bytes()) {
+        Ok(read) => Ok(read),
+        Err(fault) => anyhow::bail!("{fault}"),
+    }
+}
+
+/// How long each part takes, in microseconds.
+#[derive(Clone, Copy)]
+struct Times {
+    finding: u64,
+    reading: u64,
+    checking: u64,
+}
+
+/// How long finding and writing takes.
+fn time_finding(rt: &HostRuntime, chains: &Chains) -> Result<u64> {
     let start = Instant::now(rt)?;
-    let Ok(read) = from_json(chains, text.as_bytes()) else {
-        anyhow::bail!("not read");
-    };
+    let _text = text_of_line(chains)?;
+    Ok(u64::try_from(start.elapsed(rt)?.as_micros())?)
+}
+
+/// How long reading takes, and the check.
+fn time_checking(rt: &HostRuntime, chains: &Chains, text: &str) -> Result<(u64, u64)> {
+    let start = Instant::now(rt)?;
+    let read = certificate_of(chains, text)?;
     let reading = start.elapsed(rt)?.as_micros();
     let start = Instant::now(rt)?;
-    let verdict = check(chains, &read);
+    let _verdict = check(chains, &read);
     let checking = start.elapsed(rt)?.as_micros();
+    Ok((u64::try_from(reading)?, u64::try_from(checking)?))
+}
+
+/// The least time of each part in all runs.
+fn least_times(rt: &HostRuntime, chains: &Chains, text: &str) -> Result<Times> {
+    let mut least = Times {
+        finding: u64::MAX,
+        reading: u64::MAX,
+        checking: u64::MAX,
+    };
+    for _ in 0..RUNS {
+        least.finding = least.finding.min(time_finding(rt, chains)?);
+        let (reading, checking) = time_checking(rt, chains, text)?;
+        least.reading = least.reading.min(reading);
+        least.checking = least.checking.min(checking);
+    }
+    Ok(least)
+}
+
+/// Prints how long each part took.
+fn print_times(rt: &HostRuntime, front: u32, bytes: usize, times: Times) -> Result<()> {
+    let Times {
+        finding,
+        reading,
+        checking,
+    } = times;
+    eprintln!(rt;
+        "{front} reports, {bytes} bytes: finding and writing {finding}, reading {reading}, check {checking} microseconds"
+    )?;
+    Ok(())
+}
+
+/// Prints the verdict on the certificate of this text.
+fn print_verdict(rt: &HostRuntime, chains: &Chains, text: &str) -> Result<()> {
+    let read = certificate_of(chains, text)?;
     let mut said = Vec::new(rt.alloc());
-    verdict.write_to(&mut said)?;
-    Ok((u64::try_from(reading)?, u64::try_from(checking)?, said))
+    check(chains, &read).write_to(&mut said)?;
+    println!(rt; "{}", str::from_utf8(&said)?)?;
+    Ok(())
+}
+
+/// The chains of the lines on standard input.
+fn chains_read(rt: &HostRuntime) -> Result<Chains> {
+    let mut input = Vec::new(rt.alloc());
+    rt.reader().read_to_end(&mut input)?;
+    Ok(chains_of(rt.alloc(), &input))
 }
 
 /// Measures the certificate.
 pub fn measure_all(rt: &HostRuntime) -> Result<()> {
-    let mut input = Vec::new(rt.alloc());
-    rt.reader().read_to_end(&mut input)?;
-    let chains = chains_of(rt.alloc(), &input);
-    let (mut finding, text) = time_finding(rt, &chains)?;
-    let (mut reading, mut checking, said) = time_checking(rt, &chains, &text)?;
-    for _ in 1..RUNS {
-        finding = finding.min(time_finding(rt, &chains)?.0);
-        let (again, checked, _) = time_checking(rt, &chains, &text)?;
-        reading = reading.min(again);
-        checking = checking.min(checked);
-    }
-    let front = chains.front();
-    let bytes = text.len();
-    eprintln!(rt;
-        "{front} reports, {bytes} bytes: finding and writing {finding}, reading {reading}, check {checking} microseconds"
-    )?;
-    println!(rt; "{}", str::from_utf8(&said)?)?;
-    Ok(())
+    let chains = chains_read(rt)?;
+    let text = text_of_line(&chains)?;
+    let times = least_times(rt, &chains, text.as_str())?;
+    print_times(rt, chains.front(), text.len(), times)?;
+    print_verdict(rt, &chains, text.as_str())
 }

@@ -1,16 +1,11 @@
 -- When an accepted list agrees with a history.
 use Rattle.std.specs.Prelude.{◌≡◌, List, ◌++◌, Contains}
-use Rattle.std.specs.List.{filter}
 use Rattle.report_line.specs.declared.report.NumberedReport.{NumberedReport}
 use Rattle.report_line.specs.declared.report.Report.{Report}
 use Rattle.report_line.specs.declared.report.Report.TheVariants.{Begin, Numbered}
 use Rattle.report_line.specs.History.{Name, History, Event}
 use Rattle.report_line.specs.StepReports.{reports, IsReportOf}
-use Rattle.chains.specs.Processes.{is_numbered_of}
-
--- the reports of a process, in order; BEGIN is none of them
-abbrev pub reports_by : Name → List Report → List Report
-reports_by p rs = filter (is_numbered_of p) rs
+use Rattle.chains.specs.Processes.{reports_by}
 
 -- BEGIN names the root
 abbrev pub BeginsWith : Name → List Report → Type 0

@@ -9,13 +9,13 @@ use Rattle.std.proofs.lemmas.Option.{same_Some}
 use Rattle.report_line.specs.declared.report.NumberedReport.{NumberedReport}
 use Rattle.report_line.specs.declared.report.Report.{Report}
 use Rattle.report_line.specs.declared.report.Report.TheVariants.{Begin, Numbered}
-use Rattle.chains.specs.Processes.{is_numbered_of}
+use Rattle.chains.specs.Processes.{is_numbered_of, reports_by}
 use Rattle.report_line.specs.declared.step.Deed.{Deed}
 use Rattle.report_line.specs.declared.step.Deed.TheVariants.{Work, Check, Present, Send, Receive, Fork, Retire, Absorb}
 use Rattle.report_line.specs.declared.step.Step.{Step}
 use Rattle.report_line.specs.History.{Name, History, Event, event_of}
 use Rattle.report_line.specs.StepReports.{is_reported, reporting_steps, report_by, report_of, reports, IsReportOf, newest, earlier}
-use Rattle.chains.specs.Agrees.{reports_by, Agrees}
+use Rattle.chains.specs.Agrees.{Agrees}
 use Rattle.histories.proofs.Bytes.{bytes_same, bytes_are}
 use Rattle.histories.proofs.Status.{number_within}
 use Rattle.history_law.proofs.Listed.{in_cases, none_in, in_at, at_in, in_filter, filter_in, at_append, at_front}

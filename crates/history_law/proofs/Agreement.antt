@@ -12,9 +12,9 @@ use Rattle.report_line.specs.declared.report.Report.TheVariants.{Begin, Numbered
 use Rattle.report_line.specs.History.{Name, History, Event}
 use Rattle.report_line.specs.StepReports.{reports, IsReportOf}
 use Rattle.histories.proofs.Bytes.{bytes_same, bytes_are}
-use Rattle.chains.specs.Processes.{is_numbered_of, reports_of, next_number}
+use Rattle.chains.specs.Processes.{is_numbered_of, reports_of, next_number, reports_by}
 use Rattle.chains.specs.Folded.{IsFolded, nothing_folded, one_folded}
-use Rattle.chains.specs.Agrees.{reports_by, BeginsWith, AreFirstReports, Agrees, AreReportsOfSteps}
+use Rattle.chains.specs.Agrees.{BeginsWith, AreFirstReports, Agrees, AreReportsOfSteps}
 use Rattle.history_law.proofs.Listed.{at_in, filter_in, at_append}
 use Rattle.history_law.proofs.Agreeing.{in_reports, number_at}
 

@@ -8,7 +8,7 @@ use Rattle.std.proofs.lemmas.Slice.Eq.{bytes_eq-Decides}
 use Rattle.report_line.specs.declared.report.NumberedReport.{NumberedReport}
 use Rattle.report_line.specs.declared.report.Report.{Report}
 use Rattle.report_line.specs.declared.report.Report.TheVariants.{Begin, Numbered}
-use Rattle.chains.specs.Processes.{Name, is_numbered_of, reports_by, reports_of, next_number, last_report}
+use Rattle.chains.specs.Processes.{Name, is_numbered_of, reports_by, reports_of, last_report}
 use Rattle.chains.specs.Folded.{IsFitReport, IsFolded, nothing_folded, one_folded}
 use Rattle.chains.proofs.Stepping.{same_bytes, other_bytes, same_or_other, failing, own_report, other_report}
 use Rattle.chains.proofs.Accepting.{reports-push}

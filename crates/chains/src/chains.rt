@@ -5,7 +5,7 @@ ghost use Rattle.std.specs.Option.{option_map};
 ghost use Rattle.report_line.specs.View.{action_of};
 ghost use Rattle.id_tree.specs.IdTree.{One};
 ghost use Rattle.event_tree.specs.EventTree.{Leaf};
-ghost use Rattle.chains.specs.Processes.{Name as AnyName, known, newborn, IsKnown, reports_of, last_report, birth_report, id_after, id_at_birth, events_after, registered_id, last_events, target_of, target_after, is_absorbed, is_numbered_of, reports_by};
+ghost use Rattle.chains.specs.Processes.{Name as AnyName, known, newborn, IsKnown, reports_of, last_report, birth_report, id_after, id_at_birth, events_after, registered_id, last_events, target_of, target_after, is_absorbed, reports_by};
 ghost use Rattle.chains.specs.Elements.{name_of, element, elements, elements_of, lasting_of, lasting_made, makes_lasting, present_in, present_report, makers_of};
 ghost use Rattle.chains.specs.Stamps.{stamp_of};
 ghost use Rattle.chains.specs.Positions.{IsLastSurviving};
@@ -34,6 +34,7 @@ use crate::position::{Place, Position};
 use crate::prepared::{Prepared, Ready};
 use crate::process::Process;
 use crate::refusal::{Admitted, No};
+use crate::reports::{at_index, nth_by};
 use crate::state::State;
 use crate::tests::{Verdict, is_birth, out_of_memory};
 use event_tree::Events;
@@ -771,40 +772,6 @@ fn if_present(last: Option<&PackedReport>) -> Option<&PackedReport>
             },
         },
     }
-}
-
-/// Report i of these, counted from 0.
-fn at_index(reports: &[Shared<PackedReport>], i: u32) -> Option<&PackedReport>
-    ensures { option_copied result ≡ slice_get reports.now i }
-{
-    match reports.get(i as usize) {
-        None => None,
-        Some(report) => Some(report),
-    }
-}
-
-/// Whether the report is one of this process, with a number.
-fn is_numbered_of(report: &PackedReport, name: &Name) -> bool
-    ensures { result ≡ is_numbered_of name.now report.now }
-{
-    match report.view() {
-        ReportView::Begin { .. } => false,
-        ReportView::Numbered(fields) => name.as_bytes() == fields.process.as_bytes(),
-    }
-}
-
-/// Report k of this process among these, counted from 0.
-fn nth_by<'a>(
-    reports: &'a [Shared<PackedReport>],
-    name: &Name,
-    k: u32,
-) -> Option<&'a Shared<PackedReport>>
-    ensures { option_copied result ≡ slice_get (reports_by name.now reports.now) k }
-{
-    reports
-        .iter()
-        .filter(|r| is_numbered_of(r, name))
-        .nth(k as usize)
 }
 
 /// The id of a process after its report.

@@ -11,6 +11,7 @@ mod position;
 mod prepared;
 mod process;
 mod refusal;
+mod reports;
 mod state;
 mod tests;
 

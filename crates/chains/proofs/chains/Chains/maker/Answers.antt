@@ -1,6 +1,5 @@
 use Rattle.std.proofs.Common.{arith}
 use Rattle.std.specs.Prelude.{option_copied}
-use Rattle.chains.proofs.Keeps.{named}
 use Rattle.chains.proofs.Making.{maker_lasting, maker_present, maker_none}
 use Rattle.chains.proofs.chains.Chains.maker.Goals as goal
 

@@ -3,7 +3,7 @@ use borrow.Author.Tests.{tests}
 use Rattle.std.proofs.lemmas.Iterator.{YieldsList-from_slice}
 use Rattle.std.proofs.lemmas.Iterator.Consumers.{YieldsList-from_filter, nth_from_yields_List}
 use Rattle.chains.specs.Processes.{is_numbered_of}
-use Rattle.chains.proofs.chains.nth_by.Goals as goal
+use Rattle.chains.proofs.reports.nth_by.Goals as goal
 
 pub returns : goal.returns
 returns c =

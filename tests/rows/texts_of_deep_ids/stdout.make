@@ -1,11 +1,14 @@
-# The text of 40 levels as it was, and the two parts of the one of 39.
-deep() {
-    printf '(0,%.0s' $(seq "$1")
-    printf '%s' "$2"
-    printf ')%.0s' $(seq "$1")
-}
-echo "$(deep 40 1)"
+# The text of 40 levels as it was, and the parts of the ids that have some.
+printf '(0,%.0s' {1..40}
+printf 1
+printf ')%.0s' {1..40}
+echo
 echo TooDeep
 echo TooDeep
-echo "$(deep 39 '(1,0)') $(deep 39 '(0,1)')"
+
+open= close=
+for _ in {0..39}; do
+    echo "${open}(1,0)$close ${open}(0,1)$close"
+    open+='(' close+=',0)'
+done
 echo TooDeep

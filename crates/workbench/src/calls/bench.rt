@@ -2,7 +2,6 @@
 
 use super::fault::Fault;
 use super::{certificates, event_trees, ids, lines, processes, replies, stamps};
-use anyhow::Result as Answered;
 use chains::Chains;
 use std::alloc::Global;
 
@@ -82,7 +81,7 @@ impl Bench {
     }
 
     /// What is answered to a line: the value of the call, or the name of a fault; `?` where it is no call.
-    pub fn answer(&mut self, line: &[u8]) -> Answered<Vec<u8>> {
+    pub fn answer(&mut self, line: &[u8]) -> anyhow::Result<Vec<u8>> {
         let alloc = self.chains.alloc();
         let mut out = Vec::new(alloc);
         let Ok(line) = str::from_utf8(line) else {

@@ -58,16 +58,25 @@ fn time_plain_loop(rt: &HostRuntime, input: &[u8]) -> Result<u64> {
     Ok(u64::try_from(took)?)
 }
 
+/// How long a session takes, in microseconds.
+fn time_serving(
+    rt: &HostRuntime,
+    chains: &mut Chains,
+    client: &mut Streams<&[u8], Vec<u8>>,
+) -> Result<u64> {
+    let start = Instant::now(rt)?;
+    let replies = run_lines(chains, client).replies;
+    let took = start.elapsed(rt)?.as_micros();
+    anyhow::ensure!(replies == 16_384, "{replies} replies");
+    Ok(u64::try_from(took)?)
+}
+
 /// How long a session takes that serves the lines, in microseconds. Making the chains and dropping them is not counted.
 fn time_session(rt: &HostRuntime, input: &[u8]) -> Result<u64> {
     let mut chains = Chains::new(rt.alloc());
     let output = BufWriter::new(rt.alloc(), Vec::new(rt.alloc()))?;
     let mut client = Streams::new(input, output);
-    let start = Instant::now(rt)?;
-    let replies = run_lines(&mut chains, &mut client).replies;
-    let took = start.elapsed(rt)?.as_micros();
-    anyhow::ensure!(replies == 16_384, "{replies} replies");
-    Ok(u64::try_from(took)?)
+    time_serving(rt, &mut chains, &mut client)
 }
 
 /// How long both take in turn, in microseconds for all runs: the plain loop, and the sessions.

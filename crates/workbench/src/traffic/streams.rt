@@ -72,6 +72,19 @@ pub fn forks<W: Write>(alloc: Global, out: &mut W, forks: u32) -> Result<Vec<Pro
     Ok(family)
 }
 
+// A process forks a child, which is named by this index.
+fn forked<W: Write>(
+    alloc: Global,
+    out: &mut W,
+    process: &mut Process,
+    child: u32,
+) -> Result<Process> {
+    let name = member_name(alloc, child)?;
+    let (report, born) = process.fork(alloc, name)?;
+    put(alloc, out, &report)?;
+    Ok(born)
+}
+
 // Process `parent` forks process `child`.
 fn fork<W: Write>(
     alloc: Global,
@@ -80,12 +93,10 @@ fn fork<W: Write>(
     parent: u32,
     child: u32,
 ) -> Result<()> {
-    let name = member_name(alloc, child)?;
     let Some(process) = family.get_mut(parent as usize) else {
         bail!("there is no process {parent}");
     };
-    let (report, born) = process.fork(alloc, name)?;
-    put(alloc, out, &report)?;
+    let born = forked(alloc, out, process, child)?;
     family.push(born)?;
     Ok(())
 }

@@ -9,7 +9,7 @@ use session::{Kind, Link, put, run_lines};
 use std::alloc::Global;
 
 /// Writes a fault line and hands it on, as far as that can be done.
-fn tell<F: Link>(faults: &mut F, line: &[u8])
+pub(crate) fn tell<F: Link>(faults: &mut F, line: &[u8])
     ensures { Tells (F.told faults.old) (F.told faults.new) line.now }
 {
     let Ok(()) = put(faults, line) else {

@@ -216,8 +216,7 @@ script_named words m d none told name has =
     elim (asks_for_one words none) [
       | inl run ↦ absurd (two_names (sym (named words m (codes "run") run.0 told run.1) ∙ name))
       | inr drive ↦
-          (let same : drive.1 ≡ rows_of (found_of d) = same_rows drive.1 (rows_of (found_of d)) (sym (ap (option_map (λ p. p.1)) (told ∙ drive.2.1)) ∙ has) in
-          (
+          (let same : drive.1 ≡ rows_of (found_of d) = same_rows drive.1 (rows_of (found_of d)) (sym (ap (option_map (λ p. p.1)) (told ∙ drive.2.1)) ∙ has) in (
             drive.0,
             subst (λ (rows : List Row). Selects words (codes "drive") rows) same drive.2,
             first_value-rows (found_of d) (codes "SCRIPT") ∙ subst (λ (rows : List Row). first_of (codes "SCRIPT") rows ≡ Some drive.0) same drive.3,

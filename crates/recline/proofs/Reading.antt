@@ -1,5 +1,5 @@
 -- What reads gave of a script, one after the other.
-use Rattle.std.proofs.Common.{◌≡◌, ℕ, ◌+◌, List, [], ◌++◌, take, Option, Some, None, Ok, sym, ap, append_assoc, subst, ◌∙◌, arith}
+use Rattle.std.proofs.Common.{◌≡◌, ℕ, ◌+◌, List, ◌++◌, take, Option, Some, None, Ok, sym, ap, append_assoc, subst, ◌∙◌, arith}
 use Rattle.std.specs.Io.KnownBytes.{Consumes}
 use Rattle.session.specs.declared.link.LinkFault.{LinkFault}
 use Rattle.session.specs.Links.{up, LinkState, IsSound, IsRead}

@@ -24,9 +24,9 @@ fn command_line<'a>(alloc: Global) -> Result<Program<'a>, AllocError>
     let run = Program::new(alloc, "run").about(
         "Answers each line of standard input on standard output",
     );
-    let script = Arg::new(alloc, "SCRIPT")
-        .required(true)
-        .help("A file of steps, one a line, of which the first is 'root NAME'");
+    let script = Arg::new(alloc, "SCRIPT").required(true).help(
+        "A file of steps, one a line, of which the first is 'root NAME'",
+    );
     let drive = Program::new(alloc, "drive")
         .about("Stamps the steps of a script and prints the lines that report them")
         .arg(script)?;

@@ -1,7 +1,7 @@
 use Rattle.std.proofs.Common.{rules, ◌≡◌, ap, ap₂, ◌∙◌, true, codes}
 use Rattle.std.proofs.lemmas.Result.{IfOk-weaker}
-use Rattle.clap.specs.Words.{App, Rule, app_of, new_app, new_rule, rule_of, with_rule, with_subcommand}
-use Rattle.recline.specs.Arguments.{alone, drive, program, run}
+use Rattle.clap.specs.Words.{App, app_of, new_app, new_rule, rule_of, with_rule, with_subcommand}
+use Rattle.recline.specs.Arguments.{alone, drive, run}
 use Rattle.recline.proofs.args.command_line.Goals as goal
 
 pub returns : goal.returns

@@ -205,6 +205,16 @@ fn told(
     }
 }
 
+// A child that begins with this stamp.
+fn born(child: &Name, stamp: Stamp) -> Other
+    ensures { result ≡ record { name = child.now; known = Known.Lives stamp 0 } }
+{
+    Other {
+        name: child.copy(),
+        known: Known::Lives { stamp, reports: 0 },
+    }
+}
+
 // What a fork reports.
 fn forked(alloc: Global, kept: &Id, child: &Name, given: &Id) -> Result<Action, AllocError>
     ensures { IfOk result (λ a. a ≡ Action.Fork (record { kept = kept.now; child = child.now; given = given.now })) }
@@ -351,13 +361,7 @@ pub(crate) fn fork(
         child: child.copy(),
         given,
     };
-    let other = Other {
-        name: child.copy(),
-        known: Known::Lives {
-            stamp: begun,
-            reports: 0,
-        },
-    };
+    let other = born(child, begun);
     let own = stamp.copy(alloc)?;
     let after = Known::Lives {
         stamp: own,

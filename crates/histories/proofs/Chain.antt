@@ -147,7 +147,7 @@ has_top {root} start p e x t holds owned occurs =
 has_top {root} (next {h = h} {s = s} {before = b} lawful living allowed) p e x t holds owned occurs =
     top_next root h b s living allowed (one_holder lawful) (has_top lawful) p e x t holds owned occurs
 
--- EventKind is seen stays seen, and is seen along edges.
+-- What is seen stays seen, and is seen along edges.
 pub past_earlier : {root : Name} {h : History} {s : Step} {a b : Event} → IsInPast root h a b → IsInPast root (s ∷ h) a b
 past_earlier same = same
 past_earlier (along past edge) = along (past_earlier past) (earlier edge)

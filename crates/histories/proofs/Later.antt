@@ -121,7 +121,7 @@ own_past {root} (next {h = h} {s = s} {before = b} lawful living allowed) y z oc
           absurd (omega arith))
     ]
 
--- EventKind a receive and an absorption take over does not fall either.
+-- What a receive and an absorption take over does not fall either.
 received_up : (root : Name) (h : History) (b : Event) (s : Step) (m : Message) (e : Event) → IsAllowed root h b s (Receive m) → sending h m ≡ Some e
     → (t : Point) → value_at e.values t ≤ value_at s.stamp.events t
 received_up root h b s m e w sent t = grind (arith, cases_Bool, grown_up)

@@ -5,6 +5,7 @@ pub mod Chain
 pub mod Seen
 pub mod Later
 pub mod Holders
+pub mod Owners
 pub mod Retiring
 pub mod Rules
 pub mod Reported

@@ -1,5 +1,5 @@
 -- The event of the step whose report it is.
-use Rattle.std.proofs.Common.{◌≡◌, suc, ◌+◌, ◌≤◌, true, false, Some, [], ◌∷◌, refl, sym, ◌∙◌, ap, subst, arith}
+use Rattle.std.proofs.Common.{◌≡◌, suc, ◌+◌, ◌≤◌, ◌≢◌, true, false, Some, [], ◌∷◌, refl, sym, ◌∙◌, ap, subst, arith}
 use Rattle.std.specs.Prelude.{Bool, ◌&&◌}
 use Rattle.std.specs.Str.{bytes_eq}
 use Rattle.std.proofs.lemmas.Bool.{cond-true, cond-false, cases_Bool}
@@ -14,10 +14,11 @@ use Rattle.report_line.specs.declared.report.Report.TheVariants.{Begin, Numbered
 use Rattle.report_line.specs.declared.step.Deed.{Deed}
 use Rattle.report_line.specs.declared.step.Deed.TheVariants.{Work, Check, Present, Send, Receive, Fork, Retire, Absorb}
 use Rattle.report_line.specs.declared.step.Step.{Step}
-use Rattle.report_line.specs.History.{Name, History, Birth, Does, Event, event_of, birth_by}
+use Rattle.report_line.specs.History.{Name, History, Birth, Does, Event, event_of, birth_by, Unborn, status}
 use Rattle.report_line.specs.Events.{Occurs, step, birth, earlier}
 use Rattle.report_line.specs.StepReports.{is_reported, reporting_steps, report_by, report_of, IsReportOf, newest, earlier as before_step}
-use Rattle.histories.proofs.Bytes.{bytes_same}
+use Rattle.histories.proofs.Bytes.{bytes_same, bytes_other}
+use Rattle.histories.proofs.Status.{unborn_after}
 
 -- a step with this deed is reported so
 abbrev pub IsReportedAs : Step → Stamp → Deed → Action → Type 0
@@ -157,3 +158,17 @@ number_up_to root (s ∷ h) e r is =
       | of_step made event ↦ (let w = own_step h s s.deed r refl (says root h s r s.deed made) in let x = w.0 in let y = w.1 in omega arith)
       | of_earlier before ↦ (let w = number_up_to root h e r before in let more = steps_more r.process s h in omega arith)
     ]
+
+not_both : (a b : Bool) → a ≡ false → (a && b) ≡ false
+not_both a b is = grind (arith, cases_Bool)
+
+-- Another process's step is no report of this one.
+pub others_step : (p : Name) (s : Step) (h : History) → p ≢ s.process → reporting_steps p (s ∷ h) ≡ reporting_steps p h
+others_step p s h differs = cond-false _ _ _ (not_both _ _ (bytes_other p s.process differs))
+
+-- Who is not born has reported nothing.
+pub unborn_reports : (root : Name) (h : History) (p : Name) → status root h p ≡ Unborn → reporting_steps p h ≡ 0
+unborn_reports root [] p unborn = refl
+unborn_reports root (s ∷ h) p unborn =
+    let was = unborn_after root h s p unborn in
+    others_step p s h was.not_actor ∙ unborn_reports root h p was.before

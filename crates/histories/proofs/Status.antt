@@ -164,6 +164,11 @@ unborn_after root h s p unborn =
           record { before = there.0; not_actor = differs; not_child = there.1 })
     ]
 
+-- The root is born.
+pub root_born : (root : Name) (h : History) → status root h root ≢ Unborn
+root_born root [] unborn = (let both : Living (birth_of_root root) ≡ Unborn = sym (root_holds root) ∙ unborn in cc)
+root_born root (s ∷ h) unborn = root_born root h (unborn_after root h s root unborn).before
+
 -- The process of an event is born.
 pub is_born : {root : Name} {h : History} {y : Event} → Occurs root h y → status root h y.process ≢ Unborn
 is_born {root} root_birth unborn = (let both : Living (birth_of_root root) ≡ Unborn = sym (root_holds root) ∙ unborn in cc)
@@ -195,7 +200,7 @@ retired_by root (s ∷ h) p e q retired =
       | born differs forks event lives ↦ (let both : Living e ≡ Retired e q = sym lives ∙ retired in absurd (cc))
     ]
 
--- EventKind sent a message is an event, and a send.
+-- What sent a message is an event, and a send.
 pub sent_occurs : (root : Name) (h : History) (m : Message) (e : Event) → sending h m ≡ Some e → Occurs root h e
 unfolding sending
 sent_occurs root [] m e is = absurd (cc)

@@ -1,4 +1,4 @@
--- EventKind a lawful step does to values and to the points that an id owns.
+-- What a lawful step does to values and to the points that an id owns.
 use Rattle.std.proofs.Common.{◌≡◌, ◌<◌, ◌≤◌, ◌≢◌, Bool, true, false, ◌∷◌, Some, refl, sym, ◌∙◌, ap, subst, ◌⊎◌, inl, inr, arith}
 use Rattle.std.specs.Prelude.{◌||◌}
 use Rattle.std.proofs.lemmas.Bool.{cases_Bool, cases_lt}
@@ -108,7 +108,7 @@ module _ (root : Name) (h : History) (b : Event) (s : Step) (t : Point) (living 
   pub child_source : (c : Name) (i : IdTree) → s.deed ≡ Fork c i → Owns i t → Source root h s t
   child_source c i forks owned = own_source (child_by root h b s t c i (subst (λ (a : Deed). IsAllowed root h b s a) forks w) owned)
 
--- EventKind a fork asks.
+-- What a fork asks.
 pub fork_of : (root : Name) (h : History) (b : Event) (s : Step) (c : Name) (i : IdTree)
     → IsAllowed root h b s s.deed → s.deed ≡ Fork c i → IsLawfulFork root h b s c i
 fork_of root h b s c i w is = subst (λ (a : Deed). IsAllowed root h b s a) is w

@@ -1,14 +1,26 @@
 -- What words that a parse refuses for nothing ask for.
-use Rattle.std.proofs.Common.{◌≡◌, Bool, ℕ, true, false, is_some, Option, Some, None, List, [], ◌∷◌, refl, subst, codes, fold, true≢false}
+use Rattle.std.proofs.Common.{◌≡◌, ◌≢◌, Bool, ℕ, true, false, is_some, Option, Some, None, List, [], ◌∷◌, refl, subst, ap, codes, fold, true≢false, sym, ◌∙◌, ◌⊎◌, inl, inr}
 use Rattle.std.specs.Str.{bytes_eq}
 use Rattle.std.specs.Option.{option_map_or}
 use Rattle.std.proofs.lemmas.Slice.Eq.{bytes_eq-Decides}
 use Rattle.clap.specs.Lexer.{short_of}
 use Rattle.clap.specs.Kinds.{Kinds, or_else}
-use Rattle.clap.specs.Walk.{Held, Names, Outcome, Row, Rule, Step, Text, Waiting, Walk, after_flag, after_step, arg_by_index, arg_by_long, bundle, done, finished, idle, long_met, long_or_other, next, nothing_held, option, plain, plain_word, positional, refused, short_or_plain, subcommand, subcommand_met, subcommand_or_other, to_positional, trailing, value, waits, walk, walk_from, walked, walked_from, word_met}
+use Rattle.clap.specs.Walk.{Held, Names, Outcome, Row, Rule, Step, Text, Waiting, Walk, after_flag, after_step, arg_by_index, arg_by_long, bundle, done, finished, first_of, idle, long_met, long_or_other, next, nothing_held, option, plain, plain_word, positional, refused, rows_after, short_or_plain, subcommand, subcommand_met, subcommand_or_other, to_positional, trailing, value, waits, walk, walk_from, walked, walked_from, word_met}
 use Rattle.clap.specs.Simple.{App, Shape, argument_words, built, entered, names_of}
 use Rattle.clap.specs.Faults.{check_fault, entered_fault, fault_of, is_simple_and_free, level_fault, other_fault, settle_fault, turn_fault, walk_fault, word_fault}
-use Rattle.recline.specs.Arguments.{Selects, program, refusals}
+use Rattle.clap.specs.Simple.{HasMatchesOf, subcommand_of, subcommand_rows, subcommand_rows_of}
+use Rattle.clap.specs.Matches.{first_value, found_of, subcommand_name_of}
+use Rattle.clap.specs.Walk.{rows_of}
+use Rattle.clap.specs.declared.parser.matches.ArgMatches.{ArgMatches}
+use Rattle.clap.specs.declared.parser.matches.ArgMatches.TheViews.{out-ArgMatches, out-SubCommand}
+use Rattle.clap.specs.declared.parser.matches.SubCommand.{SubCommand}
+use Rattle.clap.proofs.WalkLemmas.{first_value-rows}
+use Rattle.std.specs.Prelude.{option_map, Box}
+use Rattle.std.specs.Box.{box_value}
+use Rattle.std.specs.Borrow.{Bor}
+use Rattle.recline.specs.declared.args.Command.TheVariants as commands
+use Rattle.recline.specs.Arguments.{AsksFor, Selects, program, refusals}
+use Rattle.recline.proofs.Given.{driving, script_given}
 
 none_first : (a b : Kinds) → or_else a b ≡ [] → a ≡ []
 none_first [] b e = refl
@@ -98,40 +110,132 @@ walk_stops s names w [] enabled none before = before
 walk_stops s names w (word ∷ rest) enabled none before =
     walk_stops s names (walked s.rules names w word) rest enabled (none_next _ _ none) (turn_stops s names w word enabled (none_first _ _ none) before)
 
--- a level that refuses nothing passes its walk and its last check
+-- a level that refuses nothing passes its walk and its last check, and so does what it entered
 level_passes : (s : Shape) (names : Names) (h : Held) (words : List Text) (has : Bool) (below : Kinds) → level_fault s names h words has below ≡ []
-    → (walk_fault s names (walk_from h) words ≡ []) × (check_fault s (finished s.rules (walk s.rules names h words).held) has ≡ [])
+    → (walk_fault s names (walk_from h) words ≡ []) × (below ≡ []) × (check_fault s (finished s.rules (walk s.rules names h words).held) has ≡ [])
 level_passes s names h words has below none =
     let entering = none_next (walk_fault s names (walk_from h) words) _ none in
     let settling = none_next below _ entering in
     let filling = none_next (settle_fault s.rules s.args_override_self (walk s.rules names h words).held) _ settling in
-    (none_first _ _ none, none_next _ _ filling)
+    (none_first _ _ none, none_first _ _ entering, none_next _ _ filling)
 
 -- a command is wanted
 wanted : (rows : List Row) (has : Bool) → check_fault (built program).top rows has ≡ [] → has ≡ true
 wanted rows true none = refl
 wanted rows false none = cc
 
--- and but for `help` there is one
-run_entered : (stop : Option (Text × List Text)) → is_help stop ≡ false → is_some (entered (built program) stop) ≡ true → (rows : List Row) × (entered (built program) stop ≡ Some (codes "run", rows))
-run_entered None other some = cc
-run_entered (Some p) other some = go (bytes_eq (codes "run") p.0) (bytes_eq (codes "help") p.0) refl refl
+-- and but for `help` there is one of the two; the words behind `drive` have the rows of its walk, and faults of their own
+abbrev EntersDrive : Option (Text × List Text) → Type 0
+EntersDrive stop =
+    (given : List Text) × (entered (built program) stop ≡ Some (codes "drive", rows_after driving.rules [] given))
+    × (entered_fault (built program) stop ≡ level_fault driving [] nothing_held given false [])
+
+abbrev EntersRun : Option (Text × List Text) → Type 0
+EntersRun stop = (rows : List Row) × (entered (built program) stop ≡ Some (codes "run", rows))
+
+one_entered : (stop : Option (Text × List Text)) → is_help stop ≡ false → is_some (entered (built program) stop) ≡ true → EntersRun stop ⊎ EntersDrive stop
+one_entered None other some = absurd (true≢false (sym some))
+one_entered (Some p) other some = go (bytes_eq (codes "run") p.0) (bytes_eq (codes "drive") p.0) (bytes_eq (codes "help") p.0) refl refl refl
   where
-    go : (run help : Bool) → bytes_eq (codes "run") p.0 ≡ run → bytes_eq (codes "help") p.0 ≡ help → (rows : List Row) × (entered (built program) (Some p) ≡ Some (codes "run", rows))
-    go true help r h = rw r (_, refl)
-    go false true r h = let same = (bytes_eq-Decides (codes "help") p.0).0 h in absurd (true≢false (rw (← same) at other))
-    go false false r h = let bad = rw (r, h) at some in cc
+    ran : bytes_eq (codes "run") p.0 ≡ true → EntersRun (Some p)
+    ran r = rw r (_, refl)
+
+    drove : bytes_eq (codes "run") p.0 ≡ false → bytes_eq (codes "drive") p.0 ≡ true → EntersDrive (Some p)
+    drove r d = rw (r, d) (p.1, refl, refl)
+
+    go : (run drive help : Bool) → bytes_eq (codes "run") p.0 ≡ run → bytes_eq (codes "drive") p.0 ≡ drive → bytes_eq (codes "help") p.0 ≡ help → EntersRun (Some p) ⊎ EntersDrive (Some p)
+    go true drive help r d h = inl (ran r)
+    go false true help r d h = inr (drove r d)
+    go false false true r d h = let same = (bytes_eq-Decides (codes "help") p.0).0 h in absurd (true≢false (rw (← same) at other))
+    go false false false r d h = absurd (true≢false (sym (rw (r, d, h) at some)))
 
 -- what was parsed as `program` was refused for nothing
 pub taken : (made : App) (words : List Text) → made ≡ program → (is_simple_and_free made ≡ true → fault_of made words ≡ []) → refusals words ≡ []
 taken made words same parsed = subst (λ (a : App). is_simple_and_free a ≡ true → fault_of a words ≡ []) same parsed refl
 
--- the words name `run`, the one command that there is
-pub asks_for_run : (words : List Text) → refusals words ≡ [] → (rows : List Row) × Selects words (codes "run") rows
-asks_for_run words none =
+-- the words name `run`, or `drive` and a script
+abbrev pub AsksForRun : List Text → Type 0
+AsksForRun words = (rows : List Row) × Selects words (codes "run") rows
+
+abbrev pub AsksForDrive : List Text → Type 0
+AsksForDrive words = (script : Text) × (rows : List Row) × Selects words (codes "drive") rows × (first_of (codes "SCRIPT") rows ≡ Some script)
+
+pub asks_for_one : (words : List Text) → refusals words ≡ [] → AsksForRun words ⊎ AsksForDrive words
+asks_for_one words none =
     let made = built program in
     let given = argument_words program words in
     let end = walk made.top.rules (names_of made) nothing_held given in
-    let passes = level_passes made.top (names_of made) nothing_held given (is_some (entered made end.stopped)) (entered_fault made end.stopped) none in
-    let run = run_entered end.stopped (walk_stops made.top (names_of made) (walk_from nothing_held) given refl passes.0 refl) (wanted (finished made.top.rules end.held) _ passes.1) in
-    (run.0, (none, run.1))
+    let has = is_some (entered made end.stopped) in
+    let passes = level_passes made.top (names_of made) nothing_held given has (entered_fault made end.stopped) none in
+    elim (one_entered end.stopped (walk_stops made.top (names_of made) (walk_from nothing_held) given refl passes.0 refl) (wanted (finished made.top.rules end.held) _ passes.2)) [
+      | inl run ↦ inl (run.0, (none, run.1))
+      | inr drive ↦
+          (let below = level_passes driving [] nothing_held drive.0 false [] (sym drive.2 ∙ passes.1) in
+          let script = script_given drive.0 below.2 in
+          inr (script.0, rows_after driving.rules [] drive.0, (none, drive.1), script.1))
+    ]
+
+-- ---- what a parse tells of them
+
+-- m tells the subcommand that the words name
+abbrev Tells : List Text → ArgMatches → Type 0
+Tells words m = subcommand_rows_of m ≡ subcommand_of program words
+
+pub tells : (made : App) (words : List Text) (m : ArgMatches) → made ≡ program → HasMatchesOf made words m → Tells words m
+tells made words m same has = (subst (λ (a : App). HasMatchesOf a words m) same has refl).1
+
+module _ {Z : Type 0} where
+  name_in : (o : Option (Box SubCommand Z)) → option_map (λ b. (out-SubCommand (box_value b)).name.now) o ≡ option_map (λ p. p.0) (subcommand_rows o)
+  name_in None = refl
+  name_in (Some b) = refl
+
+name_in_rows : (m : ArgMatches) → subcommand_name_of m ≡ option_map (λ p. p.0) (subcommand_rows_of m)
+name_in_rows m = name_in (out-ArgMatches m).subcommand
+
+named : (words : List Text) (m : ArgMatches) (name : Text) (rows : List Row) → Tells words m → Selects words name rows → subcommand_name_of m ≡ Some name
+named words m name rows told selects = name_in_rows m ∙ ap (option_map (λ p. p.0)) (told ∙ selects.1)
+
+pub asks_for_run : (words : List Text) (m : ArgMatches) → refusals words ≡ [] → Tells words m → subcommand_name_of m ≢ Some (codes "drive") → AsksForRun words
+asks_for_run words m none told other =
+    elim (asks_for_one words none) [
+      | inl run ↦ run
+      | inr drive ↦ absurd (other (named words m (codes "drive") drive.1 told drive.2))
+    ]
+
+two_names : Some (codes "run") ≡ Some (codes "drive") → ⊥
+two_names e = (let same : codes "run" ≡ codes "drive" = cc in true≢false (ap (λ (l : Text). bytes_eq l (codes "run")) same))
+
+same_rows : (xs ys : List Row) → Some xs ≡ Some ys → xs ≡ ys
+same_rows xs ys e = cc
+
+-- the rows of `drive` have a script
+pub script_named : (words : List Text) (m d : ArgMatches) → refusals words ≡ [] → Tells words m → subcommand_name_of m ≡ Some (codes "drive")
+    → option_map (λ p. p.1) (subcommand_rows_of m) ≡ Some (rows_of (found_of d))
+    → (script : Text) × Selects words (codes "drive") (rows_of (found_of d)) × (first_value (found_of d) (codes "SCRIPT") ≡ Some script)
+script_named words m d none told name has =
+    elim (asks_for_one words none) [
+      | inl run ↦ absurd (two_names (sym (named words m (codes "run") run.0 told run.1) ∙ name))
+      | inr drive ↦
+          (let same : drive.1 ≡ rows_of (found_of d) = same_rows drive.1 (rows_of (found_of d)) (sym (ap (option_map (λ p. p.1)) (told ∙ drive.2.1)) ∙ has) in (
+            drive.0,
+            subst (λ (rows : List Row). Selects words (codes "drive") rows) same drive.2,
+            first_value-rows (found_of d) (codes "SCRIPT") ∙ subst (λ (rows : List Row). first_of (codes "SCRIPT") rows ≡ Some drive.0) same drive.3,
+          ))
+    ]
+
+no_script : (o : Option (Bor Text)) (v : Option Text) (script : Text) → option_map (λ s. s.now) o ≡ v → v ≡ Some script → o ≢ None
+no_script None v script is some none = absurd (script_is (is ∙ some))
+  where
+    script_is : None ≡ Some script → ⊥
+    script_is e = cc
+no_script (Some s) v script is some none = cc
+
+pub some_script : (words : List Text) (m d : ArgMatches) (o : Option (Bor Text)) → refusals words ≡ [] → Tells words m → subcommand_name_of m ≡ Some (codes "drive")
+    → option_map (λ p. p.1) (subcommand_rows_of m) ≡ Some (rows_of (found_of d)) → option_map (λ s. s.now) o ≡ first_value (found_of d) (codes "SCRIPT") → o ≢ None
+some_script words m d o none told name has is = (let w = script_named words m d none told name has in no_script o _ w.0 is w.2)
+
+pub asks_for_drive : (words : List Text) (m d : ArgMatches) (script : Bor Text) → refusals words ≡ [] → Tells words m → subcommand_name_of m ≡ Some (codes "drive")
+    → option_map (λ p. p.1) (subcommand_rows_of m) ≡ Some (rows_of (found_of d)) → Some script.now ≡ first_value (found_of d) (codes "SCRIPT") → AsksFor words (commands.Drive script)
+asks_for_drive words m d script none told name has is =
+    let w = script_named words m d none told name has in
+    (rows_of (found_of d), w.1, sym (first_value-rows (found_of d) (codes "SCRIPT")) ∙ sym is)

@@ -1,7 +1,7 @@
 -- What the words of a command line ask for, in the terms of `clap`. The first word is the one that the program was called
 -- by.
 use Rattle.std.specs.Prelude.{◌≡◌, true, List, [], Some, codes}
-use Rattle.clap.specs.Words.{App, Kinds, Row, Text, fault_of, new_app, subcommand_of, with_subcommand}
+use Rattle.clap.specs.Words.{App, Kinds, Row, Text, fault_of, first_of, new_app, new_rule, subcommand_of, with_rule, with_subcommand}
 use Rattle.clap.specs.Simple.{on_top}
 use Rattle.recline.specs.declared.args.Command.{Command}
 use Rattle.recline.specs.declared.args.Command.TheVariants as commands
@@ -10,13 +10,17 @@ use Rattle.recline.specs.declared.args.Command.TheVariants as commands
 abbrev pub run : App
 run = new_app (codes "run")
 
+-- the command `drive`, which takes the path of a script
+abbrev pub drive : App
+drive = with_rule (new_app (codes "drive")) (record (new_rule (codes "SCRIPT")) { required = true })
+
 -- the program by itself: it has a version, and one of its commands is wanted
 abbrev pub alone : App
 alone = on_top (λ s. record s { has_version = true; subcommand_required = true }) (new_app (codes "recline"))
 
 -- the program with its commands
 abbrev pub program : App
-program = with_subcommand alone run.top
+program = with_subcommand (with_subcommand alone run.top) drive.top
 
 -- the kinds of refusal that the words may get, none where they are taken; help and the version are refusals, too
 abbrev pub refusals : List Text → Kinds
@@ -29,3 +33,5 @@ Selects words name rows = (refusals words ≡ []) × (subcommand_of program word
 -- the words ask for the command
 abbrev pub AsksFor : List Text → Command → Type 0
 AsksFor words commands.Run = (rows : List Row) × Selects words (codes "run") rows
+AsksFor words (commands.Drive script) =
+    (rows : List Row) × Selects words (codes "drive") rows × (first_of (codes "SCRIPT") rows ≡ Some script.now)

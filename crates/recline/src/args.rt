@@ -4,15 +4,17 @@ ghost use Rattle.std.specs.Prelude.{◌≡◌, IfOk, map};
 ghost use Rattle.clap.specs.Words.{FailsBy, app_of};
 ghost use Rattle.recline.specs.Arguments.{AsksFor, program, refusals};
 
-use clap::{Command as Program, Error};
+use clap::{Arg, Command as Program, Error};
 use std::alloc::{AllocError, Global};
 use std::convert::AsStr;
 
 /// What the program is asked to do.
 #[derive(Clone, Copy, Debug, PartialEq, Eq)]
-pub enum Command {
+pub enum Command<'a> {
     /// Answers the lines of standard input.
     Run,
+    /// Drives a world by the script of this path.
+    Drive { script: &'a str },
 }
 
 /// The command line, with the texts of its help.
@@ -22,22 +24,35 @@ fn command_line<'a>(alloc: Global) -> Result<Program<'a>, AllocError>
     let run = Program::new(alloc, "run").about(
         "Answers each line of standard input on standard output",
     );
+    let script = Arg::new(alloc, "SCRIPT").required(true).help(
+        "A file of steps, one a line, of which the first is 'root NAME'",
+    );
+    let drive = Program::new(alloc, "drive")
+        .about("Stamps the steps of a script and prints the lines that report them")
+        .arg(script)?;
     Program::new(alloc, "recline")
         .bin_name("recline")?
         .version("0.1.0")
         .about("Says where processes that failed have to recover from")
         .subcommand_required(true)
-        .subcommand(run)
+        .subcommand(run)?
+        .subcommand(drive)
 }
 
 /// The command that the words ask for, after the word that the program was called by. Help and the version are errors,
 /// too; `clap::Error` says where its text goes and with which status. Words that ask for a command are refused for want of
 /// memory alone.
-pub fn read_args<'a, S: AsStr>(alloc: Global, words: &'a [S]) -> Result<Command, Error>
+pub fn read_args<'a, S: AsStr>(alloc: Global, words: &'a [S]) -> Result<Command<'a>, Error>
     ensures asked { IfOk result (λ command. AsksFor (map S.text words.entry.now) command) }
     ensures refused { FailsBy (refusals (map S.text words.entry.now)) result }
 {
     let program = command_line(alloc)?;
-    let _matches = program.try_get_matches_from(words)?;
-    Ok(Command::Run)
+    let matches = program.try_get_matches_from(words)?;
+    let Some(driving) = matches.subcommand_matches("drive") else {
+        return Ok(Command::Run);
+    };
+    match driving.get_str("SCRIPT") {
+        Some(script) => Ok(Command::Drive { script }),
+        None => unreachable!(),
+    }
 }

@@ -1,7 +1,8 @@
 //! The command `run`.
 
 ghost use Rattle.std.specs.Prelude.{◌≡◌, []};
-ghost use Rattle.chains.specs.Held.{Held, held_of, counting};
+ghost use Rattle.chains.specs.Kept.{Kept};
+ghost use Rattle.chains.specs.Held.{held_of, counting};
 ghost use Rattle.recline.specs.Outcome.{Runs, Tells, fault_line, status_of};
 
 use chains::Chains;
@@ -9,7 +10,7 @@ use session::{Kind, Link, put, run_lines};
 use std::alloc::Global;
 
 /// Writes a fault line and hands it on, as far as that can be done.
-fn tell<F: Link>(faults: &mut F, line: &[u8])
+pub(crate) fn tell<F: Link>(faults: &mut F, line: &[u8])
     ensures { Tells (F.told faults.old) (F.told faults.new) line.now }
 {
     let Ok(()) = put(faults, line) else {
@@ -54,7 +55,8 @@ pub fn run_over<K: Link, F: Link>(chains: &mut Chains, client: &mut K, faults: &
 
 /// The command `run`: `run_over` over fresh chains.
 pub fn run_on<K: Link, F: Link>(alloc: Global, client: &mut K, faults: &mut F) -> u8
-    ensures { (after : Held) × Runs K.told F.told client.old client.new faults.old faults.new (counting []) after result }
+    // What chains hold is never stopped, so no device fails in a turn of it.
+    ensures { (after : Kept) × Runs K.told F.told client.old client.new faults.old faults.new (counting []) (held_of after) result }
 {
     let mut chains = Chains::new(alloc);
     run_over(&mut chains, client, faults)

@@ -3,10 +3,11 @@
 
 use clap::Error;
 use clap::error::ErrorKind;
-use recline::{Command, read_args, run_on};
+use recline::{Command, drive_on, read_args, run_on};
 use session::Streams;
 use std::env;
-use std::io::{self, BufWriter};
+use std::fs::File;
+use std::io::{self, BufWriter, Read};
 use std::process::ExitCode;
 
 /// The words of the command line.
@@ -48,27 +49,42 @@ fn show(rt: &HostRuntime, error: &Error) -> u8 {
     }
 }
 
-/// Answers the lines of standard input. Fault lines are written through at once.
-fn run(rt: &HostRuntime) -> u8 {
+/// Does the command over this input and standard output. Fault lines are written through at once.
+fn act<R: Read + Drop>(rt: &HostRuntime, command: Command<'_>, input: R) -> u8 {
     let Ok(output) = BufWriter::new(rt.alloc(), rt.stdout()) else {
         return fault(rt, "memory");
     };
     let Ok(errors) = BufWriter::with_capacity(rt.alloc(), 0, rt.stderr()) else {
         return fault(rt, "memory");
     };
-    let mut client = Streams::new(rt.reader(), output);
+    let mut client = Streams::new(input, output);
     let mut faults = Streams::new(io::empty(), errors);
-    let status = run_on(rt.alloc(), &mut client, &mut faults);
+    let status = match command {
+        Command::Run => run_on(rt.alloc(), &mut client, &mut faults),
+        Command::Drive { .. } => drive_on(rt.alloc(), &mut client, &mut faults),
+    };
     let (_input, output) = client.into_inner();
     // What could not be handed on is not tried once more, as it would be where the buffer is dropped.
     let (_stdout, _unwritten) = output.into_parts();
     status
 }
 
+/// Does the command over the file of this path.
+fn act_on(rt: &HostRuntime, command: Command<'_>, path: &str) -> u8 {
+    match File::open(rt, path) {
+        Ok(file) => act(rt, command, file),
+        Err(error) => match error.kind() {
+            io::ErrorKind::OutOfMemory => fault(rt, "memory"),
+            _ => fault(rt, "device"),
+        },
+    }
+}
+
 fn main(rt: HostRuntime) -> ExitCode {
     let status = match words_of(&rt) {
         Ok(words) => match read_args(rt.alloc(), &words) {
-            Ok(Command::Run) => run(&rt),
+            Ok(Command::Run) => act(&rt, Command::Run, rt.reader()),
+            Ok(Command::Drive { script }) => act_on(&rt, Command::Drive { script }, script),
             Err(error) => show(&rt, &error),
         },
         Err(error) => unread(&rt, &error),

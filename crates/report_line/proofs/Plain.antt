@@ -28,11 +28,11 @@ Lacks-name c (b ∷ bs) fails first is =
     let inner = and_both (is_letter b) (nat_le (length bs) 31) outer.0 in
     (passes_other is_letter b c inner.0 first, Lacks-passing is_name_byte c bs fails outer.1)
 
-byte_32 : is_name_byte 32 ≡ false
+pub byte_32 : is_name_byte 32 ≡ false
 unfolding is_name_byte is_letter
 byte_32 = refl
 
-letter_32 : is_letter 32 ≡ false
+pub letter_32 : is_letter 32 ≡ false
 unfolding is_letter
 letter_32 = refl
 

@@ -1,4 +1,4 @@
--- Working definitions: a line as the words that its spaces part.
+-- A line as the words that its spaces part.
 use Rattle.std.specs.Prelude.{◌≡◌, ℕ, ◌==◌, false, List, [], ◌∷◌, ◌++◌, Option, Some, None}
 use Rattle.std.specs.List.{AllByRecursion, slice_split}
 use Rattle.std.specs.Borrow.{Bor}

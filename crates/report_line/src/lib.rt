@@ -33,4 +33,5 @@ pub use report::{Action, Forked, NumberedReport, Report};
 pub use shared::Shared;
 pub use step::{Deed, Step};
 pub use text::Text;
+pub use words::Words;
 pub use writing::{write_line, write_reply};

@@ -15,7 +15,7 @@ pub(crate) fn cut_once(byte: u8, bytes: &[u8]) -> Option<(&[u8], &[u8])>
 
 /// The words that are left of a line.
 #[derive(Drop)]
-pub(crate) struct Words<'a> {
+pub struct Words<'a> {
     rest: Option<&'a [u8]>,
 }
 
@@ -30,7 +30,7 @@ impl<'a> Model for Words<'a> {
 
 impl<'a> Words<'a> {
     /// The words of the line, parted by single spaces.
-    pub(crate) fn of(line: &'a [u8]) -> Words<'a>
+    pub fn of(line: &'a [u8]) -> Words<'a>
         ensures { result ≡ words_in line.now }
     {
         Words { rest: Some(line) }
@@ -38,7 +38,7 @@ impl<'a> Words<'a> {
 
     /// Whether no word is left.
     #[tactic(auto, using(crate::proofs::Parting::some_word))]
-    pub(crate) fn is_empty(&self) -> bool
+    pub fn is_empty(&self) -> bool
         ensures { IsTrue result ↔ (self.now ≡ []) }
     {
         match self.rest {
@@ -48,7 +48,7 @@ impl<'a> Words<'a> {
     }
 
     /// The next word.
-    pub(crate) fn next(&mut self) -> Option<&'a [u8]>
+    pub fn next(&mut self) -> Option<&'a [u8]>
         ensures { MatchOption result (self.old ≡ []) (λ word. self.old ≡ word.now ∷ self.new) }
     {
         let rest = self.rest?;

@@ -17,6 +17,6 @@ pub use kind::{Kind, SessionEnd};
 pub use laws::{
     exchanges_keep_lists_reachable, exchanges_tell_what_is_accepted, served_without_a_device,
 };
-pub use link::{Link, LinkFault, put};
+pub use link::{Link, LinkFault, put, put_all};
 pub use session::run_lines;
 pub use streams::Streams;

@@ -54,7 +54,7 @@ pub fn put<K: Link>(link: &mut K, bytes: &[u8]) -> Result<(), LinkFault>
 }
 
 /// Writes the pieces, one after the other.
-pub(crate) fn put_all<K: Link>(link: &mut K, pieces: &[&[u8]]) -> Result<(), LinkFault>
+pub fn put_all<K: Link>(link: &mut K, pieces: &[&[u8]]) -> Result<(), LinkFault>
     ensures { Puts (K.told link.old) (K.told link.new) result (flat_map (λ p. p.now) pieces.now) }
 {
     for piece in pieces {

@@ -1,0 +1,4 @@
+pub mod Verdicts
+pub mod Owners
+pub mod Made
+pub mod Sound

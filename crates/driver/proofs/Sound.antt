@@ -1,0 +1,217 @@
+-- What is kept stays in step with the history.
+use Rattle.std.proofs.Common.{◌≡◌, ◌≢◌, ℕ, suc, ◌+◌, Bool, true, false, Option, Some, None, [], ◌∷◌, ◌++◌, refl, sym, ◌∙◌, ap, subst, inl, inr, arith}
+use Rattle.std.specs.Prelude.{if◌then◌else◌, ◌&&◌, reverse}
+use Rattle.std.specs.Str.{bytes_eq}
+use Rattle.std.proofs.lemmas.Bool.{cases_Bool, cond-true, cond-false, true≢false}
+use Rattle.id_tree.specs.IdTree.{IdTree, One}
+use Rattle.stamp.specs.declared.stamp.Stamp.{Stamp}
+use Rattle.event_tree.specs.EventTree.{EventTree, Leaf}
+use Rattle.report_line.specs.declared.step.Deed.{Deed}
+use Rattle.report_line.specs.declared.step.Deed.TheVariants.{Work, Check, Present, Send, Receive, Fork, Retire, Absorb}
+use Rattle.report_line.specs.declared.step.Step.{Step as Taken}
+use Rattle.report_line.specs.History.{Name, History, Event, Status, Unborn, Living, Absorbed, status_of_actor, status_of_other, status, event_of, birth_by, sends, sending, birth_of_root}
+use Rattle.std.proofs.lemmas.List.{reverse-append}
+use Rattle.indexmap.specs.IndexMap.{get}
+use Rattle.report_line.specs.Lawful.{IsAllowed, IsLawful, start, next}
+use Rattle.report_line.specs.StepReports.{is_reported, reporting_steps}
+use Rattle.histories.proofs.Bytes.{bytes_same, bytes_other, bytes_are}
+use Rattle.histories.proofs.Status.{status_acts, status_others}
+use Rattle.histories.proofs.Reported.{unborn_reports}
+use Rattle.histories.proofs.Steps.{fork_of}
+use Rattle.driver.specs.declared.known.Known.{Known}
+use Rattle.driver.specs.declared.known.Known.TheVariants.{Lives, Gone}
+use Rattle.driver.specs.declared.tables.Tables.{Tables}
+use Rattle.driver.specs.declared.tables.Other.{Other}
+use Rattle.driver.specs.declared.tables.Sent.{Sent}
+use Rattle.driver.specs.declared.tables.Made.{Made}
+use Rattle.driver.specs.Making.{IsReady, Adds}
+use Rattle.driver.specs.Tables.{AreSound, history_in, shown, carried, kept_of_actor, kept_of_other, kept_of_message, noted_other, noted_message}
+
+-- the stamp 1;0
+abbrev pub first_stamp : Stamp
+first_stamp = record { id = One; events = Leaf 0 }
+
+-- names are compared in either order
+flipped : (p q : Name) → bytes_eq p q ≡ bytes_eq q p
+flipped p q =
+    elim (cases_Bool (bytes_eq p q)) [
+      | inl is ↦ is ∙ sym (bytes_same q p (sym (bytes_are p q is)))
+      | inr differs ↦ differs ∙ sym (bytes_other q p (λ e. true≢false (sym (bytes_same p q (sym e)) ∙ differs)))
+    ]
+
+-- the actor
+more : (s : Stamp) (n : ℕ) → Some (Lives s (n + 1)) ≡ Some (Lives s (suc n))
+more s n = (let up : n + 1 ≡ suc n = omega arith in ap (λ (k : ℕ). Some (Lives s k)) up)
+
+actor_shown : (h : History) (s : Taken) (a : Deed) (n : ℕ) → Some (kept_of_actor a s.stamp n) ≡ shown (status_of_actor a (event_of h s)) (if is_reported a then suc n else n)
+actor_shown h s Work n = refl
+actor_shown h s Check n = more s.stamp n
+actor_shown h s Present n = more s.stamp n
+actor_shown h s (Send m) n = refl
+actor_shown h s (Receive m) n = refl
+actor_shown h s (Fork c i) n = more s.stamp n
+actor_shown h s (Retire q) n = refl
+actor_shown h s (Absorb r) n = more s.stamp n
+
+counted : (a b : Bool) (n : ℕ) → a ≡ true → (if a && b then suc n else n) ≡ (if b then suc n else n)
+counted true b n is = refl
+counted false b n is = absurd (cc)
+
+uncounted : (a b : Bool) (n : ℕ) → a ≡ false → (if a && b then suc n else n) ≡ n
+uncounted true b n is = absurd (cc)
+uncounted false b n is = refl
+
+-- another process: a child begins without reports
+other_shown : (root : Name) (h : History) (s : Taken) (p : Name) (a : Deed) → ((c : Name) (i : IdTree) → a ≡ Fork c i → status root h c ≡ Unborn)
+    → noted_other (kept_of_other a s.stamp) p (shown (status root h p) (reporting_steps p h)) ≡ shown (status_of_other h s a p (status root h p)) (reporting_steps p h)
+other_shown root h s p Work child = refl
+other_shown root h s p Check child = refl
+other_shown root h s p Present child = refl
+other_shown root h s p (Send m) child = refl
+other_shown root h s p (Receive m) child = refl
+other_shown root h s p (Retire q) child = refl
+other_shown root h s p (Fork c i) child =
+    elim (cases_Bool (bytes_eq c p)) [
+      | inl is ↦
+          (let none : reporting_steps p h ≡ 0 = unborn_reports root h p (ap (status root h) (sym (bytes_are c p is)) ∙ child c i refl) in
+          cond-true (bytes_eq c p) _ _ is
+          ∙ (ap (λ (n : ℕ). Some (Lives (record { id = i; events = s.stamp.events }) n)) (sym none)
+          ∙ ap (λ (now : Status). shown now (reporting_steps p h)) (sym (cond-true (bytes_eq p c) (Living (birth_by h s c i)) (status root h p) (flipped p c ∙ is)))))
+      | inr differs ↦
+          cond-false (bytes_eq c p) _ _ differs
+          ∙ ap (λ (now : Status). shown now (reporting_steps p h)) (sym (cond-false (bytes_eq p c) (Living (birth_by h s c i)) (status root h p) (flipped p c ∙ differs)))
+    ]
+other_shown root h s p (Absorb r) child =
+    ap (λ (b : Bool). if b then Some Gone else shown (status root h p) (reporting_steps p h)) (flipped r p)
+    ∙ absorbed_shown (bytes_eq p r) (status root h p) (reporting_steps p h)
+  where
+    absorbed_shown : (b : Bool) (now : Status) (n : ℕ) → (if b then Some Gone else shown now n) ≡ shown (if b then Absorbed else now) n
+    absorbed_shown true now n = refl
+    absorbed_shown false now n = refl
+
+pub known_next : (root : Name) (h : History) (s : Taken) (p : Name) (kept : Option Known) → ((c : Name) (i : IdTree) → s.deed ≡ Fork c i → status root h c ≡ Unborn)
+    → kept ≡ shown (status root h p) (reporting_steps p h)
+    → (if bytes_eq s.process p then Some (kept_of_actor s.deed s.stamp (reporting_steps s.process h)) else noted_other (kept_of_other s.deed s.stamp) p kept)
+    ≡ shown (status root (s ∷ h) p) (reporting_steps p (s ∷ h))
+known_next root h s p kept child is_kept =
+    elim (cases_Bool (bytes_eq s.process p)) [
+      | inl is ↦
+          (let same = bytes_are s.process p is in
+          cond-true (bytes_eq s.process p) _ _ is
+          ∙ (ap (λ (q : Name). Some (kept_of_actor s.deed s.stamp (reporting_steps q h))) same
+          ∙ (actor_shown h s s.deed (reporting_steps p h)
+          ∙ (ap (shown (status_of_actor s.deed (event_of h s))) (sym (counted (bytes_eq p s.process) (is_reported s.deed) (reporting_steps p h) (flipped p s.process ∙ is)))
+          ∙ ap (λ (now : Status). shown now (reporting_steps p (s ∷ h))) (sym (status_acts root h s p (sym same)))))))
+      | inr differs ↦
+          (let other : p ≢ s.process = λ e. true≢false (sym (bytes_same s.process p (sym e)) ∙ differs) in
+          cond-false (bytes_eq s.process p) _ _ differs
+          ∙ (ap (noted_other (kept_of_other s.deed s.stamp) p) is_kept
+          ∙ (other_shown root h s p s.deed child
+          ∙ (ap (shown (status_of_other h s s.deed p (status root h p))) (sym (uncounted (bytes_eq p s.process) (is_reported s.deed) (reporting_steps p h) (flipped p s.process ∙ differs)))
+          ∙ ap (λ (now : Status). shown now (reporting_steps p (s ∷ h))) (sym (status_others root h s p other))))))
+    ]
+
+-- a message
+sent_shown : (b : Bool) (e : Event) (before : Option Event) → (if b then Some e.values else carried before) ≡ carried (if b then Some e else before)
+sent_shown true e before = refl
+sent_shown false e before = refl
+
+message_shown : (h : History) (s : Taken) (m : Name) (a : Deed) (before : Option Event)
+    → noted_message (kept_of_message a s.stamp) m (carried before) ≡ carried (if sends a m then Some (event_of h s) else before)
+message_shown h s m Work before = refl
+message_shown h s m Check before = refl
+message_shown h s m Present before = refl
+message_shown h s m (Send n) before = sent_shown (bytes_eq n m) (event_of h s) before
+message_shown h s m (Receive n) before = refl
+message_shown h s m (Fork c i) before = refl
+message_shown h s m (Retire q) before = refl
+message_shown h s m (Absorb r) before = refl
+
+pub messages_next : (h : History) (s : Taken) (m : Name) (kept : Option EventTree) → kept ≡ carried (sending h m)
+    → noted_message (kept_of_message s.deed s.stamp) m kept ≡ carried (sending (s ∷ h) m)
+unfolding sending
+messages_next h s m kept is_kept = ap (noted_message (kept_of_message s.deed s.stamp) m) is_kept ∙ message_shown h s m s.deed (sending h m)
+
+-- the child of an allowed fork is new
+pub child_is_new : (root : Name) (h : History) (b : Event) (s : Taken) → IsAllowed root h b s s.deed → (c : Name) (i : IdTree) → s.deed ≡ Fork c i → status root h c ≡ Unborn
+child_is_new root h b s allowed c i is = (fork_of root h b s c i allowed is).new_name
+
+-- ---- the tables after a step
+
+-- what holds of tables, with the root and the history as variables
+record Holds (t : Tables) (root : Name) (h : History) : Type 0 where
+  pub lawful : IsLawful root h
+  pub known : (p : Name) → get bytes_eq t.known p ≡ shown (status root h p) (reporting_steps p h)
+  pub messages : (m : Name) → get bytes_eq t.messages m ≡ carried (sending h m)
+
+sound_of : (t : Tables) (root : Name) (h : History) → t.root ≡ root → history_in t ≡ h → Holds t root h → AreSound t
+sound_of t root h is_root is_history w =
+    let there = subst (λ (r : Name). Holds t r (history_in t)) (sym is_root) (subst (λ (g : History). Holds t root g) (sym is_history) w) in
+    record { lawful = there.lawful; known = there.known; messages = there.messages }
+
+pub adds : (old new : Tables) (made : Made) (name : Name) (between : Name → Option Known) → AreSound old → IsReady old.root (history_in old) made
+    → ((q : Name) → between q ≡ noted_other made.other q (get bytes_eq old.known q))
+    → name ≡ made.step.process
+    → ((q : Name) → get bytes_eq new.known q ≡ (if bytes_eq name q then Some made.after else between q))
+    → ((q : Name) → get bytes_eq new.messages q ≡ noted_message made.message q (get bytes_eq old.messages q))
+    → new.steps.items ≡ old.steps.items ++ made.step ∷ [] → new.root ≡ old.root → Adds old made.step new
+adds old new made name between sound ready other is_name actor message items root =
+    record { root = root; history = history; sound = sound_of new old.root (s ∷ h) root history after }
+  where
+    s : Taken
+    s = made.step
+
+    h : History
+    h = history_in old
+
+    history : history_in new ≡ s ∷ h
+    history = ap reverse items ∙ reverse-append old.steps.items (s ∷ [])
+
+    known : (p : Name) → get bytes_eq new.known p ≡ shown (status old.root (s ∷ h) p) (reporting_steps p (s ∷ h))
+    known p =
+        actor p
+        ∙ (ap (λ (n : Name). if bytes_eq n p then Some made.after else between p) is_name
+        ∙ (ap (λ (k : Known). if bytes_eq s.process p then Some k else between p) ready.changes.actor
+        ∙ (ap (λ (o : Option Known). if bytes_eq s.process p then Some (kept_of_actor s.deed s.stamp (reporting_steps s.process h)) else o)
+        (other p ∙ ap (λ (o : Option Other). noted_other o p (get bytes_eq old.known p)) ready.changes.other)
+        ∙ known_next old.root h s p (get bytes_eq old.known p) (child_is_new old.root h ready.before s ready.allowed) (sound.known p))))
+
+    messages : (m : Name) → get bytes_eq new.messages m ≡ carried (sending (s ∷ h) m)
+    messages m =
+        message m
+        ∙ (ap (λ (o : Option Sent). noted_message o m (get bytes_eq old.messages m)) ready.changes.message
+        ∙ messages_next h s m (get bytes_eq old.messages m) (sound.messages m))
+
+    after : Holds new old.root (s ∷ h)
+    after = record { lawful = next sound.lawful ready.living ready.allowed; known = known; messages = messages }
+
+-- ---- the tables at the beginning
+
+root_shown : (root p : Name) (t : Stamp) → t ≡ first_stamp → (if bytes_eq root p then Some (Lives t 0) else None) ≡ shown (status root [] p) (reporting_steps p [])
+unfolding status
+root_shown root p t is =
+    ap (λ (s : Stamp). if bytes_eq root p then Some (Lives s 0) else None) is
+    ∙ (ap (λ (b : Bool). if b then Some (Lives first_stamp 0) else None) (flipped root p) ∙ by_test (bytes_eq p root))
+  where
+    by_test : (b : Bool) → (if b then Some (Lives first_stamp 0) else None) ≡ shown (if b then Living (birth_of_root root) else Unborn) 0
+    by_test true = refl
+    by_test false = refl
+
+none_sent : (m : Name) → carried (sending [] m) ≡ None
+unfolding sending
+none_sent m = refl
+
+pub begins : (t : Tables) (first : Stamp) (name : Name) (before : Name → Option Known) → t.steps.items ≡ [] → first ≡ first_stamp → name ≡ t.root
+    → ((q : Name) → before q ≡ None)
+    → ((q : Name) → get bytes_eq t.known q ≡ (if bytes_eq name q then Some (Lives first 0) else before q))
+    → ((q : Name) → get bytes_eq t.messages q ≡ None) → AreSound t
+begins t first name before items is_first is_name none known messages =
+    sound_of t t.root [] refl (ap reverse items) (record {
+      lawful = start;
+      known = λ p.
+          known p
+          ∙ (ap (λ (o : Option Known). if bytes_eq name p then Some (Lives first 0) else o) (none p)
+          ∙ (ap (λ (n : Name). if bytes_eq n p then Some (Lives first 0) else None) is_name
+          ∙ root_shown t.root p first is_first));
+      messages = λ m. messages m ∙ sym (none_sent m);
+    })

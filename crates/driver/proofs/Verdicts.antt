@@ -1,0 +1,75 @@
+-- Which verdict the tests give.
+use Rattle.std.proofs.Common.{Err, ◌≡◌, ◌≢◌, ◌<◌, Some, None, refl, sym, ◌∙◌, ap, subst, inl, inr}
+use Rattle.report_line.specs.History.{Name, History, Event, Status, Unborn, Living, status}
+use Rattle.driver.specs.declared.step.Act.{Act}
+use Rattle.driver.specs.declared.fault.StepFault.{StepFault}
+use Rattle.driver.specs.declared.fault.StepFault.TheVariants as faults
+use Rattle.driver.specs.Verdicts.{HasNoTarget, IsUnknown, HasRetired, HasItself, HasTakenName, HasNoMessage, HasNoRetirement, IsFullFor, IsClockFull, IsTooDeep, IsVerdict}
+use Rattle.id_tree.specs.NormalForm.{depth_limit}
+use Rattle.id_tree.specs.Split.{parts_depth}
+use Rattle.event_tree.specs.Event.{PassesLimit}
+use Rattle.stamp.specs.declared.stamp.Stamp.{Stamp}
+use Rattle.driver.specs.declared.step.Act.TheVariants.{Fork}
+use Rattle.driver.specs.declared.making.Alive.{Alive}
+use Rattle.driver.specs.Making.{IsNotAlive, IsAlive, ForkTold}
+
+living_not_unborn : (e : Event) → Living e ≢ Unborn
+living_not_unborn e is = cc
+
+-- who does not live
+pub not_alive : (root : Name) (h : History) (p : Name) (act : Act) (f : StepFault) → ¬ HasNoTarget root h act → IsNotAlive (status root h p) f → IsVerdict root h p act (Some f)
+not_alive root h p act f target (inl w) = inl (inl w.1, ap Some w.0)
+not_alive root h p act f target (inr w) =
+    inr (
+      λ u. elim u [
+        | inl unborn ↦ subst HasRetired unborn w.1
+        | inr none ↦ target none
+      ],
+      inl (w.1, ap Some w.0),
+    )
+
+module _ (root : Name) (h : History) (p : Name) (act : Act) (e : Event) (living : status root h p ≡ Living e) (target : ¬ HasNoTarget root h act) where
+  known : ¬ IsUnknown root h p act
+  known u = elim u [ inl unborn ↦ living_not_unborn e (sym living ∙ unborn) | inr none ↦ target none ]
+
+  lives : ¬ HasRetired (status root h p)
+  lives retired = subst HasRetired living retired
+
+  pub itself : HasItself p act → IsVerdict root h p act (Some faults.SelfTarget)
+  itself is = inr (known, inr (lives, inl (is, refl)))
+
+  pub taken : ¬ HasItself p act → HasTakenName root h act → IsVerdict root h p act (Some faults.Taken)
+  taken other is = inr (known, inr (lives, inr (other, inl (is, refl))))
+
+  pub no_message : ¬ HasItself p act → ¬ HasTakenName root h act → HasNoMessage h act → IsVerdict root h p act (Some faults.NoMessage)
+  no_message other free is = inr (known, inr (lives, inr (other, inr (free, inl (is, refl)))))
+
+  pub no_retirement : ¬ HasItself p act → ¬ HasTakenName root h act → ¬ HasNoMessage h act → HasNoRetirement root h p act → IsVerdict root h p act (Some faults.NotWaiting)
+  no_retirement other free sent is = inr (known, inr (lives, inr (other, inr (free, inr (sent, inl (is, refl))))))
+
+  module _ (other : ¬ HasItself p act) (free : ¬ HasTakenName root h act) (sent : ¬ HasNoMessage h act) (waits : ¬ HasNoRetirement root h p act) where
+    pub full : IsFullFor h e act → IsVerdict root h p act (Some faults.ClockFull)
+    full is = inr (known, inr (lives, inr (other, inr (free, inr (sent, inr (waits, inl (subst (λ (s : Status). IsClockFull h s act) (sym living) is, refl)))))))
+
+    fits : ¬ IsFullFor h e act → ¬ IsClockFull h (status root h p) act
+    fits not is = not (subst (λ (s : Status). IsClockFull h s act) living is)
+
+    pub deep : ¬ IsFullFor h e act → IsTooDeep (Living e) act → IsVerdict root h p act (Some faults.TooDeep)
+    deep not is = inr (known, inr (lives, inr (other, inr (free, inr (sent, inr (waits, inr (fits not, inl (subst (λ (s : Status). IsTooDeep s act) (sym living) is, refl))))))))
+
+    pub passed : ¬ IsFullFor h e act → ¬ IsTooDeep (Living e) act → IsVerdict root h p act None
+    passed not shallow =
+        inr (known, inr (lives, inr (other, inr (free, inr (sent, inr (waits, inr (fits not, inr ((λ is. shallow (subst (λ (s : Status). IsTooDeep s act) living is)), refl))))))))
+
+-- a fork's faults
+pub fork_fault : (root : Name) (h : History) (p c : Name) (a : Alive) (f : StepFault) → IsAlive root h p a → status root h c ≡ Unborn → ForkTold a.stamp.now (Err f)
+    → f ≢ faults.Memory → IsVerdict root h p (Fork c) (Some f)
+fork_fault root h p c a f alive unborn (inl memory) other = absurd (other memory)
+fork_fault root h p c a f alive unborn (inr (inl w)) other =
+    subst (λ (g : StepFault). IsVerdict root h p (Fork c) (Some g)) (sym w.0)
+    (full root h p (Fork c) alive.last alive.lives (λ no. no) (λ no. no) (λ taken. taken unborn) (λ no. no) (λ no. no)
+    (subst (λ (s : Stamp). PassesLimit s.id s.events) alive.stamp w.1))
+fork_fault root h p c a f alive unborn (inr (inr w)) other =
+    subst (λ (g : StepFault). IsVerdict root h p (Fork c) (Some g)) (sym w.0)
+    (deep root h p (Fork c) alive.last alive.lives (λ no. no) (λ no. no) (λ taken. taken unborn) (λ no. no) (λ no. no)
+    (subst (λ (s : Stamp). ¬ PassesLimit s.id s.events) alive.stamp w.1) (subst (λ (s : Stamp). depth_limit < parts_depth s.id) alive.stamp w.2))

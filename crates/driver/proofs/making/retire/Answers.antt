@@ -1,0 +1,22 @@
+use Rattle.std.proofs.Common.{◌≡◌, ◌≢◌, Bool, false, sym, ◌∙◌}
+use Rattle.std.specs.Str.{bytes_eq}
+use Rattle.std.proofs.lemmas.Bool.{true≢false}
+use Rattle.report_line.specs.History.{Name}
+use Rattle.histories.proofs.Bytes.{bytes_same}
+use Rattle.driver.proofs.Owners.{owner}
+use Rattle.driver.proofs.Made.{makes_retire}
+use Rattle.driver.proofs.making.retire.Goals as goal
+
+differs : (x y q p : Name) (b : Bool) → b ≡ bytes_eq x y → b ≡ false → x ≡ q → y ≡ p → q ≢ p
+differs x y q p b test is is_x is_y same = true≢false (sym (bytes_same x y (is_x ∙ (same ∙ sym is_y))) ∙ (sym test ∙ is))
+
+pub event-requires : goal.event-requires
+event-requires c = owner c.args.tables.now c.args.process.now c.in_ok-alive.alive c.requires c.in_ok-alive.ensures
+
+pub returns : goal.returns
+returns c =
+    makes_retire _ _ _ _ _ _ _ c.in_ok-alive.alive c.in_ok-stamp.stamp c.in_ok-kept.kept c.in_ok-reported.reported c.in_ok-number.number c.told.result
+    c.in_ok-alive.ensures c.in_ok-stamp.ensures
+    (λ unborn. true≢false (sym c.if-not-is_born.false ∙ c.is_born.ensures.1 unborn))
+    (differs c.as_bytes.result.now c.as_bytes-2.result.now c.args.target.now c.args.process.now c.eq.result c.eq.ensures c.if-eq.false c.as_bytes.ensures.value c.as_bytes-2.ensures.value)
+    c.in_ok-kept.ensures c.in_ok-reported.ensures c.in_ok-number.ensures.ok c.copy-4.ensures c.copy-5.ensures (c.in_ok-into.ensures ∙ c.copy-3.ensures) c.told.ensures

@@ -1,0 +1,39 @@
+//! What a world keeps.
+
+use crate::known::Known;
+use event_tree::Events;
+use indexmap::IndexMap;
+use report_line::{Name, Report, Step as Taken};
+
+/// The steps, the oldest first, and what they say of each name.
+#[derive(Drop)]
+pub(crate) struct Tables {
+    pub(crate) root: Name,
+    pub(crate) steps: Vec<Taken>,
+    pub(crate) known: IndexMap<Name, Known>,
+    pub(crate) messages: IndexMap<Name, Events>,
+}
+
+/// A process beside the acting one that a step changes.
+#[derive(Drop)]
+pub(crate) struct Other {
+    pub(crate) name: Name,
+    pub(crate) known: Known,
+}
+
+/// A message.
+#[derive(Drop)]
+pub(crate) struct Sent {
+    pub(crate) name: Name,
+    pub(crate) events: Events,
+}
+
+/// A step that is ready, with what it changes and its report.
+#[derive(Drop)]
+pub(crate) struct Made {
+    pub(crate) step: Taken,
+    pub(crate) after: Known,
+    pub(crate) other: Option<Other>,
+    pub(crate) message: Option<Sent>,
+    pub(crate) report: Option<Report>,
+}

@@ -1,0 +1,132 @@
+//! A world.
+
+ghost use Rattle.std.specs.Prelude.{◌≡◌, ◌≢◌, ◌++◌, [], Some, None, OnOk, OnErr, IfOk, IfErr};
+ghost use Rattle.std.specs.List.{cons_option};
+ghost use Rattle.report_line.specs.Lawful.{IsLawful};
+ghost use Rattle.report_line.specs.StepReports.{reports};
+ghost use Rattle.driver.specs.Stamping.{Takes};
+ghost use Rattle.driver.specs.Verdicts.{IsVerdict};
+ghost use Rattle.driver.specs.Making.{MakingTold};
+ghost use Rattle.driver.specs.Tables.{AreSound, history_in};
+ghost use Rattle.driver.specs.Seen.{chronicle_in};
+
+use crate::fault::StepFault;
+use crate::known::Known;
+use crate::making::{absorb, check, fork, present, receive, retire, send, work};
+use crate::noting::{add, note, reserve};
+use crate::step::{Act, Step};
+use crate::tables::{Made, Tables};
+use indexmap::IndexMap;
+use report_line::{Name, Report};
+use stamp::Stamp;
+use std::alloc::{AllocError, Global};
+use std::marker::Model;
+
+/// Processes that stamp their steps by the rules, from one root on; seen as the root and the history.
+#[derive(Drop)]
+pub struct World {
+    alloc: Global,
+    tables: Tables,
+}
+
+impl Model for World {
+    ghost use Rattle.driver.specs.Chronicle.{Chronicle};
+    ghost use Rattle.driver.specs.Codes.{chronicle_code};
+
+    ghost Value = { Chronicle };
+
+    ghost coded = { chronicle_code };
+
+    ghost use Rattle.driver.specs.Tables.{AreSound};
+    ghost use Rattle.driver.specs.Seen.{chronicle_in};
+
+    ghost view = { λ w. chronicle_in w.tables };
+
+    ghost invariant = { λ w. AreSound w.tables };
+}
+
+impl World {
+    /// A world with its root alone, which begins.
+    pub fn start(alloc: Global, root: Name) -> Result<(World, Report), AllocError>
+        ensures world { IfOk result (λ begun. begun.0 ≡ record { root = root; history = [] }) }
+        ensures report { IfOk result (λ begun. begun.1 ≡ Report.Begin root) }
+    {
+        let process = root.copy();
+        let tables = begun(alloc, root)?;
+        Ok((World { alloc, tables }, Report::Begin { process }))
+    }
+
+    /// Tells a proof what holds of each world: its history is a lawful one of its root.
+    pub fn lawful(&self)
+        ensures { IsLawful self.now.root self.now.history }
+    {
+        let _tables = &self.tables;
+    }
+
+    /// Takes the step that is asked, stamped by the rules. Answers its report, if the step is reported. A refused step
+    /// leaves the world as it was; the fault is the first that applies, but for `Memory`, which may come in place of any.
+    pub fn step(&mut self, asked: Step) -> Result<Option<Report>, StepFault>
+        ensures step { IfOk result (λ given. Takes self.old asked self.new given) }
+        ensures reports { IfOk result (λ given. reports self.new.root self.new.history ≡ reports self.old.root self.old.history ++ cons_option given []) }
+        ensures accepted { OnOk result (IsVerdict self.old.root self.old.history asked.process asked.act None) }
+        ensures refused { IfErr result (λ fault. fault ≢ StepFault.Memory → IsVerdict self.old.root self.old.history asked.process asked.act (Some fault)) }
+        ensures unchanged { OnErr result (self.new ≡ self.old) }
+    {
+        take_step(self.alloc, &mut self.tables, &asked)
+    }
+}
+
+// The tables of a root at its birth.
+fn begun(alloc: Global, root: Name) -> Result<Tables, AllocError>
+    ensures { IfOk result (λ t. (t.root ≡ root) × (history_in t ≡ []) × AreSound t) }
+{
+    let mut known = IndexMap::new(alloc);
+    known.reserve(1)?;
+    let now = Known::Lives {
+        stamp: Stamp::first(alloc),
+        reports: 0,
+    };
+    note(&mut known, root.copy(), now);
+    Ok(Tables {
+        root,
+        steps: Vec::new(alloc),
+        known,
+        messages: IndexMap::new(alloc),
+    })
+}
+
+// The step that is asked, made ready.
+fn make(alloc: Global, tables: &Tables, asked: &Step) -> Result<Made, StepFault>
+    requires { AreSound tables.now }
+    ensures { MakingTold tables.now.root (history_in tables.now) asked.now.process asked.now.act result }
+{
+    let process = &asked.process;
+    match &asked.act {
+        Act::Work => work(alloc, tables, process),
+        Act::Check => check(alloc, tables, process),
+        Act::Present => present(alloc, tables, process),
+        Act::Send { message } => send(alloc, tables, process, message),
+        Act::Receive { message } => receive(alloc, tables, process, message),
+        Act::Fork { child } => fork(alloc, tables, process, child),
+        Act::Retire { target } => retire(alloc, tables, process, target),
+        Act::Absorb { retired } => absorb(alloc, tables, process, retired),
+    }
+}
+
+// The step that is asked, made and added.
+fn take_step(alloc: Global, tables: &mut Tables, asked: &Step) -> Result<Option<Report>, StepFault>
+    requires { AreSound tables.old }
+    ensures sound { AreSound tables.new }
+    ensures step { IfOk result (λ given. Takes (chronicle_in tables.old) asked.now (chronicle_in tables.new) given) }
+    ensures reports { IfOk result (λ given. reports tables.new.root (history_in tables.new) ≡ reports tables.old.root (history_in tables.old) ++ cons_option given []) }
+    ensures accepted { OnOk result (IsVerdict tables.old.root (history_in tables.old) asked.now.process asked.now.act None) }
+    ensures refused { IfErr result (λ fault. fault ≢ StepFault.Memory → IsVerdict tables.old.root (history_in tables.old) asked.now.process asked.now.act (Some fault)) }
+    ensures unchanged { OnErr result (chronicle_in tables.new ≡ chronicle_in tables.old) }
+{
+    let made = match make(alloc, tables, asked) {
+        Ok(made) => made,
+        Err(fault) => return Err(fault),
+    };
+    reserve(tables)?;
+    Ok(add(tables, made))
+}

@@ -1,0 +1,147 @@
+//! The command `drive`.
+
+ghost use Rattle.std.specs.Prelude.{◌≡◌, MatchResult};
+ghost use Rattle.std.specs.List.{flat_map};
+ghost use Rattle.recline.specs.Outcome.{Tells};
+ghost use Rattle.recline.specs.Driving.{Drives, IsDrivenOver, ReadsAll, ReadsSome, Writes, script_fault, script_status};
+
+use crate::running::tell;
+use itoa::Buffer;
+use script::{Cause, End, drive};
+use session::{Link, LinkFault, put, put_all};
+use std::alloc::Global;
+
+/// How many reads a script takes at most.
+const MOST_READS: u64 = 1_048_576;
+
+/// Why a script was not read.
+enum Unread {
+    /// Memory did not suffice for it.
+    Memory,
+    /// A read failed, or the script has no end.
+    Device,
+}
+
+/// All that the link gives to read.
+fn read_all<K: Link>(alloc: Global, link: &mut K) -> Result<Vec<u8>, Unread>
+    ensures { MatchResult result (λ bytes. ReadsAll (K.told link.old) (K.told link.new) bytes.items) (λ why. ReadsSome (K.told link.old) (K.told link.new) why) }
+{
+    let mut bytes = Vec::new(alloc);
+    for _ in 0..MOST_READS {
+        let mut buf = [0u8; 8192];
+        let Ok(n) = link.read(&mut buf) else {
+            return Err(Unread::Device);
+        };
+        if n == 0 {
+            return Ok(bytes);
+        }
+        let Ok(()) = bytes.extend_from_slice(&buf[..n]) else {
+            return Err(Unread::Memory);
+        };
+    }
+    Err(Unread::Device)
+}
+
+/// Writes all of the text and hands it on.
+fn write_all<K: Link>(link: &mut K, text: &[u8]) -> Result<(), LinkFault>
+    ensures writes { Writes (K.told link.old) (K.told link.new) result text.now }
+    ensures left { (K.told link.new).left ≡ (K.told link.old).left }
+    ensures reads { (K.told link.new).reads ≡ (K.told link.old).reads }
+{
+    let Ok(()) = put(link, text) else {
+        return Err(LinkFault::Device);
+    };
+    match link.hand_on() {
+        Ok(()) => Ok(()),
+        Err(_) => Err(LinkFault::Device),
+    }
+}
+
+/// Reads a script, drives a world by it, and writes what it prints.
+fn drive_over<K: Link>(alloc: Global, client: &mut K) -> Result<End, LinkFault>
+    ensures { IsDrivenOver (K.told client.old) (K.told client.new) result }
+{
+    let script = match read_all(alloc, client) {
+        Ok(script) => script,
+        Err(Unread::Memory) => return Ok(End::Memory),
+        Err(Unread::Device) => return Err(LinkFault::Device),
+    };
+    let (text, end) = drive(alloc, &script);
+    match write_all(client, &text) {
+        Ok(()) => Ok(end),
+        Err(fault) => Err(fault),
+    }
+}
+
+/// Writes the pieces of a fault line and hands them on, as far as that can be done.
+fn tell_all<F: Link>(faults: &mut F, pieces: &[&[u8]])
+    ensures { Tells (F.told faults.old) (F.told faults.new) (flat_map (λ p. p.now) pieces.now) }
+{
+    let Ok(()) = put_all(faults, pieces) else {
+        return;
+    };
+    match faults.hand_on() {
+        Ok(()) => {}
+        Err(_) => {}
+    }
+}
+
+/// Tells that the step of this line was refused.
+fn tell_refusal<F: Link>(faults: &mut F, step: u64, cause: Cause)
+    ensures { Tells (F.told faults.old) (F.told faults.new) (script_fault (Ok (End.Refused step cause))) }
+{
+    let mut digits = Buffer::new();
+    tell_all(
+        faults,
+        &[
+            b"recline: step ".as_slice(),
+            digits.format(step).as_bytes(),
+            b" ".as_slice(),
+            cause.words(),
+            b"\n".as_slice(),
+        ],
+    )
+}
+
+/// Tells how the script ended, where not all of its steps were taken.
+fn tell_end<F: Link>(faults: &mut F, end: End)
+    ensures { Tells (F.told faults.old) (F.told faults.new) (script_fault (Ok end)) }
+{
+    match end {
+        End::Done => tell(faults, b""),
+        End::Refused { step, cause } => tell_refusal(faults, step, cause),
+        End::Memory => tell(faults, b"recline: memory\n"),
+    }
+}
+
+/// Tells what went wrong, if something did.
+fn tell_fault<F: Link>(faults: &mut F, end: Result<End, LinkFault>)
+    ensures { Tells (F.told faults.old) (F.told faults.new) (script_fault end) }
+{
+    match end {
+        Ok(end) => tell_end(faults, end),
+        Err(_) => tell(faults, b"recline: device\n"),
+    }
+}
+
+/// The status of the process for a script that ended so.
+fn status_for(end: Result<End, LinkFault>) -> u8
+    ensures { result ≡ script_status end }
+{
+    match end {
+        Ok(End::Done) => 0,
+        Ok(End::Refused { .. }) => 2,
+        Ok(End::Memory) => 3,
+        Err(_) => 3,
+    }
+}
+
+/// The command `drive`: drives a world by the script that the client gives, writes the reports of its steps to the client,
+/// tells why a step was refused, and answers the status of the process.
+pub fn drive_on<K: Link, F: Link>(alloc: Global, client: &mut K, faults: &mut F) -> u8
+    ensures { Drives K.told F.told client.old client.new faults.old faults.new result }
+{
+    let end = drive_over(alloc, client);
+    tell_fault(faults, end);
+    status_for(end)
+}

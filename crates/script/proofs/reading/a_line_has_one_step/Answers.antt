@@ -1,0 +1,5 @@
+use Rattle.script.proofs.OneStep.{one_step, root_or_step}
+use Rattle.script.proofs.reading.a_line_has_one_step.Goals as goal
+
+pub returns : goal.returns
+returns c = record { step = one_step; root = root_or_step }

@@ -1,0 +1,4 @@
+pub mod Spelling
+pub mod Causes
+pub mod Driven
+pub mod Driving

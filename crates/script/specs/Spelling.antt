@@ -1,0 +1,75 @@
+-- The one line of each step.
+use Rattle.std.specs.Prelude.{◌≡◌, ℕ, List, [], ◌∷◌, IsTrue, codes, Option, Some, None, ⊤}
+use Rattle.std.specs.List.{join_with_byte}
+use Rattle.report_line.specs.Names.{is_name}
+use Rattle.driver.specs.declared.step.Act.{Act}
+use Rattle.driver.specs.declared.step.Act.TheVariants.{Work, Check, Present, Send, Receive, Fork, Retire, Absorb}
+use Rattle.driver.specs.declared.step.Step.{Step}
+
+-- the word that names an act
+abbrev pub act_word : Act → List ℕ
+act_word Work = codes "work"
+act_word Check = codes "check"
+act_word Present = codes "present"
+act_word (Send m) = codes "send"
+act_word (Receive m) = codes "receive"
+act_word (Fork c) = codes "fork"
+act_word (Retire q) = codes "retire"
+act_word (Absorb r) = codes "absorb"
+
+-- the words behind the process
+abbrev pub act_names : Act → List (List ℕ)
+act_names Work = []
+act_names Check = []
+act_names Present = []
+act_names (Send m) = m ∷ []
+act_names (Receive m) = m ∷ []
+act_names (Fork c) = c ∷ []
+act_names (Retire q) = q ∷ []
+act_names (Absorb r) = r ∷ []
+
+-- what an act names is a name
+abbrev pub HasNames : Act → Type 0
+HasNames Work = ⊤
+HasNames Check = ⊤
+HasNames Present = ⊤
+HasNames (Send m) = IsTrue (is_name m)
+HasNames (Receive m) = IsTrue (is_name m)
+HasNames (Fork c) = IsTrue (is_name c)
+HasNames (Retire q) = IsTrue (is_name q)
+HasNames (Absorb r) = IsTrue (is_name r)
+
+-- the words of the step
+abbrev pub step_words : Step → List (List ℕ)
+step_words s = act_word s.act ∷ s.process ∷ act_names s.act
+
+-- the words of the line that begins a world with this root
+abbrev pub root_words : List ℕ → List (List ℕ)
+root_words p = codes "root" ∷ p ∷ []
+
+-- the step is one of names, and this is its line: its words, parted by one space
+abbrev pub SpellsStep : Step → List ℕ → Type 0
+SpellsStep s line = IsTrue (is_name s.process) × HasNames s.act × (line ≡ join_with_byte 32 (step_words s))
+
+-- this is the line that begins a world with this root
+abbrev pub SpellsRoot : List ℕ → List ℕ → Type 0
+SpellsRoot p line = IsTrue (is_name p) × (line ≡ join_with_byte 32 (root_words p))
+
+-- one is found for which P holds, or P holds for none
+abbrev pub FindsOne : {X : Type 0} → Option X → (X → Type 0) → Type 0
+FindsOne (Some x) P = P x
+FindsOne {X} None P = (x : X) → ¬ P x
+
+-- Working definitions from here on: a line is read word by word.
+
+-- the act has this word and these names
+abbrev pub IsActOf : List ℕ → List (List ℕ) → Act → Type 0
+IsActOf kind names a = HasNames a × (kind ≡ act_word a) × (names ≡ act_names a)
+
+-- the step has these words
+abbrev pub IsStepOf : List (List ℕ) → Step → Type 0
+IsStepOf words s = IsTrue (is_name s.process) × HasNames s.act × (words ≡ step_words s)
+
+-- the root has these words
+abbrev pub IsRootOf : List (List ℕ) → List ℕ → Type 0
+IsRootOf words p = IsTrue (is_name p) × (words ≡ root_words p)

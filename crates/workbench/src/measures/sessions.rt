@@ -58,6 +58,11 @@ fn time_plain_loop(rt: &HostRuntime, input: &[u8]) -> Result<u64> {
     Ok(u64::try_from(took)?)
 }
 
+/// A session that serves the lines; how many replies it wrote.
+fn serve(chains: &mut Chains, client: &mut Streams<&[u8], Vec<u8>>) -> u64 {
+    run_lines(chains, client).replies
+}
+
 /// How long a session takes, in microseconds.
 fn time_serving(
     rt: &HostRuntime,
@@ -65,7 +70,7 @@ fn time_serving(
     client: &mut Streams<&[u8], Vec<u8>>,
 ) -> Result<u64> {
     let start = Instant::now(rt)?;
-    let replies = run_lines(chains, client).replies;
+    let replies = serve(chains, client);
     let took = start.elapsed(rt)?.as_micros();
     anyhow::ensure!(replies == 16_384, "{replies} replies");
     Ok(u64::try_from(took)?)

@@ -10,3 +10,4 @@ pub mod Retiring
 pub mod Rules
 pub mod Reported
 pub mod Example
+pub mod JoinFirst

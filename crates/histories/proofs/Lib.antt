@@ -11,3 +11,4 @@ pub mod Rules
 pub mod Reported
 pub mod Example
 pub mod Paths
+pub mod JoinFirst

@@ -1,3 +1,4 @@
 pub mod Law
 pub mod Rules
 pub mod Example
+pub mod JoinFirst

@@ -7,6 +7,7 @@
 ghost use Rattle.histories.specs.Law.{BeyondBirthIsSomeInPast, BeyondIsLaterInPast, BothEndsOccur, EachPointHasOneHolder, NothingFollowsRetirement, OwnEventsAreInOrder, OwnersLieOnOnePath, ValuesNeverFall};
 ghost use Rattle.histories.specs.Rules.{LookUpsAreEvents, RulesAreTheLaw};
 ghost use Rattle.histories.specs.Example.{a, every_step};
+ghost use Rattle.histories.specs.JoinFirst.{JoinsFirstToThree, ThreeIsNotLawful};
 ghost use Rattle.report_line.specs.History.{Name, History};
 ghost use Rattle.report_line.specs.Lawful.{IsLawful};
 
@@ -41,4 +42,11 @@ pub fn look_ups_are_events()
 /// There is a lawful history with every kind of step.
 pub fn every_step_is_possible()
     ensures { IsLawful a every_step }
+{}
+
+/// Who absorbs by the join first, and then an event on everything that it owns by then, may raise nothing that it owned before:
+/// no lawful absorption ends with these values.
+pub fn joining_first_is_not_lawful()
+    ensures joined { JoinsFirstToThree }
+    ensures unlawful { ThreeIsNotLawful }
 {}

@@ -12,6 +12,7 @@ file_first disk = first_of disk.known
 abbrev pub file_calls : {P : Type 0} → FileDisk P → List Done
 file_calls disk = calls_of disk.known
 
+-- how many calls of it failed
 abbrev pub file_failures : {P : Type 0} → FileDisk P → ℕ
 file_failures disk = disk.failures
 

@@ -14,9 +14,11 @@ use Rattle.line_disk.specs.declared.plan.Planned.{Planned}
 abbrev pub calls_on : Tape → List Call
 calls_on tape = calls_in tape.changes.items tape.idle
 
+-- what is seen of it as a disk
 abbrev pub view_of : Tape → View
 view_of tape = replay tape.first.items (calls_on tape)
 
+-- what it holds
 abbrev pub tape_bytes : Tape → List ℕ
 tape_bytes tape = tape.bytes.items
 
@@ -28,9 +30,11 @@ bytes_of disk = disk.tape.bytes.items
 abbrev pub image_after : MemoryDisk → ℕ → ℕ → List ℕ
 image_after disk k n = image_at disk.tape.first.items (calls_on disk.tape) k n
 
+-- what is seen of the disk
 abbrev pub disk_view : MemoryDisk → View
 disk_view disk = view_of disk.tape
 
+-- how many calls failed
 abbrev pub disk_failures : MemoryDisk → ℕ
 disk_failures disk = disk.failures
 

@@ -45,6 +45,7 @@ impl Tape {
         true
     }
 
+    /// Writes over what is there, and past the end.
     pub fn write(&mut self, at: usize, bytes: &[u8]) -> bool
         requires { at ≤ length (view_of self.old).seen }
         ensures written { OnTrue result ((view_of self.new).seen ≡ written (view_of self.old).seen at bytes.now) }
@@ -72,6 +73,7 @@ impl Tape {
         true
     }
 
+    /// Shortens the file.
     pub fn cut(&mut self, len: usize) -> bool
         ensures cut { OnTrue result ((view_of self.new).seen ≡ take len (view_of self.old).seen) }
         ensures crash { Passes (IsShortened len) (view_of self.old) (view_of self.new) }
@@ -91,6 +93,7 @@ impl Tape {
         true
     }
 
+    /// Makes what was written last.
     pub fn sync(&mut self) -> bool
         ensures durable { OnTrue result (LeavesOnly (view_of self.new) (view_of self.old).seen) }
         ensures rests { Rests (view_of self.old) (view_of self.new) }

@@ -20,6 +20,7 @@ CountsAppend Before old new = new ≡ one_more old
 CountsAppend Unknown old new = new ≡ one_more old
 CountsAppend Stopped old new = new ≡ old
 
+-- what holds where the answer is Done
 abbrev pub OnDone : Appended → Type 0 → Type 0
 OnDone Done P = P
 OnDone Before P = Unit {0}

@@ -48,6 +48,7 @@ LeavesRefused (Damaged k) old new = IsSynced (λ c. c ≡ old.seen) old new
 LeavesRefused Device old new = IsUntouched old new ⊎ IsSynced (KeepsFile old.seen) old new
 LeavesRefused Memory old new = IsUntouched old new ⊎ IsSynced (λ c. c ≡ old.seen) old new
 
+-- what holds with a fault that is not the device's
 abbrev pub OnRefused : OpenFault → Type 0 → Type 0
 OnRefused Foreign P = P
 OnRefused (Damaged k) P = P

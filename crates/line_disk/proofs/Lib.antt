@@ -1,0 +1,4 @@
+pub mod Devices
+pub mod Images
+pub mod NotedCalls
+pub mod Pushes

@@ -1,0 +1,12 @@
+pub mod Disk
+pub mod Calls
+pub mod Replay
+pub mod Plans
+pub mod Device
+pub mod File
+pub mod Known
+pub mod Log
+pub mod Noting
+pub mod Tape
+pub mod ReadIsLeft
+pub mod FileReadIsLeft

@@ -1,0 +1,148 @@
+//! A disk over a file of the system. What a crash leaves of such a file no clause can say: it is what the device `P` says, and all
+//! that is said of crashes stands under the premise that this device keeps the model.
+//!
+//! That the calls noted here are the calls made is read in this file, and not proved.
+
+ghost use Rattle.std.specs.Prelude.{◌≡◌, [], IfOk, vec_len};
+ghost use Rattle.line_disk.specs.Device.{KeepsModel, view_by};
+
+use crate::fault::device_failed;
+use crate::known::Known;
+use crate::{Device, Disk, DiskFault};
+use std::alloc::{AllocError, Global};
+use std::fs::{File, OpenOptions};
+use std::marker::PhantomData;
+use std::os::unix::fs::FileExt;
+use std::rt::Files;
+
+/// A file of the system on a device.
+///
+/// After a write, a cut or a sync has failed, each later call fails, and the file has to be opened anew. Where memory was wanting
+/// for the copy that reads are compared with, reads alone fail.
+#[derive(Drop)]
+pub struct FileDisk<P: Device> {
+    file: File,
+    known: Known,
+    failures: u64,
+    device: PhantomData<P>,
+}
+
+fn zeros(alloc: Global, n: usize) -> Result<Vec<u8>, AllocError>
+    ensures { IfOk result (λ v. vec_len v ≡ n) }
+{
+    vec![in alloc; 0; n]
+}
+
+fn read_whole(alloc: Global, file: &File) -> Result<Vec<u8>, DiskFault> {
+    let Ok(metadata) = file.metadata() else {
+        return Err(DiskFault::Device);
+    };
+    let mut bytes = zeros(alloc, metadata.len() as usize)?;
+    if file.read_exact_at(&mut bytes, 0).is_err() {
+        return Err(DiskFault::Device);
+    }
+    Ok(bytes)
+}
+
+impl<P: Device> FileDisk<P> {
+    ghost use Rattle.line_disk.specs.File.{file_calls, file_failures};
+
+    /// Opens a file, and makes it if it is missing. It is read once, and a copy is kept in memory.
+    pub fn open<R: Files<File = File>>(
+        rt: &R,
+        alloc: Global,
+        path: &str,
+    ) -> Result<FileDisk<P>, DiskFault>
+        ensures fresh { IfOk result (λ disk. file_calls disk ≡ []) }
+        ensures failures { IfOk result (λ disk. file_failures disk ≡ 0) }
+    {
+        let opened = OpenOptions::new()
+            .read(true)
+            .write(true)
+            .create(true)
+            .open(rt, path);
+        let Ok(file) = opened else {
+            return Err(DiskFault::Device);
+        };
+        let bytes = read_whole(alloc, &file)?;
+        Ok(FileDisk {
+            file,
+            known: Known::new(bytes),
+            failures: 0,
+            device: PhantomData,
+        })
+    }
+}
+
+impl<P: Device> Disk for FileDisk<P> {
+    ghost use Rattle.line_disk.specs.FileReadIsLeft.{read_left};
+    ghost use Rattle.line_disk.specs.Known.{first_of, calls_of};
+
+    ghost view = { λ disk. view_by P.leaves (first_of disk.known) (calls_of disk.known) };
+
+    ghost keeps = { λ disk. KeepsModel P.leaves };
+
+    ghost failed = { λ disk. disk.failures };
+
+    ghost read_is_left = { λ disk keeps. read_left P.leaves (first_of disk.known) (calls_of disk.known) keeps };
+
+    fn failures(&self) -> u64 {
+        self.failures
+    }
+
+    /// A length that is not the known one is a fault of the device.
+    fn len(&mut self) -> Result<usize, DiskFault> {
+        let length = self.file.metadata().map(|m| m.len() as usize);
+        match length {
+            Ok(n) if !self.known.failed && n == self.known.len => Ok(n),
+            _ => Err(device_failed(&mut self.failures)),
+        }
+    }
+
+    /// Bytes that are not those that were written or read before are a fault of the device.
+    fn read_at(&mut self, alloc: Global, at: usize, n: usize) -> Result<Vec<u8>, DiskFault> {
+        let mut bytes = zeros(alloc, n)?;
+        let read = self.file.read_exact_at(&mut bytes, at as u64);
+        if read.is_err() || !self.known.has(at, &bytes) {
+            return Err(device_failed(&mut self.failures));
+        }
+        Ok(bytes)
+    }
+
+    fn write_at(&mut self, at: usize, bytes: &[u8]) -> Result<(), DiskFault> {
+        let fits = at.checked_add(bytes.len()).is_some();
+        if self.known.failed || !fits || at > self.known.len {
+            return Err(device_failed(&mut self.failures));
+        }
+        let done = self.file.write_all_at(bytes, at as u64).is_ok();
+        self.known.wrote(at, bytes, done);
+        if !done {
+            return Err(device_failed(&mut self.failures));
+        }
+        Ok(())
+    }
+
+    fn cut(&mut self, len: usize) -> Result<(), DiskFault> {
+        if self.known.failed || len > self.known.len {
+            return Err(device_failed(&mut self.failures));
+        }
+        let done = self.file.set_len(len as u64).is_ok();
+        self.known.cut(len, done);
+        if !done {
+            return Err(device_failed(&mut self.failures));
+        }
+        Ok(())
+    }
+
+    fn sync(&mut self) -> Result<(), DiskFault> {
+        if self.known.failed {
+            return Err(device_failed(&mut self.failures));
+        }
+        let done = self.file.sync_all().is_ok();
+        self.known.synced(done);
+        if !done {
+            return Err(device_failed(&mut self.failures));
+        }
+        Ok(())
+    }
+}

@@ -1,0 +1,25 @@
+//! A disk that may crash, as a trait; a disk in memory, which notes its calls; and a disk over a file of the system.
+//!
+//! Of a disk three things are seen: what a read gives, what a crash at each moment could leave, and how many calls failed. Code
+//! over any disk is proved once, for crashes at every moment.
+#![tactic(auto)]
+
+mod change;
+mod device;
+mod disk;
+mod fault;
+mod file;
+mod image;
+mod known;
+mod log;
+mod memory;
+mod overwrite;
+mod plan;
+mod tape;
+
+pub use device::{Device, Modelled, modelled_leaves_most, the_premise_is_open};
+pub use disk::Disk;
+pub use fault::DiskFault;
+pub use file::FileDisk;
+pub use memory::MemoryDisk;
+pub use plan::{Effect, Planned};

@@ -1,0 +1,9 @@
+pub mod File
+pub mod Kinds
+pub mod Resting
+pub mod Append
+pub mod Opening
+pub mod Store
+pub mod Lines
+pub mod Reading
+pub mod Faults

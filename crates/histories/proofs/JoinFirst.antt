@@ -1,13 +1,12 @@
 -- Joining first is not lawful.
-use Rattle.std.proofs.Common.{◌≡◌, ℕ, ◌<◌, ◌≤◌, true, false, [], ◌∷◌, refl, sym, ◌∙◌, ap, arith}
+use Rattle.std.proofs.Common.{◌≡◌, ◌<◌, true, false, [], ◌∷◌, refl, sym, arith}
 use Rattle.std.specs.Prelude.{max, IsTrue}
 use Rattle.std.proofs.lemmas.Bool.{true≢false}
 use Rattle.id_tree.specs.IdTree.{One}
 use Rattle.id_tree.specs.Points.{Point, owns}
-use Rattle.event_tree.specs.EventTree.{EventTree, Leaf, Node}
+use Rattle.event_tree.specs.EventTree.{Leaf, Node}
 use Rattle.event_tree.specs.Values.{value_at}
-use Rattle.event_tree.specs.Event.{fill, IsEventStep}
-use Rattle.event_tree.specs.Grown.{IsGrown}
+use Rattle.event_tree.specs.Event.{IsEventStep}
 use Rattle.event_tree.specs.Join.{IsJoin}
 use Rattle.histories.specs.JoinFirst.{own_id, own_events, retired_events, JoinsFirstToThree, ThreeIsNotLawful}
 

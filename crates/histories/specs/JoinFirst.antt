@@ -1,5 +1,4 @@
 -- An absorption that joins first, and then makes an event on the sum of the ids (1;3 in place of 1;(2,2,0)).
-
 use Rattle.id_tree.specs.IdTree.{IdTree, Zero, One, Pair}
 use Rattle.event_tree.specs.EventTree.{EventTree, Leaf, Node}
 use Rattle.event_tree.specs.Event.{IsEventStep}

@@ -50,7 +50,7 @@ retired_from_last : (accepted : List Report) (p : ℕ) (name : Name) (r : Number
     → (is_retired accepted p ≡ true) × (retired_events accepted p ≡ Some r.stamp.events)
 retired_from_last accepted p name r q is last retires =
     let retired : is_retired accepted p ≡ true =
-        ap (λ (o : Option Name). option_map_or (λ x. is_some (target_of x accepted)) o false) is ∙ ap (λ (o : Option Report). is_some (target_after o)) last ∙ ap (λ (b : Action). is_some (target_in b)) retires
+    ap (λ (o : Option Name). option_map_or (λ x. is_some (target_of x accepted)) o false) is ∙ ap (λ (o : Option Report). is_some (target_after o)) last ∙ ap (λ (b : Action). is_some (target_in b)) retires
     in (
       retired,
       cond-true (is_retired accepted p) (option_map (λ x. last_events x accepted) (name_of accepted p)) None retired

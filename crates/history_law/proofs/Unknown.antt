@@ -145,7 +145,7 @@ fork_report root (s ∷ h) w c i occurs kind =
           (let both : Does s.deed ≡ Does (Fork c i) = sym (kind_of is) ∙ kind in
           let forks : s.deed ≡ Fork c i = cc in
           let r : IsForkReport root (s ∷ h) (event_of h s) c =
-              record { report = _; of_process = refl; forked = _; forks = refl; is_child = refl; is_report = newest (ap (report_by root h s) forks) } in
+          record { report = _; of_process = refl; forked = _; forks = refl; is_child = refl; is_report = newest (ap (report_by root h s) forks) } in
           subst (λ (e : Event). IsForkReport root (s ∷ h) e c) (sym is) r)
       | child {c = d} {i = j} forks is ↦ (let both : Birth ≡ Does (Fork c i) = sym (kind_of is) ∙ kind in absurd (cc))
     ]

@@ -8,7 +8,7 @@ use Rattle.report_line.specs.declared.reply.Reply.{Reply}
 use Rattle.report_line.specs.declared.reply.Reply.TheVariants.{Accepted, Fail}
 use Rattle.report_line.specs.declared.reply.Outcome.TheVariants.{Before, Unknown}
 use Rattle.chains.specs.Held.{Held, counting}
-use Rattle.chains.specs.Admission.{IsReachable, one_more, IsReached, IsAdmission, Passes, accepted_after}
+use Rattle.chains.specs.Admission.{IsReachable, one_more, IsReached, IsAdmission, Passes, held_after}
 use Rattle.chains.specs.Turns.{Fate, fine, memory, before, unknown, IsQuestionTurn, IsReported, IsTurn}
 use Rattle.chains.proofs.Passed.{passed, has_room}
 
@@ -20,12 +20,12 @@ unchanged true fate held Answers reply after t = t.2
 unchanged false fate held Answers reply after t = t.2
 
 -- what a report's turn leaves is told by its reply
-pub after_report_turn : (stopped : Bool) (fate : Fate) (held : Held) (r : Report) (reply : Reply) (after : Held) → IsReported stopped fate held r reply after → after ≡ accepted_after held r reply
-after_report_turn true fate held r reply after t = t.2 ∙ sym (ap (accepted_after held r) t.1)
+pub after_report_turn : (stopped : Bool) (fate : Fate) (held : Held) (r : Report) (reply : Reply) (after : Held) → IsReported stopped fate held r reply after → after ≡ held_after held r reply
+after_report_turn true fate held r reply after t = t.2 ∙ sym (ap (held_after held r) t.1)
 after_report_turn false fine held r reply after t = t.1
-after_report_turn false memory held r reply after t = t.4 ∙ sym (ap (accepted_after held r) t.3)
-after_report_turn false before held r reply after t = t.2 ∙ sym (ap (accepted_after held r) t.1)
-after_report_turn false unknown held r reply after t = t.2 ∙ sym (ap (accepted_after held r) t.1)
+after_report_turn false memory held r reply after t = t.4 ∙ sym (ap (held_after held r) t.3)
+after_report_turn false before held r reply after t = t.2 ∙ sym (ap (held_after held r) t.1)
+after_report_turn false unknown held r reply after t = t.2 ∙ sym (ap (held_after held r) t.1)
 
 -- ---- what is reached
 
@@ -33,7 +33,7 @@ after_report_turn false unknown held r reply after t = t.2 ∙ sym (ap (accepted
 passes : (held : Held) (r : Report) (front : ℕ) → IsAdmission held r (Accepted front) → Passes held r
 passes held r front admitted = subst (λ (answer : Reply). IsAdmission held r answer) (passed (passed (has_room held r front admitted)).1).1 admitted
 
-pub still_reached : (accepted : List Report) (r : Report) (answer : Reply) → IsReachable accepted → IsAdmission (counting accepted) r answer → IsReached (accepted_after (counting accepted) r answer)
+pub still_reached : (accepted : List Report) (r : Report) (answer : Reply) → IsReachable accepted → IsAdmission (counting accepted) r answer → IsReached (held_after (counting accepted) r answer)
 still_reached accepted r (Accepted front) reach admitted =
     record { reachable = one_more accepted r reach (passes (counting accepted) r front admitted); counted = omega (arith, length-append accepted (r ∷ [])) }
 still_reached accepted r (Fail Before) reach admitted = record { reachable = reach; counted = refl }

@@ -103,11 +103,11 @@ abbrev pub Passes : Held → Report → Type 0
 Passes held r = IsAdmission held r (Accepted (held.front + 1))
 
 -- what is held after a reply to the report: the report where it is accepted; where the device failed the store is stopped
-abbrev pub accepted_after : Held → Report → Reply → Held
-accepted_after held r (Accepted front) = with_report held r
-accepted_after held r (Fail Before) = with_stop held
-accepted_after held r (Fail Unknown) = with_stop held
-accepted_after held r _ = held
+abbrev pub held_after : Held → Report → Reply → Held
+held_after held r (Accepted front) = with_report held r
+held_after held r (Fail Before) = with_stop held
+held_after held r (Fail Unknown) = with_stop held
+held_after held r _ = held
 
 -- the answers that take memory: to keep the report, or to make the value of a refusal
 abbrev pub TakesMemory : Reply → Type 0

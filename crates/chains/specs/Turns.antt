@@ -11,7 +11,7 @@ use Rattle.report_line.specs.declared.reply.Reply.TheVariants as replies
 use Rattle.chains.specs.Processes.{Name, IsKnown, reports_of, registered_id, target_of}
 use Rattle.chains.specs.Elements.{elements_of}
 use Rattle.chains.specs.Held.{Held, with_stop}
-use Rattle.chains.specs.Admission.{Decides, IsAdmission, Passes, accepted_after, TakesMemory}
+use Rattle.chains.specs.Admission.{Decides, IsAdmission, Passes, held_after, TakesMemory}
 use Rattle.chains.specs.Failures.{IsFirstUnknown}
 
 -- What may happen in a turn: nothing amiss; a growth that is refused; or, once all tests let a report pass, a device that
@@ -54,7 +54,7 @@ IsStateReply accepted p reply =
 -- The reply to a report where the store is not stopped: that of admission, or for want of memory in one that takes memory;
 -- where the device fails, the report is not accepted, and the store is stopped.
 abbrev pub IsReportTurn : Fate → Held → AnyReport → Reply → Held → Type 0
-IsReportTurn fine held r reply after = IsAdmission held r reply × (after ≡ accepted_after held r reply)
+IsReportTurn fine held r reply after = IsAdmission held r reply × (after ≡ held_after held r reply)
 IsReportTurn memory held r reply after =
     (answer : Reply) × IsAdmission held r answer × TakesMemory answer × (reply ≡ no_memory) × (after ≡ held)
 IsReportTurn before held r reply after = Passes held r × (reply ≡ replies.Fail Before) × (after ≡ with_stop held)

@@ -7,7 +7,7 @@ ghost use Rattle.report_line.specs.declared.report.Report.TheVariants.{Numbered}
 ghost use Rattle.report_line.specs.declared.call.Call.{Call};
 ghost use Rattle.report_line.specs.declared.reply.Reply.{Reply};
 ghost use Rattle.chains.specs.Held.{Held, counting};
-ghost use Rattle.chains.specs.Admission.{IsReachable, IsReached, IsAdmission, accepted_after};
+ghost use Rattle.chains.specs.Admission.{IsReachable, IsReached, IsAdmission, held_after};
 ghost use Rattle.chains.specs.Processes.{Name, reports_by, reports_of, last_report};
 ghost use Rattle.chains.specs.Elements.{elements_of, element_made, makers_of};
 ghost use Rattle.chains.specs.Folded.{IsFit, IsFolded};
@@ -38,6 +38,6 @@ pub fn makers_make_the_elements()
 /// From a list that admission reaches, whatever it replies to a report, it reaches what is accepted then; and so it is with
 /// each turn, whatever its call and its fate. The front goes on counting the reports.
 pub fn replies_keep_lists_reachable()
-    ensures report { (accepted : List Report) (r : Report) (answer : Reply) → IsReachable accepted → IsAdmission (counting accepted) r answer → IsReached (accepted_after (counting accepted) r answer) }
+    ensures report { (accepted : List Report) (r : Report) (answer : Reply) → IsReachable accepted → IsAdmission (counting accepted) r answer → IsReached (held_after (counting accepted) r answer) }
     ensures turn { (held after : Held) (call : Call) (reply : Reply) → IsReached held → IsTurn held call reply after → IsReached after }
 {}

@@ -191,7 +191,7 @@ undone_unsent root (s ∷ h) m undone =
       | inr other ↦ cond-false (sends s.deed m) _ _ other ∙ undone_unsent root h m (λ x occurs. undone x (earlier occurs))
     ]
 
--- Whether an event is the newest step's, or kind it sent is old.
+-- Of an event that does something: it is the newest step's, or it occurred before.
 pub does_same : (a b : Deed) → Does a ≡ Does b → a ≡ b
 does_same a b is = cc
 

@@ -17,7 +17,7 @@ use Rattle.history_law.specs.Headline.{IsRightLine}
 use Rattle.history_law.proofs.Lines.{line_of_histories}
 use Rattle.propagate.proofs.Certified.{certified_is_greatest}
 use Rattle.session.specs.SessionText.{Exchange}
-use Rattle.session.specs.Turned.{Shows, Served, accepted_by}
+use Rattle.session.specs.Turned.{Shows, Served, held_by}
 use Rattle.session.specs.Headline.{EachLineIsRight}
 use Rattle.session.proofs.Places.{served_at, places_reached}
 
@@ -61,4 +61,4 @@ right_exchange held between exchange text reach s e = right_shown held exchange.
 pub lines_are_right : (held after : Held) (exchanges : List Exchange) → IsReached held → Served held exchanges after → EachLineIsRight held exchanges
 lines_are_right held after exchanges reach served before later exchange text same shown =
     let at = served_at held after before later exchange (subst (λ (es : List Exchange). Served held es after) same served) in
-    right_exchange (accepted_by held before) at.0 exchange text (places_reached held after exchanges before (exchange ∷ later) reach served same) at.1 shown
+    right_exchange (held_by held before) at.0 exchange text (places_reached held after exchanges before (exchange ∷ later) reach served same) at.1 shown

@@ -6,11 +6,11 @@ use Rattle.chains.specs.Processes.{Name}
 use Rattle.chains.specs.Held.{Held}
 use Rattle.history_law.specs.Headline.{IsRightLine}
 use Rattle.session.specs.SessionText.{Exchange}
-use Rattle.session.specs.Turned.{accepted_by}
+use Rattle.session.specs.Turned.{held_by}
 
 -- Wherever among the exchanges a LINE is shown, a question for a line asked for it, and it is right over what was held at that
 -- place: its line is the greatest closed cut of every lawful history that agrees with what was accepted there.
 abbrev pub EachLineIsRight : Held → List Exchange → Type 0
 EachLineIsRight held exchanges =
     (before later : List Exchange) (exchange : Exchange) (text : List ℕ) → exchanges ≡ before ++ exchange ∷ later → exchange.shown ≡ replies.Line text
-    → (names : List Name) × (exchange.call ≡ calls.Line names) × IsRightLine (accepted_by held before) names text
+    → (names : List Name) × (exchange.call ≡ calls.Line names) × IsRightLine (held_by held before) names text

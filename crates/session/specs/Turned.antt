@@ -6,7 +6,7 @@ use Rattle.report_line.specs.declared.reply.Outcome.{Outcome}
 use Rattle.report_line.specs.declared.reply.Reply.{Reply}
 use Rattle.report_line.specs.declared.reply.Reply.TheVariants.{Fail}
 use Rattle.chains.specs.Held.{Held}
-use Rattle.chains.specs.Admission.{accepted_after}
+use Rattle.chains.specs.Admission.{held_after}
 use Rattle.chains.specs.Turns.{IsTurn}
 use Rattle.reasons.specs.Shown.{IsShown}
 use Rattle.session.specs.SessionText.{Exchange}
@@ -29,7 +29,7 @@ ShowsFailure exchange = (outcome : Outcome) × (exchange.shown ≡ Fail outcome)
 
 -- what is held behind a call for which this is shown: only a report changes it
 abbrev pub after_call : Held → Call → Reply → Held
-after_call held (calls.Report r) shown = accepted_after held r shown
+after_call held (calls.Report r) shown = held_after held r shown
 after_call held (calls.Line names) shown = held
 after_call held (calls.State p) shown = held
 after_call held calls.Bye shown = held
@@ -37,6 +37,6 @@ after_call held (calls.Bad n) shown = held
 after_call held calls.Unread shown = held
 
 -- what is held behind these exchanges
-abbrev pub accepted_by : Held → List Exchange → Held
-accepted_by held [] = held
-accepted_by held (e ∷ es) = accepted_by (after_call held e.call e.shown) es
+abbrev pub held_by : Held → List Exchange → Held
+held_by held [] = held
+held_by held (e ∷ es) = held_by (after_call held e.call e.shown) es

@@ -54,6 +54,7 @@ report_reached accepted front false unknown r reply after reach counted t = subs
 pub turn_reached : (held after : Held) (call : Call) (reply : Reply) → IsReached held → IsTurn held call reply after → IsReached after
 turn_reached held after (calls.Report r) reply reach (fate, t) = report_reached held.accepted held.front held.stopped fate r reply after reach.reachable reach.counted t
 turn_reached held after (calls.Line names) reply reach (fate, t) = subst IsReached (sym (unchanged held.stopped fate held _ reply after t)) reach
+turn_reached held after calls.Garbage reply reach (fate, t) = subst IsReached (sym (unchanged held.stopped fate held _ reply after t)) reach
 turn_reached held after (calls.State p) reply reach (fate, t) = subst IsReached (sym (unchanged held.stopped fate held _ reply after t)) reach
 turn_reached held after calls.Bye reply reach (fate, t) = subst IsReached (sym t.2) reach
 turn_reached held after (calls.Bad n) reply reach (fate, t) = subst IsReached (sym t.2) reach

@@ -16,7 +16,7 @@ use Rattle.report_line.specs.declared.reply.Reply.TheVariants.{Accepted, Old, No
 use Rattle.chains.specs.Processes.{Name, known, target_of}
 use Rattle.chains.specs.Held.{Held}
 use Rattle.chains.specs.Admission.{Decides, FitsOrNot, IsBeginReply, IsActionReply, IsStampReply, IsWaitingReply, IsStandingReply, IsAdmission}
-use Rattle.chains.specs.Turns.{Fate, fine, memory, before, unknown, IsLineReply, state_by, IsStateReply, IsQuestionTurn, IsReported, IsTurn}
+use Rattle.chains.specs.Turns.{Fate, fine, memory, before, unknown, IsLineReply, IsGarbageReply, state_by, IsStateReply, IsQuestionTurn, IsReported, IsTurn}
 use Rattle.chains.proofs.Turning.{unchanged}
 
 -- a reply that no test of a report or of a question gives
@@ -78,6 +78,9 @@ module _ (answer : Reply) (other : IsOther answer) where
     | inr all ↦ other.no_taken _ all.1
   ]
 
+  of_garbage : (held : Held) → ¬ IsGarbageReply held answer
+  of_garbage held h = other.no_taken _ (behind h (other.no_refusal _ _ _))
+
   of_target : (t : Option Name) (accepted : List Report) (p : Name) → answer ≢ state_by t accepted p
   of_target None accepted p e = other.no_state _ _ _ _ _ e
   of_target (Some target) accepted p e = other.no_state _ _ _ _ _ e
@@ -101,6 +104,7 @@ of_question false fate held Answers o after up other t = other t.1
 pub no_failure : (held after : Held) (call : Call) (o : Outcome) → held.stopped ≡ false → after.stopped ≡ false → ¬ IsTurn held call (Fail o) after
 no_failure held after (calls.Report r) o up still (fate, t) = of_report held.stopped fate held r o after up still t
 no_failure held after (calls.Line names) o up still (fate, t) = of_question held.stopped fate held (IsLineReply held names) o after up (of_line (Fail o) (failure_is_other o) held names) t
+no_failure held after calls.Garbage o up still (fate, t) = of_question held.stopped fate held (IsGarbageReply held) o after up (of_garbage (Fail o) (failure_is_other o) held) t
 no_failure held after (calls.State p) o up still (fate, t) =
     of_question held.stopped fate held (IsStateReply held.accepted p) o after up (of_state (Fail o) (failure_is_other o) held.accepted p) t
 no_failure held after calls.Bye o up still (fate, t) = let e = t.1 in cc
@@ -123,6 +127,7 @@ line_of_question false fate held Answers text after other t = other t.1
 pub no_line : (held after : Held) (call : Call) (text : List ℕ) → ¬ IsTurn held call (Line text) after
 no_line held after (calls.Report r) text (fate, t) = line_of_report held.stopped fate held r text after t
 no_line held after (calls.Line names) text (fate, t) = line_of_question held.stopped fate held (IsLineReply held names) text after (of_line (Line text) (line_is_other text) held names) t
+no_line held after calls.Garbage text (fate, t) = line_of_question held.stopped fate held (IsGarbageReply held) text after (of_garbage (Line text) (line_is_other text) held) t
 no_line held after (calls.State p) text (fate, t) = line_of_question held.stopped fate held (IsStateReply held.accepted p) text after (of_state (Line text) (line_is_other text) held.accepted p) t
 no_line held after calls.Bye text (fate, t) = let e = t.1 in cc
 no_line held after (calls.Bad n) text (fate, t) = let e = t.1 in cc
@@ -136,6 +141,7 @@ report_when_stopped false fate held r reply after down t = absurd (true≢false 
 pub stays_stopped : (held after : Held) (call : Call) (reply : Reply) → held.stopped ≡ true → IsTurn held call reply after → after ≡ held
 stays_stopped held after (calls.Report r) reply down (fate, t) = report_when_stopped held.stopped fate held r reply after down t
 stays_stopped held after (calls.Line names) reply down (fate, t) = unchanged held.stopped fate held _ reply after t
+stays_stopped held after calls.Garbage reply down (fate, t) = unchanged held.stopped fate held _ reply after t
 stays_stopped held after (calls.State p) reply down (fate, t) = unchanged held.stopped fate held _ reply after t
 stays_stopped held after calls.Bye reply down (fate, t) = t.2
 stays_stopped held after (calls.Bad n) reply down (fate, t) = t.2

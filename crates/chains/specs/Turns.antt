@@ -4,7 +4,7 @@ use Rattle.id_tree.specs.Spelling.{spelling}
 use Rattle.report_line.specs.declared.code.Code.TheVariants.{NothingBegun, UnknownProcess, OutOfMemory}
 use Rattle.report_line.specs.declared.report.Report.{Report as AnyReport}
 use Rattle.report_line.specs.declared.call.Call.{Call}
-use Rattle.report_line.specs.declared.call.Call.TheVariants.{Report, Line, State, Bye, Bad, Unread}
+use Rattle.report_line.specs.declared.call.Call.TheVariants.{Report, Line, Garbage, State, Bye, Bad, Unread}
 use Rattle.report_line.specs.declared.reply.Outcome.TheVariants.{Before, Unknown, Stopped}
 use Rattle.report_line.specs.declared.reply.Reply.{Reply}
 use Rattle.report_line.specs.declared.reply.Reply.TheVariants as replies
@@ -38,6 +38,11 @@ IsLineReply held names reply =
     Decides (held.accepted ≡ []) (replies.No NothingBegun None None) reply
     (((name : Name) × IsFirstUnknown held.accepted names name × (reply ≡ replies.No UnknownProcess (Some name) None))
     ⊎ (All (IsKnown held.accepted) names × (reply ≡ replies.Taken held.front)))
+
+-- The reply to the question for the line with every process failed, which names none.
+abbrev pub IsGarbageReply : Held → Reply → Type 0
+IsGarbageReply held reply =
+    Decides (held.accepted ≡ []) (replies.No NothingBegun None None) reply (reply ≡ replies.Taken held.front)
 
 -- what is told of a process that lives, or that retired into this target
 abbrev pub state_by : Option Name → List AnyReport → Name → Reply
@@ -78,6 +83,7 @@ IsReported false fate held r reply after = IsReportTurn fate held r reply after
 abbrev pub IsTurnWith : Fate → Held → Call → Reply → Held → Type 0
 IsTurnWith fate held (Report r) reply after = IsReported held.stopped fate held r reply after
 IsTurnWith fate held (Line names) reply after = IsQuestionTurn held.stopped fate held (IsLineReply held names) reply after
+IsTurnWith fate held Garbage reply after = IsQuestionTurn held.stopped fate held (IsGarbageReply held) reply after
 IsTurnWith fate held (State p) reply after = IsQuestionTurn held.stopped fate held (IsStateReply held.accepted p) reply after
 IsTurnWith fate held Bye reply after = IsPlainTurn fate held (λ x. x ≡ replies.Bye) reply after
 IsTurnWith fate held (Bad n) reply after = IsPlainTurn fate held (λ x. x ≡ replies.Bad n) reply after

@@ -40,12 +40,14 @@ kind_in (w ∷ ws) =
     cond (eqb (mark w) (mark (codes "BEGIN"))) 1
     (cond (eqb (mark w) (mark (codes "LINE"))) 2
     (cond (eqb (mark w) (mark (codes "STATE"))) 3
-    (cond (eqb (mark w) (mark (codes "BYE"))) 4 5)))
+    (cond (eqb (mark w) (mark (codes "BYE"))) 4
+    (cond (eqb (mark w) (mark (codes "GARBAGE"))) 6 5))))
 
 abbrev kind_of : Call → ℕ
 kind_of (calls.Report (reports.Begin p)) = 1
 kind_of (calls.Report (reports.Numbered r)) = 5
 kind_of (calls.Line ns) = 2
+kind_of calls.Garbage = 6
 kind_of (calls.State p) = 3
 kind_of calls.Bye = 4
 kind_of (calls.Bad n) = 0
@@ -62,6 +64,7 @@ kind_is : (c : Call) → kind_in (words_of c) ≡ kind_of c
 kind_is (calls.Report (reports.Begin p)) = refl
 kind_is (calls.Report (reports.Numbered r)) = numbered_kind r.action (r.process ∷ decimal r.number ∷ stamp_text r.stamp ∷ action_fields r.action)
 kind_is (calls.Line ns) = refl
+kind_is calls.Garbage = refl
 kind_is (calls.State p) = refl
 kind_is calls.Bye = refl
 kind_is (calls.Bad n) = refl
@@ -106,6 +109,7 @@ same_call calls.Unread d g h k e = absurd g
 same_call (calls.Report (reports.Begin p)) (calls.Report (reports.Begin q)) g h k e = ap (λ (r : List ℕ). calls.Report (reports.Begin r)) (parts p q [] [] (parts _ _ _ _ e).1).0
 same_call (calls.Report (reports.Numbered r)) (calls.Report (reports.Numbered t)) g h k e = same_numbered r t g h e
 same_call (calls.Line ns) (calls.Line ms) g h k e = ap calls.Line (row_again ns ms g h (parts _ _ [] [] (parts _ _ _ _ e).1).0)
+same_call calls.Garbage calls.Garbage g h k e = refl
 same_call (calls.State p) (calls.State q) g h k e = ap calls.State (parts p q [] [] (parts _ _ _ _ e).1).0
 same_call calls.Bye calls.Bye g h k e = refl
 same_call c (calls.Report (reports.Begin q)) g h k e = absurd (omega (arith, k))
@@ -119,6 +123,7 @@ unfolding spelling
 words_again (calls.Report (reports.Begin p)) h = joined_words _ _ (plain_words (calls.Report (reports.Begin p)) h)
 words_again (calls.Report (reports.Numbered r)) h = joined_words _ _ (plain_words (calls.Report (reports.Numbered r)) h)
 words_again (calls.Line ns) h = joined_words _ _ (plain_words (calls.Line ns) h)
+words_again calls.Garbage h = joined_words _ _ (plain_words calls.Garbage h)
 words_again (calls.State p) h = joined_words _ _ (plain_words (calls.State p) h)
 words_again calls.Bye h = joined_words _ _ (plain_words calls.Bye h)
 words_again (calls.Bad n) h = absurd h

@@ -85,6 +85,7 @@ plain_words (calls.Report (reports.Begin p)) h = ((refl, (refl, (refl, (refl, (r
 plain_words (calls.Report (reports.Numbered r)) h =
     (plain_kind r.action, (plain_name r.process h.name, (Lacks-decimal 32 r.number refl h.count.1, (plain_stamp r.stamp h.stamped, plain_fields r.action h.acted))))
 plain_words (calls.Line ns) h = ((refl, (refl, (refl, (refl, tt)))), (plain_names ns h, tt))
+plain_words calls.Garbage h = ((refl, (refl, (refl, (refl, (refl, (refl, (refl, tt))))))), tt)
 plain_words (calls.State p) h = ((refl, (refl, (refl, (refl, (refl, tt))))), (plain_name p h, tt))
 plain_words calls.Bye h = ((refl, (refl, (refl, tt))), tt)
 plain_words (calls.Bad n) h = absurd h

@@ -41,5 +41,6 @@ IsActionOf kind fields a = IsAction a × (kind ≡ action_word a) × (fields ≡
 pub record IsOtherKind (kind : List ℕ) : Type 0 where
   pub no_begin : kind ≢ codes "BEGIN"
   pub no_line : kind ≢ codes "LINE"
+  pub no_garbage : kind ≢ codes "GARBAGE"
   pub no_state : kind ≢ codes "STATE"
   pub no_bye : kind ≢ codes "BYE"

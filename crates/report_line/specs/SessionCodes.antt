@@ -64,35 +64,43 @@ outcome_of-outcome_number Stopped = refl
 abbrev pub outcome_code : Coded Outcome
 outcome_code = code_by ℕ coded_ℕ outcome_number outcome_of outcome_of-outcome_number
 
+-- a report, names, a name, a number, and the calls that have none of these
 abbrev pub CallFields : Type 0
-CallFields = Report ⊎ (List (List ℕ) ⊎ (List ℕ ⊎ (ℕ ⊎ Bool)))
+CallFields = Report ⊎ (List (List ℕ) ⊎ (List ℕ ⊎ (ℕ ⊎ ℕ)))
 
 abbrev pub call_fields : Call → CallFields
 call_fields (calls.Report r) = inl r
 call_fields (calls.Line ns) = inr (inl ns)
 call_fields (calls.State p) = inr (inr (inl p))
 call_fields (calls.Bad n) = inr (inr (inr (inl n)))
-call_fields calls.Bye = inr (inr (inr (inr true)))
-call_fields calls.Unread = inr (inr (inr (inr false)))
+call_fields calls.Garbage = inr (inr (inr (inr 0)))
+call_fields calls.Bye = inr (inr (inr (inr 1)))
+call_fields calls.Unread = inr (inr (inr (inr 2)))
+
+-- the call without fields, by its kind
+abbrev pub plain_call : ℕ → Call
+plain_call zero = calls.Garbage
+plain_call (suc zero) = calls.Bye
+plain_call (suc (suc kind)) = calls.Unread
 
 abbrev pub call_of : CallFields → Call
 call_of (inl r) = calls.Report r
 call_of (inr (inl ns)) = calls.Line ns
 call_of (inr (inr (inl p))) = calls.State p
 call_of (inr (inr (inr (inl n)))) = calls.Bad n
-call_of (inr (inr (inr (inr true)))) = calls.Bye
-call_of (inr (inr (inr (inr false)))) = calls.Unread
+call_of (inr (inr (inr (inr kind)))) = plain_call kind
 
 pub call_of-call_fields : (c : Call) → call_of (call_fields c) ≡ c
 call_of-call_fields (calls.Report r) = refl
 call_of-call_fields (calls.Line ns) = refl
+call_of-call_fields calls.Garbage = refl
 call_of-call_fields (calls.State p) = refl
 call_of-call_fields calls.Bye = refl
 call_of-call_fields (calls.Bad n) = refl
 call_of-call_fields calls.Unread = refl
 
 abbrev pub call_code : Coded Call
-call_code = code_by CallFields (coded⊎ report_code (coded⊎ (coded_list coded_bytes) (coded⊎ coded_bytes (coded⊎ coded_ℕ coded_bool)))) call_fields call_of call_of-call_fields
+call_code = code_by CallFields (coded⊎ report_code (coded⊎ (coded_list coded_bytes) (coded⊎ coded_bytes (coded⊎ coded_ℕ coded_ℕ)))) call_fields call_of call_of-call_fields
 
 -- a refusal, the state of a process, a text, an outcome, and the replies that have one number or none
 abbrev pub ReplyFields : Type 0

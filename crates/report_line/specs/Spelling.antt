@@ -47,6 +47,7 @@ abbrev pub words_of : Call → List (List ℕ)
 words_of (calls.Report (reports.Begin p)) = codes "BEGIN" ∷ p ∷ []
 words_of (calls.Report (reports.Numbered r)) = action_word r.action ∷ r.process ∷ decimal r.number ∷ stamp_text r.stamp ∷ action_fields r.action
 words_of (calls.Line ns) = codes "LINE" ∷ names_text ns ∷ []
+words_of calls.Garbage = codes "GARBAGE" ∷ []
 words_of (calls.State p) = codes "STATE" ∷ p ∷ []
 words_of calls.Bye = codes "BYE" ∷ []
 words_of (calls.Bad n) = []
@@ -76,6 +77,7 @@ abbrev pub HasSpelling : Call → Type 0
 HasSpelling (calls.Report (reports.Begin p)) = IsTrue (is_name p)
 HasSpelling (calls.Report (reports.Numbered r)) = AreFields r
 HasSpelling (calls.Line ns) = AreNames ns
+HasSpelling calls.Garbage = ⊤
 HasSpelling (calls.State p) = IsTrue (is_name p)
 HasSpelling calls.Bye = ⊤
 HasSpelling (calls.Bad n) = ⊥

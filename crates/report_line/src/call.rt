@@ -14,6 +14,8 @@ pub enum Call {
     Report(Shared<PackedReport>),
     /// Where do all processes recover from, once these have failed?
     Line(Names),
+    /// Where would all processes recover from, had every one of them failed? Checkpoints before that are obsolete.
+    Garbage,
     /// What is kept of this process?
     State(Shared<Name>),
     /// The client is done.
@@ -32,6 +34,7 @@ impl Call {
         match self {
             Call::Report(report) => Ok(Call::Report(report.share()?)),
             Call::Line(names) => Ok(Call::Line(names.copy(alloc)?)),
+            Call::Garbage => Ok(Call::Garbage),
             Call::State(name) => Ok(Call::State(name.share()?)),
             Call::Bye => Ok(Call::Bye),
             Call::Bad(number) => Ok(Call::Bad(*number)),

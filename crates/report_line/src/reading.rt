@@ -214,6 +214,16 @@ fn read_failed(alloc: Global, words: &mut Words<'_>) -> Result<Call, LineFault>
     }
 }
 
+fn read_garbage(words: &Words<'_>) -> Result<Call, LineFault>
+    ensures { Finds result (IsCallOf (codes "GARBAGE" ∷ words.now)) }
+{
+    if words.is_empty() {
+        Ok(Call::Garbage)
+    } else {
+        Err(LineFault::Grammar)
+    }
+}
+
 fn read_state(alloc: Global, words: &mut Words<'_>) -> Result<Call, LineFault>
     ensures { Finds result (IsCallOf (codes "STATE" ∷ words.old)) }
 {
@@ -242,6 +252,8 @@ fn read_call(alloc: Global, line: &[u8]) -> Result<Call, LineFault>
         read_begin(alloc, &mut words)
     } else if kind == b"LINE".as_slice() {
         read_failed(alloc, &mut words)
+    } else if kind == b"GARBAGE".as_slice() {
+        read_garbage(&words)
     } else if kind == b"STATE".as_slice() {
         read_state(alloc, &mut words)
     } else if kind == b"BYE".as_slice() {

@@ -4,7 +4,7 @@ use Rattle.report_line.specs.declared.call.Call.{Call}
 use Rattle.report_line.specs.declared.call.Call.TheVariants as calls
 use Rattle.report_line.specs.declared.reply.Reply.{Reply}
 use Rattle.report_line.specs.declared.reply.Reply.TheVariants as replies
-use Rattle.chains.specs.Processes.{Name}
+use Rattle.chains.specs.Processes.{Name, known}
 use Rattle.chains.specs.Held.{Held}
 use Rattle.chains.specs.Turns.{no_memory}
 use Rattle.reasons.specs.declared.certificate.Certificate.{Certificate}
@@ -24,9 +24,11 @@ IsLineShown held names (replies.Taken front) shown =
     ((text : List ℕ) × (shown ≡ replies.Line text) × IsLineText held names text) ⊎ (shown ≡ no_memory)
 IsLineShown held names reply shown = shown ≡ reply
 
--- The reply that is shown for a turn's, call by call: each question that is taken says what is shown for it.
+-- The reply that is shown for a turn's, call by call: each question that is taken says what is shown for it. GARBAGE asks for
+-- the line of all known processes.
 abbrev pub IsShown : Held → Call → Reply → Reply → Type 0
 IsShown held (calls.Line names) reply shown = IsLineShown held names reply shown
+IsShown held calls.Garbage reply shown = IsLineShown held (known held.accepted) reply shown
 IsShown held (calls.Report r) reply shown = shown ≡ reply
 IsShown held (calls.State p) reply shown = shown ≡ reply
 IsShown held calls.Bye reply shown = shown ≡ reply

@@ -31,6 +31,7 @@ ShowsFailure exchange = (outcome : Outcome) × (exchange.shown ≡ Fail outcome)
 abbrev pub after_call : Held → Call → Reply → Held
 after_call held (calls.Report r) shown = held_after held r shown
 after_call held (calls.Line names) shown = held
+after_call held calls.Garbage shown = held
 after_call held (calls.State p) shown = held
 after_call held calls.Bye shown = held
 after_call held (calls.Bad n) shown = held

@@ -1,0 +1,2 @@
+pub mod AllInOrder
+pub mod EveryFailed

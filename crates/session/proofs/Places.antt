@@ -14,6 +14,7 @@ use Rattle.session.specs.Turned.{Shows, Served, after_call, held_by}
 after_turn : (held after : Held) (call : Call) (reply shown : Reply) → IsTurn held call reply after → IsShown held call reply shown → after ≡ after_call held call shown
 after_turn held after (calls.Report r) reply shown (fate, t) s = after_report_turn held.stopped fate held r reply after t ∙ ap (held_after held r) (sym s)
 after_turn held after (calls.Line names) reply shown (fate, t) s = unchanged held.stopped fate held _ reply after t
+after_turn held after calls.Garbage reply shown (fate, t) s = unchanged held.stopped fate held _ reply after t
 after_turn held after (calls.State p) reply shown (fate, t) s = unchanged held.stopped fate held _ reply after t
 after_turn held after calls.Bye reply shown (fate, t) s = t.2
 after_turn held after (calls.Bad n) reply shown (fate, t) s = t.2

@@ -4,7 +4,7 @@ use Rattle.report_line.specs.declared.call.Call.{Call}
 use Rattle.report_line.specs.declared.call.Call.TheVariants as calls
 use Rattle.report_line.specs.declared.reply.Reply.{Reply}
 use Rattle.report_line.specs.declared.reply.Reply.TheVariants as replies
-use Rattle.chains.specs.Processes.{Name}
+use Rattle.chains.specs.Processes.{Name, known}
 use Rattle.chains.specs.Held.{Held}
 use Rattle.chains.specs.Admission.{IsReached}
 use Rattle.chains.specs.Turns.{IsTurn}
@@ -18,7 +18,7 @@ use Rattle.history_law.proofs.Lines.{line_of_histories}
 use Rattle.propagate.proofs.Certified.{certified_is_greatest}
 use Rattle.session.specs.SessionText.{Exchange}
 use Rattle.session.specs.Turned.{Shows, Served, held_by}
-use Rattle.session.specs.Headline.{EachLineIsRight}
+use Rattle.session.specs.Headline.{AsksForLine, EachLineIsRight}
 use Rattle.session.proofs.Places.{served_at, places_reached}
 
 -- the text of a certificate that certifies is right
@@ -37,17 +37,18 @@ same_text : (s t : List ℕ) → replies.Line s ≡ replies.Line t → s ≡ t
 same_text s t e = cc
 
 -- what is shown as a line for a question
-line_shown : (held : Held) (names : List Name) (reply : Reply) (text : List ℕ) (after : Held) → IsReached held → IsTurn held (calls.Line names) reply after → IsLineShown held names reply (replies.Line text)
+line_shown : (held : Held) (call : Call) (names : List Name) (reply : Reply) (text : List ℕ) (after : Held) → IsReached held → IsTurn held call reply after → IsLineShown held names reply (replies.Line text)
     → IsRightLine held names text
-line_shown held names (replies.Taken front) text after reach turned (inl shown) =
+line_shown held call names (replies.Taken front) text after reach turned (inl shown) =
     right_text held names text reach (subst (IsLineText held names) (sym (same_text text shown.0 shown.1)) shown.2)
-line_shown held names (replies.Taken front) text after reach turned (inr e) = absurd (cc)
-line_shown held names reply text after reach turned shown = absurd (no_line held after (calls.Line names) text (subst (λ (r : Reply). IsTurn held (calls.Line names) r after) (sym shown) turned))
+line_shown held call names (replies.Taken front) text after reach turned (inr e) = absurd (cc)
+line_shown held call names reply text after reach turned shown = absurd (no_line held after call text (subst (λ (r : Reply). IsTurn held call r after) (sym shown) turned))
 
 -- no other call shows a line
 right_shown : (held : Held) (call : Call) (reply : Reply) (text : List ℕ) (after : Held) → IsReached held → IsTurn held call reply after → IsShown held call reply (replies.Line text)
-    → (names : List Name) × (call ≡ calls.Line names) × IsRightLine held names text
-right_shown held (calls.Line names) reply text after reach turned shown = (names, refl, line_shown held names reply text after reach turned shown)
+    → (names : List Name) × AsksForLine held call names × IsRightLine held names text
+right_shown held (calls.Line names) reply text after reach turned shown = (names, refl, line_shown held (calls.Line names) names reply text after reach turned shown)
+right_shown held calls.Garbage reply text after reach turned shown = (known held.accepted, refl, line_shown held calls.Garbage (known held.accepted) reply text after reach turned shown)
 right_shown held (calls.Report r) reply text after reach turned shown = absurd (no_line held after (calls.Report r) text (subst (λ (x : Reply). IsTurn held (calls.Report r) x after) (sym shown) turned))
 right_shown held (calls.State p) reply text after reach turned shown = absurd (no_line held after (calls.State p) text (subst (λ (x : Reply). IsTurn held (calls.State p) x after) (sym shown) turned))
 right_shown held calls.Bye reply text after reach turned shown = absurd (no_line held after calls.Bye text (subst (λ (x : Reply). IsTurn held calls.Bye x after) (sym shown) turned))
@@ -55,7 +56,7 @@ right_shown held (calls.Bad n) reply text after reach turned shown = absurd (no_
 right_shown held calls.Unread reply text after reach turned shown = absurd (no_line held after calls.Unread text (subst (λ (x : Reply). IsTurn held calls.Unread x after) (sym shown) turned))
 
 right_exchange : (held between : Held) (exchange : Exchange) (text : List ℕ) → IsReached held → Shows held exchange.call between exchange.shown → exchange.shown ≡ replies.Line text
-    → (names : List Name) × (exchange.call ≡ calls.Line names) × IsRightLine held names text
+    → (names : List Name) × AsksForLine held exchange.call names × IsRightLine held names text
 right_exchange held between exchange text reach s e = right_shown held exchange.call s.reply text between reach s.turned (subst (IsShown held exchange.call s.reply) e s.fits)
 
 pub lines_are_right : (held after : Held) (exchanges : List Exchange) → IsReached held → Served held exchanges after → EachLineIsRight held exchanges

@@ -49,6 +49,23 @@ shown_text k names text some known is = taken k names (replies.Line text) some k
 pub shown_none : (k : Kept) (names : List Name) → ¬ (k.accepted ≡ []) → All (IsKnown k.accepted) names → Shows (held_of k) (calls.Line names) (held_of k) no_memory
 shown_none k names some known = taken k names no_memory some known (inr refl)
 
+-- ---- the line of all
+
+pub nothing_begun_garbage : (k : Kept) → k.accepted ≡ [] → Shows (held_of k) calls.Garbage (held_of k) (replies.No NothingBegun None None)
+nothing_begun_garbage k none = record { reply = replies.No NothingBegun None None; turned = (fine, (refl, inl (none, refl), refl)); fits = refl }
+
+taken_garbage : (k : Kept) (shown : Reply) → ¬ (k.accepted ≡ []) → (((text : List ℕ) × (shown ≡ replies.Line text) × IsLineText (held_of k) (known k.accepted) text) ⊎ (shown ≡ no_memory))
+    → Shows (held_of k) calls.Garbage (held_of k) shown
+taken_garbage k shown some shows = record { reply = replies.Taken k.front; turned = (fine, (refl, inr (some, refl), refl)); fits = shows }
+
+pub shown_garbage : (k : Kept) (text : List ℕ) → ¬ (k.accepted ≡ []) → IsLineText (held_of k) (known k.accepted) text → Shows (held_of k) calls.Garbage (held_of k) (replies.Line text)
+shown_garbage k text some is = taken_garbage k (replies.Line text) some (inl (text, refl, is))
+
+pub no_garbage : (k : Kept) → ¬ (k.accepted ≡ []) → Shows (held_of k) calls.Garbage (held_of k) no_memory
+no_garbage k some = taken_garbage k no_memory some (inr refl)
+
+-- ---- other lines and questions
+
 pub bad_line : (held after : Held) (n : ℕ) → after ≡ held → Shows held (calls.Bad n) after (replies.Bad n)
 bad_line held after n same = record { reply = replies.Bad n; turned = (fine, (refl, refl, same)); fits = refl }
 

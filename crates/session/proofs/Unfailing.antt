@@ -7,7 +7,7 @@ use Rattle.report_line.specs.declared.call.Call.TheVariants as calls
 use Rattle.report_line.specs.declared.reply.Outcome.{Outcome}
 use Rattle.report_line.specs.declared.reply.Reply.{Reply}
 use Rattle.report_line.specs.declared.reply.Reply.TheVariants.{Fail, Taken}
-use Rattle.chains.specs.Processes.{Name}
+use Rattle.chains.specs.Processes.{Name, known}
 use Rattle.chains.specs.Held.{Held}
 use Rattle.chains.specs.Turns.{IsTurn}
 use Rattle.chains.proofs.Unfailing.{no_failure, stays_stopped}
@@ -24,6 +24,7 @@ line_shown held names reply shown other is o e = other o (sym is ∙ e)
 shown_for : (held : Held) (call : Call) (reply shown : Reply) → ((o : Outcome) → reply ≢ Fail o) → IsShown held call reply shown → (o : Outcome) → shown ≢ Fail o
 shown_for held (calls.Report r) reply shown other is o e = other o (sym is ∙ e)
 shown_for held (calls.Line names) reply shown other is o e = line_shown held names reply shown other is o e
+shown_for held calls.Garbage reply shown other is o e = line_shown held (known held.accepted) reply shown other is o e
 shown_for held (calls.State p) reply shown other is o e = other o (sym is ∙ e)
 shown_for held calls.Bye reply shown other is o e = other o (sym is ∙ e)
 shown_for held (calls.Bad n) reply shown other is o e = other o (sym is ∙ e)

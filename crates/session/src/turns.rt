@@ -2,16 +2,19 @@
 
 ghost use Rattle.std.specs.Prelude.{◌≡◌, ℕ, List, IfOk, option_copied, None, Err};
 ghost use Rattle.report_line.specs.declared.call.Call.TheVariants as calls;
+ghost use Rattle.chains.specs.Processes.{known};
 ghost use Rattle.chains.specs.Held.{Held, held_of};
 ghost use Rattle.chains.specs.Failures.{IsFailedSet};
+ghost use Rattle.reasons.specs.CertificateText.{certificate_text};
 ghost use Rattle.reasons.specs.Shown.{IsLineText};
 ghost use Rattle.session.specs.Turned.{Shows};
 ghost use Rattle.session.specs.Parts.{MakesTurn, call_read, id_text};
 
 use chains::{Admitted, Chains, Failed, FailedFault, State};
+use garbage_line::garbage;
 use id_tree::Id;
 use propagate::certificate;
-use reasons::to_json;
+use reasons::{Certificate, to_json};
 use report_line::{Call, Code, LineFault, Name, PackedReport, Reply, Shared, Text};
 use std::alloc::{AllocError, Global};
 
@@ -41,13 +44,28 @@ fn admit(chains: &mut Chains, report: Shared<PackedReport>) -> Reply
     }
 }
 
+/// The text of a certificate.
+fn written(chains: &Chains, certificate: &Certificate) -> Result<Text, AllocError>
+    ensures { IfOk result (λ text. text ≡ certificate_text chains.now.accepted certificate.now) }
+{
+    let text = to_json(chains, certificate)?;
+    Ok(Text::from_vec(text.into_bytes()))
+}
+
 /// The text of the certificate of these failed processes.
 fn line_text(chains: &Chains, failed: &Failed) -> Result<Text, AllocError>
     ensures { IfOk result (λ text. (names : List (List ℕ)) → IsFailedSet chains.now.accepted names failed.now → IsLineText (held_of chains.now) names text) }
 {
     let certificate = certificate(chains, failed)?;
-    let text = to_json(chains, &certificate)?;
-    Ok(Text::from_vec(text.into_bytes()))
+    written(chains, &certificate)
+}
+
+/// The text of the certificate of all processes.
+fn garbage_text(chains: &Chains) -> Result<Text, AllocError>
+    ensures { IfOk result (λ text. IsLineText (held_of chains.now) (known chains.now.accepted) text) }
+{
+    let certificate = garbage(chains)?;
+    written(chains, &certificate)
 }
 
 /// The turn of a question for a line, and what is shown for it.
@@ -69,6 +87,20 @@ fn line_of(chains: &Chains, names: &[Name]) -> Reply
             value: None,
         },
         Err(FailedFault::Memory) => refusal(Code::OutOfMemory),
+    }
+}
+
+/// The turn of the question for the line with every process failed, and what is shown for it.
+#[cold]
+fn garbage_of(chains: &Chains) -> Reply
+    ensures { Shows (held_of chains.now) calls.Garbage (held_of chains.now) result }
+{
+    if chains.is_empty() {
+        return refusal(Code::NothingBegun);
+    }
+    match garbage_text(chains) {
+        Ok(text) => Reply::Line(text),
+        Err(_) => refusal(Code::OutOfMemory),
     }
 }
 
@@ -145,6 +177,7 @@ pub(crate) fn make_turn(
     match read {
         Ok(Call::Report(report)) => Ok(admit(chains, report)),
         Ok(Call::Line(names)) => Ok(line_of(chains, names.as_slice())),
+        Ok(Call::Garbage) => Ok(garbage_of(chains)),
         Ok(Call::State(name)) => state_asked(chains, name),
         Ok(Call::Bye) => Ok(Reply::Bye),
         Ok(Call::Bad(number)) => Ok(Reply::Bad(number)),

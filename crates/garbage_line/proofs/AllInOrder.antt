@@ -1,5 +1,5 @@
 -- Numbers in order that are just those below one.
-use Rattle.std.proofs.Common.{◌≡◌, inl, inr, ℕ, zero, suc, ◌+◌, ◌-◌, ◌<◌, ◌≤◌, List, length, get_or, sym, ap, ◌∙◌, subst, arith, zero-add}
+use Rattle.std.proofs.Common.{◌≡◌, inl, inr, ℕ, zero, suc, ◌+◌, ◌<◌, ◌≤◌, List, length, sym, ◌∙◌, subst, arith, zero-add}
 use Rattle.std.specs.Prelude.{slice_index, Contains, ◌↔◌}
 use Rattle.std.specs.List.{range_with_len}
 use Rattle.std.specs.List.Sorted.{IsStrictlyIncreasing}
@@ -63,5 +63,5 @@ module _ (xs : List ℕ) (n : ℕ) (rises : IsStrictlyIncreasing xs) (just : (p 
   pub all_in_order : xs ≡ range_with_len 0 n
   all_in_order =
       ext_get_or 0 xs (range_with_len 0 n) (as_many ∙ sym (length-range_with_len 0 n)) (λ i l.
-        let m : i < n = omega (arith, as_many) in
-        (own_below n (omega arith)).1 i m ∙ sym (get_or-range_with_len 0 n i 0 m ∙ zero-add i))
+      let m : i < n = omega (arith, as_many) in
+      (own_below n (omega arith)).1 i m ∙ sym (get_or-range_with_len 0 n i 0 m ∙ zero-add i))

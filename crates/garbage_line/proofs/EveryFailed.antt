@@ -3,7 +3,6 @@ use Rattle.std.proofs.Common.{◌≡◌, ◌<◌, ◌↔◌, ℕ, List, length, 
 use Rattle.std.specs.Prelude.{Contains, IfOk}
 use Rattle.std.specs.List.{range_with_len}
 use Rattle.std.proofs.lemmas.Option.{slice_get_within, slice_get_cases}
-use Rattle.report_line.specs.declared.report.Report.{Report}
 use Rattle.chains.specs.Processes.{known}
 use Rattle.chains.specs.Failures.{IsFailedSet}
 use Rattle.chains.specs.Folded.{IsFolded}

@@ -1,0 +1,5 @@
+pub mod Changes
+pub mod Actions
+pub mod Tied
+pub mod Silent
+pub mod AfterReport

@@ -3,3 +3,7 @@ pub mod Actions
 pub mod Tied
 pub mod Silent
 pub mod AfterReport
+pub mod Tests
+pub mod Next
+pub mod Going
+pub mod OneByOne

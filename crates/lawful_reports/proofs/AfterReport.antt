@@ -10,11 +10,10 @@ use Rattle.event_tree.specs.EventTree.{EventTree}
 use Rattle.event_tree.specs.Values.{value_at, IsAtOrBelow}
 use Rattle.report_line.specs.Spelling.{AreFields}
 use Rattle.report_line.specs.declared.report.Action.{Action}
-use Rattle.report_line.specs.declared.report.Action.TheVariants as acts
 use Rattle.report_line.specs.declared.report.NumberedReport.{NumberedReport}
 use Rattle.report_line.specs.declared.report.Report.{Report}
 use Rattle.report_line.specs.declared.report.Report.TheVariants.{Numbered}
-use Rattle.report_line.specs.declared.step.Deed.TheVariants.{Fork, Retire, Absorb}
+use Rattle.report_line.specs.declared.step.Deed.TheVariants.{Fork, Absorb}
 use Rattle.report_line.specs.declared.step.Step.{Step}
 use Rattle.report_line.specs.History.{Name, History, Event, Unborn, Living, Retired, status, last_of, event_of, birth_by}
 use Rattle.report_line.specs.Lawful.{IsAllowed}

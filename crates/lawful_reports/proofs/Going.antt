@@ -1,5 +1,5 @@
 -- What turns reply to the reports of a lawful history, handed over in order.
-use Rattle.std.proofs.Common.{◌≡◌, ◌≢◌, ◌+◌, ◌⊎◌, Bool, false, List, [], ◌∷◌, ◌++◌, length, All, refl, sym, ◌∙◌, ap, subst, inl, inr, append-nil, append_assoc, arith}
+use Rattle.std.proofs.Common.{◌≡◌, ◌+◌, ◌⊎◌, Bool, false, List, [], ◌∷◌, ◌++◌, length, All, refl, sym, ◌∙◌, ap, subst, inl, inr, append-nil, append_assoc, arith}
 use Rattle.std.proofs.lemmas.List.Elements.{All-head, All-tail}
 use Rattle.report_line.specs.declared.report.Report.{Report}
 use Rattle.report_line.specs.declared.reply.Reply.{Reply}
@@ -53,7 +53,7 @@ up_to_want root h held (r ∷ rs) rest (reply ∷ replies) after w running parts
       | inl accepted ↦ inl (
         accepted.0,
         up_to_want root h (with_report held r) rs rest replies after w running (parts ∙ sym (append_assoc held.accepted (r ∷ []) (rs ++ rest)))
-        (subst (λ (k : Held). AreTurns k rs replies after) accepted.1 turns),
+            (subst (λ (k : Held). AreTurns k rs replies after) accepted.1 turns),
       )
       | inr want ↦ inr want
     ]

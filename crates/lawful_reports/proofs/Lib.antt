@@ -7,3 +7,4 @@ pub mod Tests
 pub mod Next
 pub mod Going
 pub mod OneByOne
+pub mod Example

@@ -1,5 +1,5 @@
 -- The next report of what is handed over is that of a step over the reports before it, or BEGIN.
-use Rattle.std.proofs.Common.{◌≡◌, ◌≢◌, ◌⊎◌, ◌↔◌, List, [], ◌∷◌, ◌++◌, Option, Some, None, All, refl, sym, ◌∙◌, ap, subst, inl, inr, append-nil, arith}
+use Rattle.std.proofs.Common.{◌≡◌, ◌≢◌, ◌↔◌, List, [], ◌∷◌, ◌++◌, Option, Some, None, All, refl, sym, ◌∙◌, ap, subst, append-nil}
 use Rattle.std.specs.Prelude.{Contains, slice_get}
 use Rattle.std.specs.List.{cons_option}
 use Rattle.std.specs.Option.{option_map}
@@ -11,11 +11,11 @@ use Rattle.report_line.specs.declared.reply.Reply.{Reply}
 use Rattle.report_line.specs.declared.step.Step.{Step}
 use Rattle.report_line.specs.History.{Name, History, Event, Living, status}
 use Rattle.report_line.specs.Lawful.{IsAllowed, IsLawful, start, next}
-use Rattle.report_line.specs.StepReports.{report_of, reports}
+use Rattle.report_line.specs.StepReports.{report_of}
 use Rattle.chains.specs.Held.{Held}
 use Rattle.chains.specs.Processes.{known}
 use Rattle.chains.specs.Admission.{IsAdmission, IsBeginReply, FitsOrNot}
-use Rattle.lawful_reports.specs.HandedOver.{handed_over, IsNext, IsTargetBorn, AreTargetsBorn, HasLine, IsReportable}
+use Rattle.lawful_reports.specs.HandedOver.{handed_over, IsTargetBorn, HasLine, IsReportable}
 use Rattle.lawful_reports.specs.Laws.{OnlyRoomIsTested}
 use Rattle.lawful_reports.proofs.Actions.{reported, reported_id, report_with, report_is, unreported}
 use Rattle.lawful_reports.proofs.Tied.{AreTied, first_tied}
@@ -40,7 +40,7 @@ pub record Ends (root : Name) (h : History) (s : Step) : Type 0 where
   pub target : IsTargetBorn root h s.deed
   pub line : (r : Report) → report_of root h s ≡ Some r → HasLine r
 
-last_step : {root : Name} {whole : History} → IsLawful root whole → (s : Step) (h : History) → whole ≡ s ∷ h
+pub last_step : {root : Name} {whole : History} → IsLawful root whole → (s : Step) (h : History) → whole ≡ s ∷ h
     → IsLawful root h × ((b : Event) × (status root h s.process ≡ Living b) × IsAllowed root h b s s.deed)
 last_step start s h is = absurd (cc)
 last_step {root} (next {h = g} {s = t} {before = b} lawful living allowed) s h is =

@@ -1,7 +1,7 @@
 -- No test of admission applies to the report of a lawful step but those for room.
-use Rattle.std.proofs.Common.{◌≡◌, ◌≢◌, ◌↔◌, ℕ, ◌+◌, ◌<◌, ◌≤◌, ◌||◌, Bool, List, Option, Some, None, refl, sym, ◌∙◌, ap, subst, inl, inr, arith}
+use Rattle.std.proofs.Common.{◌≡◌, ◌≢◌, ◌↔◌, ℕ, ◌+◌, ◌<◌, ◌≤◌, ◌||◌, Bool, Option, Some, None, refl, sym, ◌∙◌, ap, subst, inl, inr, arith}
 use Rattle.id_tree.specs.IdTree.{IdTree}
-use Rattle.id_tree.specs.Points.{Point, owns, AreTogether}
+use Rattle.id_tree.specs.Points.{owns, AreTogether}
 use Rattle.id_tree.specs.NormalForm.{IsNormal}
 use Rattle.id_tree.specs.Split.{IsSplit}
 use Rattle.id_tree.specs.Sum.{sum_of}

@@ -1,5 +1,5 @@
 -- What an accepted list says of a history whose reports it has.
-use Rattle.std.proofs.Common.{◌≡◌, ◌≢◌, ◌≤◌, ℕ, false, List, [], ◌∷◌, Option, Some, None, refl, sym, ◌∙◌, ap, subst, inl, inr, arith}
+use Rattle.std.proofs.Common.{◌≡◌, ◌≢◌, ◌≤◌, false, List, [], ◌∷◌, Option, Some, None, refl, sym, ◌∙◌, ap, subst, inl, inr, arith}
 use Rattle.id_tree.specs.IdTree.{IdTree, One}
 use Rattle.id_tree.specs.Points.{owns}
 use Rattle.id_tree.specs.NormalForm.{IsNormal}

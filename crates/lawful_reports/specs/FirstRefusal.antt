@@ -1,12 +1,11 @@
 -- What handing over reports answers.
-use Rattle.std.specs.Prelude.{◌≡◌, ◌⊎◌, ◌<◌, ◌++◌, List, All, Result, MatchResult, Some, length, slice_get, take, ⊤}
+use Rattle.std.specs.Prelude.{◌≡◌, ◌⊎◌, ◌++◌, List, All, Result, MatchResult, Some, slice_get, take, ⊤}
 use Rattle.report_line.specs.declared.code.Code.TheVariants.{Full, OutOfMemory}
 use Rattle.report_line.specs.declared.report.Report.{Report}
 use Rattle.report_line.specs.declared.call.Call.TheVariants as calls
 use Rattle.report_line.specs.declared.reply.Reply.{Reply}
 use Rattle.report_line.specs.declared.reply.Reply.TheVariants.{Accepted, Old, No}
 use Rattle.report_line.specs.History.{Name, History}
-use Rattle.chains.specs.declared.refusal.No.{No as Refusal}
 use Rattle.chains.specs.Held.{Held, counting}
 use Rattle.chains.specs.Turns.{IsTurn}
 use Rattle.lawful_reports.specs.declared.handing.Refused.{Refused}

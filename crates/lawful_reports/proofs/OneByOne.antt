@@ -22,8 +22,8 @@ use Rattle.chains.specs.Turns.{Fate, fine, memory, before, unknown, IsDeviceFree
 use Rattle.lawful_reports.specs.declared.handing.Refused.{Refused}
 use Rattle.lawful_reports.specs.HandedOver.{handed_over, IsReportable}
 use Rattle.lawful_reports.specs.Accepting.{IsFull, IsRoomTurn, AreTurns}
-use Rattle.lawful_reports.specs.FirstRefusal.{IsTaken, AreTaken, IsFirstRefusal, IsHandedOver, IsRefusedForRoom, AreAcceptedInOrder}
-use Rattle.lawful_reports.proofs.Going.{only_room_is_refused, up_to_want, HasAccepted, all_accepted}
+use Rattle.lawful_reports.specs.FirstRefusal.{IsTaken, AreTaken, IsFirstRefusal, IsHandedOver, IsFirstRefusalForRoom, AreAcceptedInOrder}
+use Rattle.lawful_reports.proofs.Going.{turns_refuse_for_room_alone, up_to_refusal, HasAccepted, all_accepted}
 
 -- ---- one report more
 
@@ -113,10 +113,10 @@ behind xs ys zs r rest more is =
 module _ (k j : Kept) (counted : k.front ≡ length k.accepted) (root : Name) (h : History) (rest : List Report) (w : IsReportable root h) where
   taken_in_order : (rs more : List Report) → handed_over root h ≡ k.accepted ++ (rs ++ more) → AreTaken (held_of k) rs (held_of j) → HasAccepted (held_of k) rs (held_of j)
   taken_in_order rs more parts (replies, turns, all) =
-      all_accepted (held_of k) rs replies (held_of j) (up_to_want root h (held_of k) rs more replies (held_of j) w refl parts turns) all
+      all_accepted (held_of k) rs replies (held_of j) (up_to_refusal root h (held_of k) rs more replies (held_of j) w refl parts turns) all
 
   refused_in_order : (reports : List Report) (refused : Refused) → handed_over root h ≡ k.accepted ++ (reports ++ rest) → IsFirstRefusal (held_of k) reports refused (held_of j)
-      → IsRefusedForRoom k.accepted reports refused j.accepted
+      → IsFirstRefusalForRoom k.accepted reports refused j.accepted
   refused_in_order reports refused parts f =
       let place = split_at reports refused.place f.report f.there in
       let front = take refused.place reports in
@@ -132,7 +132,7 @@ module _ (k j : Kept) (counted : k.front ≡ length k.accepted) (root : Name) (h
         there = f.there;
         accepted_before = all.accepted;
         why = why j f.report refused.why f.refusal.0 (held_of j) (omega arith)
-            (only_room_is_refused root h (held_of j) (held_of j) f.report _ f.refusal.0 w (place.0 ++ rest, following) refl f.refusal.1);
+            (turns_refuse_for_room_alone root h (held_of j) (held_of j) f.report _ f.refusal.0 w (place.0 ++ rest, following) refl f.refusal.1);
       }
 
 pub accepted_in_order : (k j : Kept) (reports : List Report) (result : Result ⊤ Refused) → k.front ≡ length k.accepted → IsHandedOver (held_of k) reports result (held_of j)

@@ -36,14 +36,15 @@ AreTurns held (r ∷ rs) (reply ∷ replies) after =
     (between : Held) × IsTurn held (calls.Report r) reply between × AreTurns between rs replies after
 AreTurns held _ _ after = ⊥
 
--- this reply is for want of room or of memory, or the device failed
-abbrev pub IsForWant : Held → Report → Reply → Type 0
-IsForWant held r reply =
+-- this reply refuses the report for want of room or of memory, or says that the device failed
+abbrev pub IsRefusalForRoom : Held → Report → Reply → Type 0
+IsRefusalForRoom held r reply =
     (IsFull held r × SaysFull reply) ⊎ ((reply ≡ no_memory) ⊎ ((reply ≡ Fail outcomes.Before) ⊎ (reply ≡ Fail outcomes.Unknown)))
 
--- The replies accept the reports up to the first that does not, which is for such a want; what is replied behind it is open.
-abbrev pub AcceptUpToWant : Held → List Report → List Reply → Held → Type 0
-AcceptUpToWant held [] [] after = after ≡ held
-AcceptUpToWant held (r ∷ rs) (reply ∷ replies) after =
-    ((reply ≡ Accepted (held.front + 1)) × AcceptUpToWant (with_report held r) rs replies after) ⊎ IsForWant held r reply
-AcceptUpToWant held _ _ after = ⊥
+-- The reports are accepted with these replies, up to the first that is not, which is refused for room; what is replied behind
+-- that is open.
+abbrev pub AreAcceptedUpToRefusal : Held → List Report → List Reply → Held → Type 0
+AreAcceptedUpToRefusal held [] [] after = after ≡ held
+AreAcceptedUpToRefusal held (r ∷ rs) (reply ∷ replies) after =
+    ((reply ≡ Accepted (held.front + 1)) × AreAcceptedUpToRefusal (with_report held r) rs replies after) ⊎ IsRefusalForRoom held r reply
+AreAcceptedUpToRefusal held _ _ after = ⊥

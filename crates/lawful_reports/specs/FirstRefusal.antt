@@ -35,7 +35,7 @@ abbrev pub IsHandedOver : Held → List Report → Result ⊤ Refused → Held �
 IsHandedOver held reports result after = MatchResult result (λ _. AreTaken held reports after) (λ refused. IsFirstRefusal held reports refused after)
 
 -- the report at this place was refused for want of room or of memory
-pub record IsRefusedForRoom (accepted reports : List Report) (refused : Refused) (after : List Report) : Type 0 where
+pub record IsFirstRefusalForRoom (accepted reports : List Report) (refused : Refused) (after : List Report) : Type 0 where
   pub report : Report
   pub there : slice_get reports refused.place ≡ Some report
   pub accepted_before : after ≡ accepted ++ take refused.place reports
@@ -45,4 +45,4 @@ pub record IsRefusedForRoom (accepted reports : List Report) (refused : Refused)
 abbrev pub AreAcceptedInOrder : List Report → List Report → Result ⊤ Refused → List Report → Type 0
 AreAcceptedInOrder accepted reports result after =
     (root : Name) (h : History) (rest : List Report) → IsReportable root h → handed_over root h ≡ accepted ++ (reports ++ rest)
-    → MatchResult result (λ _. after ≡ accepted ++ reports) (λ refused. IsRefusedForRoom accepted reports refused after)
+    → MatchResult result (λ _. after ≡ accepted ++ reports) (λ refused. IsFirstRefusalForRoom accepted reports refused after)

@@ -8,7 +8,7 @@ use Rattle.chains.specs.Held.{Held, counting}
 use Rattle.chains.specs.Admission.{IsAdmission, FitsOrNot}
 use Rattle.chains.specs.Turns.{Fate, IsTurnWith}
 use Rattle.lawful_reports.specs.HandedOver.{handed_over, IsNext, IsReportable}
-use Rattle.lawful_reports.specs.Accepting.{IsRoomTurn, AreTurns, AcceptUpToWant}
+use Rattle.lawful_reports.specs.Accepting.{IsRoomTurn, AreTurns, AreAcceptedUpToRefusal}
 
 -- No test of admission but those for room applies to the next report over those before it.
 abbrev pub OnlyRoomIsTested : Type 0
@@ -17,15 +17,15 @@ OnlyRoomIsTested =
     → IsAdmission held r answer ↔ FitsOrNot held r answer
 
 -- So in a turn with any fate the next report is accepted, or there is no room or no memory for it, or the device fails.
-abbrev pub OnlyRoomIsRefused : Type 0
-OnlyRoomIsRefused =
+abbrev pub TurnsRefuseForRoomAlone : Type 0
+TurnsRefuseForRoomAlone =
     (root : Name) (h : History) (held after : Held) (r : Report) (reply : Reply) (fate : Fate)
     → IsReportable root h → IsNext root h held.accepted r → held.stopped ≡ false
     → IsTurnWith fate held (calls.Report r) reply after → IsRoomTurn fate held r reply after
 
--- And so BEGIN and all reports, handed over one by one in order, are accepted up to the first refusal, which is for such a want.
+-- And so BEGIN and all reports, handed over one by one in order, are accepted up to the first refusal, which is for room.
 abbrev pub AllAreAcceptedInOrder : Type 0
 AllAreAcceptedInOrder =
     (root : Name) (h : History) (replies : List Reply) (after : Held)
     → IsReportable root h → AreTurns (counting []) (handed_over root h) replies after
-    → AcceptUpToWant (counting []) (handed_over root h) replies after
+    → AreAcceptedUpToRefusal (counting []) (handed_over root h) replies after

@@ -3,7 +3,7 @@
 ghost use Rattle.std.specs.Prelude.{◌≡◌};
 ghost use Rattle.histories.specs.Example.{a};
 ghost use Rattle.lawful_reports.specs.HandedOver.{IsReportable, handed_over};
-ghost use Rattle.lawful_reports.specs.Laws.{OnlyRoomIsTested, OnlyRoomIsRefused, AllAreAcceptedInOrder};
+ghost use Rattle.lawful_reports.specs.Laws.{OnlyRoomIsTested, TurnsRefuseForRoomAlone, AllAreAcceptedInOrder};
 ghost use Rattle.lawful_reports.specs.Example.{reported_steps, its_reports};
 
 /// `BEGIN` by the root and then the reports of a lawful history, handed over in order, are accepted up to the first refusal,
@@ -12,7 +12,7 @@ pub fn lawful_reports_are_accepted()
     // No test but room applies to the next report.
     ensures tests { OnlyRoomIsTested }
     // What a turn of the next report replies.
-    ensures turn { OnlyRoomIsRefused }
+    ensures turn { TurnsRefuseForRoomAlone }
     // The whole list, handed over one by one.
     ensures in_order { AllAreAcceptedInOrder }
 {}

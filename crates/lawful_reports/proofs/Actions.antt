@@ -2,6 +2,7 @@
 use Rattle.std.proofs.Common.{◌≡◌, ◌≢◌, ◌+◌, true, false, Option, Some, None, refl, sym, ap, subst, arith}
 use Rattle.std.specs.Option.{option_map}
 use Rattle.std.proofs.lemmas.Bool.{true≢false}
+use Rattle.std.proofs.lemmas.Option.{same_Some}
 use Rattle.id_tree.specs.IdTree.{IdTree}
 use Rattle.id_tree.specs.NormalForm.{IsNormal}
 use Rattle.stamp.specs.declared.stamp.Stamp.{Stamp}
@@ -54,10 +55,10 @@ report_is root h s (Fork c i) = refl
 report_is root h s (Retire q) = refl
 report_is root h s (Absorb r) = refl
 
-pub some_action : (x a : Action) → Some x ≡ Some a → a ≡ x
-some_action x a is = cc
+some_action : (x a : Action) → Some x ≡ Some a → a ≡ x
+some_action x a is = sym (same_Some x a is)
 
-pub none_action : (a : Action) → None ≢ Some a
+none_action : (a : Action) → None ≢ Some a
 none_action a is = cc
 
 pub reported_is : (s : Step) (d : Deed) (a : Action) → reported s d ≡ Some a → is_reported d ≡ true

@@ -2,7 +2,7 @@
 use Rattle.std.proofs.Common.{◌≡◌, ◌≢◌, ℕ, suc, ◌+◌, Bool, true, false, cond, List, [], ◌∷◌, ◌++◌, Option, Some, None, refl, sym, ◌∙◌, ap, subst, inl, inr, arith}
 use Rattle.std.specs.Prelude.{◌||◌, ◌&&◌}
 use Rattle.std.specs.Str.{bytes_eq}
-use Rattle.std.proofs.lemmas.Bool.{true≢false, false_from_ne_true, cond-true}
+use Rattle.std.proofs.lemmas.Bool.{true≢false, false_from_ne_true, cond-true, and_from, or_from}
 use Rattle.id_tree.specs.IdTree.{IdTree}
 use Rattle.id_tree.specs.Points.{owns}
 use Rattle.id_tree.specs.NormalForm.{IsNormal}
@@ -29,20 +29,12 @@ use Rattle.lawful_reports.proofs.Changes.{Change, acted, born, taken, kept, chan
 use Rattle.lawful_reports.proofs.Actions.{fork_of, reported, reported_id, report_with, reported_is, fork_fact, retire_fact, child_fact, absorb_fact, no_target, kept_is, kept_normal}
 use Rattle.lawful_reports.proofs.Tied.{IsHeld, AreTied}
 
-both_true : (a b : Bool) → a ≡ true → b ≡ true → (a && b) ≡ true
-both_true true b is also = also
-both_true false b is also = absurd (true≢false (sym is))
-
-or_none : (a b : Bool) → a ≡ false → b ≡ false → (a || b) ≡ false
-or_none true b is also = absurd (true≢false is)
-or_none false b is also = also
-
 same_number : (q r : NumberedReport) → Some (Numbered q) ≡ Some (Numbered r) → r.number ≡ q.number
 same_number q r is = cc
 
-filled : (xs : List Report) (y : Report) → xs ++ y ∷ [] ≢ []
-filled [] y is = cc
-filled (x ∷ xs) y is = cc
+pub filled : (xs : List Report) (y : Report) (ys : List Report) → xs ++ y ∷ ys ≢ []
+filled [] y ys is = cc
+filled (x ∷ xs) y ys is = cc
 
 -- who absorbs, what an absorption asks
 absorbs_retired : (root : Name) (h : History) (b : Event) (s : Step) (q : Name) → IsAllowed root h b s s.deed → s.deed ≡ Absorb q
@@ -90,7 +82,7 @@ module _ (accepted : List Report) (root : Name) (h : History) (b : Event) (s : S
   not_by_others q never = false_from_ne_true (absorbs q a) (λ hit. never (absorb_fact s s.deed a q makes hit))
 
   still_unabsorbed : (q : Name) → is_absorbed q accepted ≡ false → absorbs q a ≡ false → is_absorbed q after ≡ false
-  still_unabsorbed q is never = absorbed-push q accepted (Numbered r) ∙ or_none (is_absorbed q accepted) (absorbs q a) is never
+  still_unabsorbed q is never = absorbed-push q accepted (Numbered r) ∙ or_from (is_absorbed q accepted) (absorbs q a) is never
 
   not_born : (q : Name) → ((i : IdTree) → s.deed ≢ Fork q i) → is_birth_of q (Numbered r) ≡ false
   not_born q never = no_birth q r a (λ child is same.
@@ -99,7 +91,7 @@ module _ (accepted : List Report) (root : Name) (h : History) (b : Event) (s : S
   counted_next : (q : Name) → q ≡ s.process → reporting_steps q (s ∷ h) ≡ reporting_steps q h + 1
   counted_next q is =
       (let up : reporting_steps q (s ∷ h) ≡ suc (reporting_steps q h) =
-      cond-true (bytes_eq q s.process && is_reported s.deed) _ _ (both_true _ _ (bytes_same q s.process is) (reported_is s s.deed a makes)) in
+      cond-true (bytes_eq q s.process && is_reported s.deed) _ _ (and_from _ _ (bytes_same q s.process is) (reported_is s s.deed a makes)) in
       omega arith)
 
   -- ---- each part of the tie
@@ -220,7 +212,7 @@ module _ (accepted : List Report) (root : Name) (h : History) (b : Event) (s : S
 
   pub reported_tied : AreTied (accepted ++ Numbered (report_with h s (reported_id root h s s.deed) a) ∷ []) root (s ∷ h)
   reported_tied = record {
-    begun = filled accepted (Numbered r);
+    begun = filled accepted (Numbered r) [];
     born = λ q. born_next q (change root h s q);
     known = λ q. known_next q (change root h s q);
     count = count_next;

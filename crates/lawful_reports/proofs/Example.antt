@@ -9,6 +9,7 @@ use Rattle.event_tree.specs.NormalForm.{IsEvents, value_limit}
 use Rattle.report_line.specs.declared.report.Action.{Action}
 use Rattle.report_line.specs.declared.report.Action.TheVariants as acts
 use Rattle.report_line.specs.declared.step.Deed.TheVariants.{Retire}
+use Rattle.report_line.specs.declared.step.Step.{Step}
 use Rattle.report_line.specs.Names.{is_letter, is_name_byte, is_name}
 use Rattle.report_line.specs.Spelling.{IsCount, IsAction}
 use Rattle.report_line.specs.History.{Name, status}
@@ -18,7 +19,8 @@ use Rattle.histories.proofs.Example.{below, every_step_is_lawful}
 use Rattle.lawful_reports.specs.HandedOver.{handed_over, HasLine, AreTargetsBorn, IsReportable}
 use Rattle.lawful_reports.specs.Example.{reported_steps, told, forked, its_reports}
 use Rattle.lawful_reports.proofs.Changes.{living_not_unborn}
-use Rattle.lawful_reports.proofs.Next.{last_step}
+use Rattle.lawful_reports.proofs.Next.{before_last}
+use Rattle.histories.proofs.Rules.{last_step}
 
 pub gives_these : handed_over a reported_steps ≡ its_reports
 unfolding status
@@ -89,10 +91,13 @@ targets : AreTargetsBorn a reported_steps
 unfolding status
 targets = (((((((((((((tt, tt), tt), tt), tt), tt), tt), tt), tt), living_not_unborn _), tt), tt), tt), living_not_unborn _)
 
+abbrev last : Step
+last = act c (Retire d) right (halves 7 0 1)
+
 lawful : IsLawful a reported_steps
 lawful =
-    let last = last_step every_step_is_lawful (act c (Retire d) right (halves 7 0 1)) (drop 1 every_step) refl in
-    next last.0 last.1.1 (record { same_id = last.1.2.0.same_id; grown = last.1.2.0.grown }, below 97 99 (omega arith))
+    let asks = last_step every_step_is_lawful last (drop 1 every_step) refl in
+    next (before_last every_step_is_lawful last (drop 1 every_step) refl) asks.1 (record { same_id = asks.2.0.same_id; grown = asks.2.0.grown }, below 97 99 (omega arith))
 
 pub can_be_reported : IsReportable a reported_steps
 can_be_reported = record { lawful = lawful; targets = targets; lines = subst (All HasLine) (sym gives_these) lines }

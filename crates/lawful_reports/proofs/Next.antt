@@ -15,12 +15,13 @@ use Rattle.report_line.specs.StepReports.{report_of}
 use Rattle.chains.specs.Held.{Held}
 use Rattle.chains.specs.Processes.{known}
 use Rattle.chains.specs.Admission.{IsAdmission, IsBeginReply, FitsOrNot}
+use Rattle.histories.proofs.Rules.{last_step}
 use Rattle.lawful_reports.specs.HandedOver.{handed_over, IsTargetBorn, HasLine, IsReportable}
 use Rattle.lawful_reports.specs.Laws.{OnlyRoomIsTested}
 use Rattle.lawful_reports.proofs.Actions.{reported, reported_id, report_with, report_is, unreported}
 use Rattle.lawful_reports.proofs.Tied.{AreTied, first_tied}
 use Rattle.lawful_reports.proofs.Silent.{silent_tied}
-use Rattle.lawful_reports.proofs.AfterReport.{reported_tied}
+use Rattle.lawful_reports.proofs.AfterReport.{filled, reported_tied}
 use Rattle.lawful_reports.proofs.Tests.{fits_by}
 
 -- ---- the last step of a history that can be reported
@@ -40,23 +41,18 @@ pub record Ends (root : Name) (h : History) (s : Step) : Type 0 where
   pub target : IsTargetBorn root h s.deed
   pub line : (r : Report) → report_of root h s ≡ Some r → HasLine r
 
-pub last_step : {root : Name} {whole : History} → IsLawful root whole → (s : Step) (h : History) → whole ≡ s ∷ h
-    → IsLawful root h × ((b : Event) × (status root h s.process ≡ Living b) × IsAllowed root h b s s.deed)
-last_step start s h is = absurd (cc)
-last_step {root} (next {h = g} {s = t} {before = b} lawful living allowed) s h is =
-    let same : t ≡ s = cc in
-    let rest : g ≡ h = cc in
-    subst (λ (k : History). IsLawful root k × ((b : Event) × (status root k s.process ≡ Living b) × IsAllowed root k b s s.deed)) rest
-    (lawful, (b, ap (λ (u : Step). status root g u.process) (sym same) ∙ living, subst (λ (u : Step). IsAllowed root g b u u.deed) same allowed))
+pub before_last : {root : Name} {whole : History} → IsLawful root whole → (s : Step) (h : History) → whole ≡ s ∷ h → IsLawful root h
+before_last start s h is = absurd (cc)
+before_last {root} (next {h = g} lawful living allowed) s h is = (let rest : g ≡ h = cc in subst (IsLawful root) rest lawful)
 
 pub ends : (root : Name) (h : History) (s : Step) → IsReportable root (s ∷ h) → Ends root h s
 ends root h s w =
     let last = last_step w.lawful s h refl in
     record {
-      before = record { lawful = last.0; targets = w.targets.0; lines = all_left HasLine (handed_over root h) (cons_option (report_of root h s) []) w.lines };
-      last = last.1.0;
-      lives = last.1.1;
-      allowed = last.1.2;
+      before = record { lawful = before_last w.lawful s h refl; targets = w.targets.0; lines = all_left HasLine (handed_over root h) (cons_option (report_of root h s) []) w.lines };
+      last = last.0;
+      lives = last.1;
+      allowed = last.2;
       target = w.targets.1;
       line = λ r is. has_line (handed_over root h) (report_of root h s) r is w.lines;
     }
@@ -88,19 +84,12 @@ data Behind (xs : List Report) (o : Option Report) (front : List Report) (r : Re
   newest : o ≡ Some r → front ≡ xs → Behind xs o front r
   earlier : (rest : List Report) → xs ≡ front ++ r ∷ rest → Behind xs o front r
 
-no_more : (r x : Report) (front rest : List Report) → [] ≡ (x ∷ front) ++ r ∷ rest → ⊥
-no_more r x front rest is = cc
-
-nothing : (r : Report) (front rest : List Report) → [] ≢ front ++ r ∷ rest
-nothing r [] rest is = cc
-nothing r (x ∷ front) rest is = cc
-
 one_left : (x r : Report) (front rest : List Report) → x ∷ [] ≡ front ++ r ∷ rest → (x ≡ r) × (front ≡ [])
 one_left x r [] rest is = (let same : x ≡ r = cc in (same, refl))
-one_left x r (y ∷ front) rest is = (let none : [] ≡ front ++ r ∷ rest = cc in absurd (nothing r front rest none))
+one_left x r (y ∷ front) rest is = (let none : [] ≡ front ++ r ∷ rest = cc in absurd (filled front r rest (sym none)))
 
 behind : (xs : List Report) (o : Option Report) (front : List Report) (r : Report) (rest : List Report) → xs ++ cons_option o [] ≡ front ++ r ∷ rest → Behind xs o front r
-behind [] None front r rest is = absurd (nothing r front rest is)
+behind [] None front r rest is = absurd (filled front r rest (sym is))
 behind [] (Some x) front r rest is = (let w = one_left x r front rest is in newest (ap (λ (y : Report). Some y) w.0) w.1)
 behind (x ∷ xs) o [] r rest is = (let same : x ≡ r = cc in earlier xs (ap (λ (y : Report). y ∷ xs) same))
 behind (x ∷ xs) o (y ∷ front) r rest is =

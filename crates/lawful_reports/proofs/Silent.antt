@@ -2,6 +2,7 @@
 use Rattle.std.proofs.Common.{◌≡◌, ◌≢◌, ℕ, suc, Bool, true, false, List, ◌∷◌, None, refl, sym, ◌∙◌, ap, subst}
 use Rattle.std.specs.Prelude.{◌&&◌, if◌then◌else◌}
 use Rattle.std.specs.Str.{bytes_eq}
+use Rattle.std.proofs.lemmas.Bool.{cond-false, and_right}
 use Rattle.id_tree.specs.IdTree.{IdTree}
 use Rattle.report_line.specs.declared.report.Report.{Report}
 use Rattle.report_line.specs.declared.step.Deed.{Deed}
@@ -51,11 +52,6 @@ silent_id root h b s _ works w = w.same_id
 silent_id root h b s _ (sends_one m) w = w.0.same_id
 silent_id root h b s _ (receives m) w = w.own.same_id
 
-unmoved : (a b : Bool) (n : ℕ) → b ≡ false → (if a && b then suc n else n) ≡ n
-unmoved true true n is = absurd (cc)
-unmoved true false n is = refl
-unmoved false b n is = refl
-
 -- how each process stands: the actor lives on, and all others as before
 data Quiet (root : Name) (h : History) (s : Step) (q : Name) : Type 0 where
   goes_on : q ≡ s.process → status root (s ∷ h) q ≡ Living (event_of h s) → Quiet root h s q
@@ -75,7 +71,7 @@ module _ (accepted : List Report) (root : Name) (h : History) (b : Event) (s : S
   hush = silent s.deed unreported
 
   same_count : (q : Name) → reporting_steps q (s ∷ h) ≡ reporting_steps q h
-  same_count q = unmoved (bytes_eq q s.process) (is_reported s.deed) (reporting_steps q h) unreported
+  same_count q = cond-false _ _ _ (and_right (bytes_eq q s.process) (is_reported s.deed) unreported)
 
   lived : (q : Name) → q ≡ s.process → status root h q ≡ Living b
   lived q is = ap (status root h) is ∙ lives

@@ -1,5 +1,6 @@
 -- No test of admission applies to the report of a lawful step but those for room.
 use Rattle.std.proofs.Common.{◌≡◌, ◌≢◌, ◌↔◌, ℕ, ◌+◌, ◌<◌, ◌≤◌, ◌||◌, Bool, Option, Some, None, refl, sym, ◌∙◌, ap, subst, inl, inr, arith}
+use Rattle.std.proofs.lemmas.Option.{same_Some}
 use Rattle.id_tree.specs.IdTree.{IdTree}
 use Rattle.id_tree.specs.Points.{owns, AreTogether}
 use Rattle.id_tree.specs.NormalForm.{IsNormal}
@@ -49,9 +50,6 @@ waiting held r acts.Present answer waits = same_reply
 waiting held r (acts.Fork f) answer waits = same_reply
 waiting held r (acts.Retire q) answer waits = same_reply
 waiting held r (acts.Absorb q) answer waits = untested (λ not_waiting. not_waiting (waits q refl))
-
-same_some : (x y : Report) → Some x ≡ Some y → x ≡ y
-same_some x y is = cc
 
 none_report : (y : Report) → None ≢ Some y
 none_report y is = cc
@@ -117,19 +115,19 @@ module _ (root : Name) (h : History) (b : Event) (s : Step) (held : Held) (tied 
   fits_by Work r is w target = absurd (none_report r is)
   fits_by (Send m) r is w target = absurd (none_report r is)
   fits_by (Receive m) r is w target = absurd (none_report r is)
-  fits_by Check r is w target = subst (λ (x : Report). HasLine x → IsUntested x) (same_some _ r is)
+  fits_by Check r is w target = subst (λ (x : Report). HasLine x → IsUntested x) (same_Some _ r is)
       (λ line. up_to_action s.stamp.id acts.Check (is_registered s.stamp.id line.stamped.id.normal w.same_id) (no_absorption acts.Check (λ q e. cc)))
-  fits_by Present r is w target = subst (λ (x : Report). HasLine x → IsUntested x) (same_some _ r is)
+  fits_by Present r is w target = subst (λ (x : Report). HasLine x → IsUntested x) (same_Some _ r is)
       (λ line. up_to_action s.stamp.id acts.Present (is_registered s.stamp.id line.stamped.id.normal w.same_id) (no_absorption acts.Present (λ q e. cc)))
-  fits_by (Retire q) r is w target = subst (λ (x : Report). HasLine x → IsUntested x) (same_some _ r is)
+  fits_by (Retire q) r is w target = subst (λ (x : Report). HasLine x → IsUntested x) (same_Some _ r is)
       (λ line. chained (up_to_action s.stamp.id (acts.Retire q) (is_registered s.stamp.id line.stamped.id.normal w.0.same_id) (no_absorption (acts.Retire q) (λ x e. cc)))
       (untested (elim [ inl itself ↦ w.1 itself | inr unknown ↦ unknown (tied.known q target) ])))
-  fits_by (Fork c i) r is w target = subst (λ (x : Report). HasLine x → IsUntested x) (same_some _ r is)
+  fits_by (Fork c i) r is w target = subst (λ (x : Report). HasLine x → IsUntested x) (same_Some _ r is)
       (λ line. chained (up_to_action (id_of (status root h s.process)) (fork_of s c i)
       (is_registered (id_of (status root h s.process)) line.stamped.id.normal (λ point. ap (λ (k : IdTree). owns k point) (ap id_of lives))) (no_absorption (fork_of s c i) (λ x e. cc)))
       (chained (untested (λ known. tied.born c known w.new_name))
       (untested (λ wrong. wrong (split_of s.stamp.id i (record { left = w.not_empty; right = w.child_not_empty; disjoint = w.disjoint; together = w.together }))))))
-  fits_by (Absorb q) r is w target = subst (λ (x : Report). HasLine x → IsUntested x) (same_some _ r is)
+  fits_by (Absorb q) r is w target = subst (λ (x : Report). HasLine x → IsUntested x) (same_Some _ r is)
       (λ line.
       (let other = tied.held q w.retirement (ap last_of w.into_this) in
       chained (up_to_action s.stamp.id (acts.Absorb q) (absorbed_id q w.retirement w.into_this line.stamped.id.normal w.together)

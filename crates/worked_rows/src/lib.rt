@@ -6,6 +6,8 @@
 #[cfg(test)]
 mod command;
 #[cfg(test)]
+mod handed;
+#[cfg(test)]
 mod lines;
 #[cfg(test)]
 mod sessions;

@@ -1,0 +1,103 @@
+-- The history with every kind of step can be reported.
+use Rattle.std.proofs.Common.{◌≡◌, ◌+◌, ◌≤◌, ℕ, min, max, false, All, refl, sym, subst, arith}
+use Rattle.std.specs.Prelude.{◌==◌, drop, IsTrue}
+use Rattle.std.proofs.lemmas.List.Elements.{All-from_recursion}
+use Rattle.id_tree.specs.IdTree.{IdTree, One}
+use Rattle.id_tree.specs.NormalForm.{IsId}
+use Rattle.event_tree.specs.EventTree.{EventTree, Leaf}
+use Rattle.event_tree.specs.NormalForm.{IsEvents, value_limit}
+use Rattle.report_line.specs.declared.report.Action.{Action}
+use Rattle.report_line.specs.declared.report.Action.TheVariants as acts
+use Rattle.report_line.specs.declared.step.Deed.TheVariants.{Retire}
+use Rattle.report_line.specs.declared.step.Step.{Step}
+use Rattle.report_line.specs.Names.{is_letter, is_name_byte, is_name}
+use Rattle.report_line.specs.Spelling.{IsCount, IsAction}
+use Rattle.report_line.specs.History.{Name, status}
+use Rattle.report_line.specs.Lawful.{IsLawful, next}
+use Rattle.histories.specs.Example.{a, b, c, d, left, right, halves, act, every_step}
+use Rattle.histories.proofs.Example.{below, every_step_is_lawful}
+use Rattle.lawful_reports.specs.HandedOver.{handed_over, HasLine, AreTargetsBorn, IsReportable}
+use Rattle.lawful_reports.specs.Example.{reported_steps, told, forked, its_reports}
+use Rattle.lawful_reports.proofs.Changes.{living_not_unborn}
+use Rattle.lawful_reports.proofs.Next.{before_last}
+use Rattle.histories.proofs.Rules.{last_step}
+
+pub gives_these : handed_over a reported_steps ≡ its_reports
+unfolding status
+gives_these = refl
+
+-- ---- lines
+
+name_a : IsTrue (is_name a)
+unfolding is_letter is_name_byte is_name
+name_a = refl
+
+name_b : IsTrue (is_name b)
+unfolding is_letter is_name_byte is_name
+name_b = refl
+
+name_c : IsTrue (is_name c)
+unfolding is_letter is_name_byte is_name
+name_c = refl
+
+one : IsId One
+one = record { normal = tt; shallow = omega arith }
+
+on_left : IsId left
+on_left = record { normal = (tt, tt, refl); shallow = omega arith }
+
+on_right : IsId right
+on_right = record { normal = (tt, tt, refl); shallow = omega arith }
+
+leaf : (n : ℕ) → n ≤ value_limit → IsEvents (Leaf n)
+leaf n few = record { normal = tt; shallow = omega arith; small = few }
+
+halved : (n x y : ℕ) → min x y ≡ 0 → (x == y) ≡ false → n + max x y ≤ value_limit → IsEvents (halves n x y)
+halved n x y least differs few = record { normal = (tt, tt, least, differs); shallow = omega arith; small = few }
+
+line : (p : Name) (n : ℕ) (i : IdTree) (e : EventTree) (x : Action) → IsTrue (is_name p) → IsCount n → IsId i → IsEvents e → IsAction x → HasLine (told p n i e x)
+line p n i e x name count id events action = record { name = name; count = count; stamped = record { id = id; events = events }; acted = action }
+
+lines : All HasLine its_reports
+lines = All-from_recursion HasLine its_reports (
+  name_a,
+  (
+    line a 1 One (Leaf 1) (forked b) name_a (omega arith, omega arith) one (leaf 1 (omega arith)) (on_left, name_b, on_right),
+    (
+      line b 1 right (halves 1 0 1) acts.Check name_b (omega arith, omega arith) on_right (halved 1 0 1 refl refl (omega arith)) tt,
+      (
+        line a 2 left (halves 3 2 0) acts.Present name_a (omega arith, omega arith) on_left (halved 3 2 0 refl refl (omega arith)) tt,
+        (
+          line b 2 right (halves 1 0 4) (acts.Retire a) name_b (omega arith, omega arith) on_right (halved 1 0 4 refl refl (omega arith)) name_a,
+          (
+            line a 3 One (halves 5 1 0) (acts.Absorb b) name_a (omega arith, omega arith) one (halved 5 1 0 refl refl (omega arith)) name_b,
+            (
+              line a 4 One (Leaf 7) (forked c) name_a (omega arith, omega arith) one (leaf 7 (omega arith)) (on_left, name_c, on_right),
+              (
+                line a 5 left (halves 7 1 0) acts.Check name_a (omega arith, omega arith) on_left (halved 7 1 0 refl refl (omega arith)) tt,
+                (line c 1 right (halves 7 0 1) (acts.Retire a) name_c (omega arith, omega arith) on_right (halved 7 0 1 refl refl (omega arith)) name_a, tt),
+              ),
+            ),
+          ),
+        ),
+      ),
+    ),
+  ),
+)
+
+-- ---- targets and rules
+
+targets : AreTargetsBorn a reported_steps
+unfolding status
+targets = (((((((((((((tt, tt), tt), tt), tt), tt), tt), tt), tt), living_not_unborn _), tt), tt), tt), living_not_unborn _)
+
+abbrev last : Step
+last = act c (Retire d) right (halves 7 0 1)
+
+lawful : IsLawful a reported_steps
+lawful =
+    let asks = last_step every_step_is_lawful last (drop 1 every_step) refl in
+    next (before_last every_step_is_lawful last (drop 1 every_step) refl) asks.1 (record { same_id = asks.2.0.same_id; grown = asks.2.0.grown }, below 97 99 (omega arith))
+
+pub can_be_reported : IsReportable a reported_steps
+can_be_reported = record { lawful = lawful; targets = targets; lines = subst (All HasLine) (sym gives_these) lines }

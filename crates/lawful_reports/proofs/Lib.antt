@@ -1,0 +1,10 @@
+pub mod Changes
+pub mod Actions
+pub mod Tied
+pub mod Silent
+pub mod AfterReport
+pub mod Tests
+pub mod Next
+pub mod Going
+pub mod OneByOne
+pub mod Example

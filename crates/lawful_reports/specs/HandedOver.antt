@@ -1,0 +1,39 @@
+-- The reports of a history, handed over in order.
+use Rattle.std.specs.Prelude.{◌≡◌, ◌≢◌, List, [], ◌∷◌, ◌++◌, All, ⊤}
+use Rattle.report_line.specs.Spelling.{HasSpelling}
+use Rattle.report_line.specs.declared.call.Call.TheVariants as calls
+use Rattle.report_line.specs.declared.report.Report.{Report}
+use Rattle.report_line.specs.declared.report.Report.TheVariants.{Begin}
+use Rattle.report_line.specs.declared.step.Deed.{Deed}
+use Rattle.report_line.specs.declared.step.Deed.TheVariants.{Retire}
+use Rattle.report_line.specs.History.{Name, History, Unborn, status}
+use Rattle.report_line.specs.Lawful.{IsLawful}
+use Rattle.report_line.specs.StepReports.{reports}
+
+-- BEGIN by the root, and then the reports of the history, the oldest first
+abbrev pub handed_over : Name → History → List Report
+handed_over root h = Begin root ∷ reports root h
+
+-- Of what is handed over of the history, these reports are the first ones, and this is the next.
+abbrev pub IsNext : Name → History → List Report → Report → Type 0
+IsNext root h front r = (rest : List Report) × (handed_over root h ≡ front ++ r ∷ rest)
+
+-- the target of a retirement is born before it
+abbrev pub IsTargetBorn : Name → History → Deed → Type 0
+IsTargetBorn root h (Retire target) = status root h target ≢ Unborn
+IsTargetBorn root h _ = ⊤
+
+-- so is the target of each retirement of the history
+abbrev pub AreTargetsBorn : Name → History → Type 0
+AreTargetsBorn root [] = ⊤
+AreTargetsBorn root (s ∷ h) = AreTargetsBorn root h × IsTargetBorn root h s.deed
+
+-- The report has a line: its names are names, its number is below 2 ^ 32, and its trees are in normal form and within the limits.
+abbrev pub HasLine : Report → Type 0
+HasLine r = HasSpelling (calls.Report r)
+
+-- a lawful history in which each target is born before a retirement into it, and within the limits: all its reports have lines
+pub record IsReportable (root : Name) (h : History) : Type 0 where
+  pub lawful : IsLawful root h
+  pub targets : AreTargetsBorn root h
+  pub lines : All HasLine (handed_over root h)

@@ -1,0 +1,5 @@
+pub mod HandedOver
+pub mod Accepting
+pub mod FirstRefusal
+pub mod Laws
+pub mod Example

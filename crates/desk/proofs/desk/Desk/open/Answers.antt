@@ -1,0 +1,18 @@
+use Rattle.std.proofs.Common.{◌≡◌, sym, ◌∙◌, subst, List, ℕ, map}
+use Rattle.record_file.proofs.Appending.{at_rest_stands}
+use Rattle.record_file.specs.Store.{found_lines, HasLines}
+use Rattle.desk.specs.Files.{line_of}
+use Rattle.desk.proofs.Admitting.{refuses_file}
+use Rattle.desk.proofs.Turning.{lawful_open}
+use Rattle.desk.proofs.desk.Desk.open.Goals as goal
+
+pub invariant_of-result : goal.invariant_of-result
+invariant_of-result g c =
+    let store = c.in-Ok-open.store in
+    let same = sym c.records.ensures ∙ c.in-Ok-chains_of.ensures.ok in
+    let ready = λ (keeps : _). subst (λ (ls : List (List ℕ)). HasLines g.D.Disk.view store ls) same (c.in-Ok-open.ensures.ready (c.in-Ok-open.ensures.premise.0 keeps)) in
+    (?, ?, ?)
+
+pub returns-in-Err-chains_of-clause-refused : goal.returns-in-Err-chains_of-clause-refused
+returns-in-Err-chains_of-clause-refused g c = λ keeps.
+    refuses_file _ (found_lines c.in-Ok-open.store) c.in-Err-chains_of.fault (c.in-Ok-open.ensures.lines keeps) (rw c.records.ensures at c.in-Err-chains_of.ensures.err)

@@ -11,12 +11,13 @@ use Rattle.report_line.specs.declared.call.Call.TheVariants as calls
 use Rattle.report_line.specs.declared.reply.Outcome.TheVariants.{Unknown}
 use Rattle.report_line.specs.declared.reply.Reply.{Reply}
 use Rattle.report_line.specs.declared.reply.Reply.TheVariants.{Fail}
-use Rattle.chains.specs.Held.{Held}
+use Rattle.chains.specs.Kept.{Kept}
+use Rattle.chains.specs.Held.{Held, held_of}
 use Rattle.chains.specs.Turns.{IsTurn}
 use Rattle.desk.specs.Desks.{DeskState}
 use Rattle.desk.specs.Lawful.{IsLawful, turn_limit}
 use Rattle.desk.specs.Files.{AreSpelled, StandsFor, IsPending, MayStandFor, StandsWhile}
-use Rattle.desk.specs.Parts.{StandsBy, MayBeLeftBy}
+use Rattle.desk.specs.Parts.{held_with, StandsBy, MayBeLeftBy}
 use Rattle.desk.specs.Replays.{ReplaysFrom, Replays}
 use Rattle.desk.specs.declared.turn.Turn.{Turn}
 use Rattle.desk.proofs.Crashes.{always_weaker}
@@ -55,6 +56,10 @@ left_stands accepted turns t c (inl stands) = inl stands
 left_stands accepted turns t c (inr (r, call, reply, stands)) =
     inr (r, (t, Contains-append_right turns (t ∷ []) t (search rules), call, reply), stands)
 
+-- what chains and their copy hold, beside a store that is not stopped
+pub same_held : (chains opening : Kept) (stopped : Bool) → held_of opening ≡ held_of chains → stopped ≡ false → held_with chains stopped ≡ held_of opening
+same_held chains opening stopped same goes = subst (λ (b : Bool). held_with chains b ≡ held_of opening) (sym goes) (sym same)
+
 -- a desk that was opened
 pub lawful_open : {D : Type 0} (keeps : D → Type 0) (view : D → View) (desk : DeskState D) → desk.held ≡ desk.opening → desk.opening.stopped ≡ false → desk.turns ≡ [] → AreSpelled desk.held.accepted
     → (keeps desk.disk → (c : List ℕ) → Leaves (view desk.disk) c → StandsFor desk.held.accepted c) → IsLawful keeps view desk
@@ -67,6 +72,12 @@ lawful_open keeps view desk same goes none spelled stands = record {
   running = λ _ here c left. stands here c left;
   left = λ here c left. inl (stands here c left);
 }
+
+-- what is left where the disk is the desk's
+pub left_same : {D : Type 0} (keeps : D → Type 0) (view : D → View) (desk : DeskState D) → IsLawful keeps view desk → (disk : D) → disk ≡ desk.disk
+    → keeps disk → (c : List ℕ) → Leaves (view disk) c → MayStandFor desk.held.accepted desk.turns c
+left_same keeps view desk lawful disk same here c left =
+    lawful.left (subst keeps same here) c (subst (λ d. Leaves (view d) c) same left)
 
 module _ {D : Type 0} (keeps : D → Type 0) (view : D → View) (desk : DeskState D) (lawful : IsLawful keeps view desk) where
   pub always_still : (call : Call) → keeps desk.disk → LeavesAlways (StandsWhile desk.held.accepted desk.turns call) (view desk.disk) (view desk.disk)

@@ -2,4 +2,8 @@ use Rattle.desk.proofs.OneAccepted.{reopened}
 use Rattle.desk.proofs.desk.Desk.reopen.Goals as goal
 
 pub returns-in-Ok-clause-records : goal.returns-in-Ok-clause-records
-returns-in-Ok-clause-records g c = ?
+returns-in-Ok-clause-records g c = λ keeps.
+    let seen = g.met.D.Disk.read_is_left c.args.self.disk keeps in
+    let records = rw c.close.ensures.disk at c.in-Ok.ensures.records in
+    reopened _ c.args.self.held.accepted c.in-Ok.desk.held.accepted c.args.self.turns c.lawful.ensures.lawful.spelled c.lawful-in-Ok.ensures.lawful.spelled c.lawful.ensures.lawful.pending
+    (c.lawful.ensures.lawful.left keeps _ seen) (records keeps)

@@ -1,13 +1,17 @@
--- FAIL stopped is said over a stopped store alone.
-use Rattle.std.proofs.Common.{◌≡◌, ◌∙◌, Bool, true, false, refl, ap}
+-- Where FAIL is said, and what is held then.
+use Rattle.std.proofs.Common.{◌≡◌, ◌∙◌, inl, inr, Bool, true, false, List, ℕ, refl, ap, subst}
 use Rattle.report_line.specs.declared.call.Call.{Call}
 use Rattle.report_line.specs.declared.call.Call.TheVariants as calls
-use Rattle.report_line.specs.declared.reply.Outcome.TheVariants.{Stopped}
+use Rattle.report_line.specs.declared.report.Report.{Report}
+use Rattle.report_line.specs.declared.reply.Outcome.TheVariants.{Before, Stopped}
+use Rattle.report_line.specs.declared.reply.Reply.{Reply}
 use Rattle.report_line.specs.declared.reply.Reply.TheVariants.{Fail}
 use Rattle.chains.specs.Held.{Held}
-use Rattle.chains.specs.Turns.{IsTurn}
+use Rattle.chains.specs.Turns.{Fate, IsQuestionTurn, IsReported, IsTurn}
 use Rattle.chains.proofs.Turning.{unchanged, after_report_turn}
 use Rattle.chains.proofs.Unfailing.{no_failure}
+use Rattle.desk.specs.Files.{StandsFor}
+use Rattle.desk.specs.Parts.{MayBeLeftBy}
 
 -- nothing changes then
 same_held : (held after : Held) (call : Call) → IsTurn held call (Fail Stopped) after → after ≡ held
@@ -25,3 +29,41 @@ stopped_cases false held after call is turn =
 
 pub stopped_only : (held after : Held) (call : Call) → IsTurn held call (Fail Stopped) after → held.stopped ≡ true
 stopped_only held after call turn = stopped_cases held.stopped held after call refl turn
+
+-- ---- FAIL before is said over a store that is not stopped, and accepts nothing
+
+reported_before : (stopped : Bool) (fate : Fate) (held after : Held) (r : Report) → IsReported stopped fate held r (Fail Before) after → stopped ≡ false
+reported_before true fate held after r t = absurd (let e = t.1 in cc)
+reported_before false fate held after r t = refl
+
+asked_before : (stopped : Bool) (fate : Fate) (held after : Held) (Answers : Reply → Type 0) → IsQuestionTurn stopped fate held Answers (Fail Before) after → stopped ≡ false
+asked_before true fate held after Answers t = absurd (let e = t.1 in cc)
+asked_before false fate held after Answers t = refl
+
+before_runs : (held after : Held) (call : Call) → IsTurn held call (Fail Before) after → held.stopped ≡ false
+before_runs held after (calls.Report r) (fate, t) = reported_before held.stopped fate held after r t
+before_runs held after (calls.Line names) (fate, t) = asked_before held.stopped fate held after _ t
+before_runs held after (calls.State p) (fate, t) = asked_before held.stopped fate held after _ t
+before_runs held after calls.Bye (fate, t) = absurd (let e = t.1 in cc)
+before_runs held after (calls.Bad n) (fate, t) = absurd (let e = t.1 in cc)
+before_runs held after calls.Unread (fate, t) = absurd (let e = t.1 in cc)
+
+before_keeps : (held after : Held) (call : Call) → IsTurn held call (Fail Before) after → after.accepted ≡ held.accepted
+before_keeps held after (calls.Report r) (fate, t) = ap (λ (h : Held). h.accepted) (after_report_turn held.stopped fate held r (Fail Before) after t)
+before_keeps held after (calls.Line names) (fate, t) = ap (λ (h : Held). h.accepted) (unchanged held.stopped fate held _ (Fail Before) after t)
+before_keeps held after (calls.State p) (fate, t) = ap (λ (h : Held). h.accepted) (unchanged held.stopped fate held _ (Fail Before) after t)
+before_keeps held after calls.Bye (fate, t) = ap (λ (h : Held). h.accepted) t.2
+before_keeps held after (calls.Bad n) (fate, t) = ap (λ (h : Held). h.accepted) t.2
+before_keeps held after calls.Unread (fate, t) = ap (λ (h : Held). h.accepted) t.2
+
+before_stands : (accepted : List Report) (call : Call) (c : List ℕ) → MayBeLeftBy (Fail Before) accepted call c → StandsFor accepted c
+before_stands accepted call c (inl stands) = stands
+before_stands accepted call c (inr (r, is, reply, stands)) = absurd (cc reply)
+
+-- so a crash leaves the accepted list alone
+pub before_left : (held after : Held) (call : Call) (reply : Reply) (c : List ℕ) → reply ≡ Fail Before → IsTurn held call reply after
+    → (held.stopped ≡ false → MayBeLeftBy reply after.accepted call c) → StandsFor held.accepted c
+before_left held after call reply c is turn left =
+    let turned = subst (λ (x : Reply). IsTurn held call x after) is turn in
+    let leaves = subst (λ (x : Reply). MayBeLeftBy x after.accepted call c) is (left (before_runs held after call turned)) in
+    subst (λ (a : List Report). StandsFor a c) (before_keeps held after call turned) (before_stands after.accepted call c leaves)

@@ -5,7 +5,6 @@ use Rattle.record_file.proofs.Openings.{one_list}
 use Rattle.report_line.proofs.OneCall.{one_call}
 use Rattle.report_line.specs.Spelling.{HasSpelling}
 use Rattle.report_line.specs.declared.report.Report.{Report}
-use Rattle.report_line.specs.declared.call.Call.{Call}
 use Rattle.report_line.specs.declared.call.Call.TheVariants as calls
 use Rattle.desk.specs.Files.{line_of, AreSpelled, StandsFor, IsPending, MayStandFor}
 use Rattle.desk.specs.Openings.{IsReopened}

@@ -1,5 +1,5 @@
 -- A desk after one turn more.
-use Rattle.std.proofs.Common.{◌≡◌, inl, inr, ℕ, ◌+◌, ◌≤◌, ◌<◌, List, [], ◌∷◌, ◌++◌, length, Bool, true, false, refl, sym, ◌∙◌, ap, subst, arith, rules, length-append}
+use Rattle.std.proofs.Common.{◌≡◌, inl, inr, ℕ, ◌+◌, ◌<◌, List, [], ◌∷◌, ◌++◌, length, Bool, true, false, refl, sym, ap, subst, arith, rules, length-append}
 use Rattle.std.specs.Prelude.{◌⊎◌, Contains}
 use Rattle.std.proofs.lemmas.List.Elements.{Contains-append_left, Contains-append_right, Contains-append_cases}
 use Rattle.line_disk.specs.Disk.{View, Leaves, LeavesAlways}
@@ -96,11 +96,11 @@ module _ {D : Type 0} (keeps : D → Type 0) (view : D → View) (desk : DeskSta
     always_by = always_cases desk.held.stopped refl
 
   module _ (held : Held) (disk : D) (t : Turn) (fewer : length desk.turns < turn_limit) (number : t.receipt.turn ≡ length desk.turns + 1)
-    (step : IsTurn desk.held t.call t.receipt.reply held) (kept : keeps disk → keeps desk.disk)
-    (running : held.stopped ≡ false → keeps disk → (c : List ℕ) → Leaves (view disk) c → StandsFor held.accepted c)
-    (left : desk.held.stopped ≡ false → keeps desk.disk → (c : List ℕ) → Leaves (view disk) c → MayBeLeftBy t.receipt.reply held.accepted t.call c)
-    (stays : desk.held.stopped ≡ true → (disk ≡ desk.disk) × (held.accepted ≡ desk.held.accepted)) (spelled : AreSpelled desk.held.accepted → AreSpelled held.accepted)
-    (pends : (r : Report) → t.call ≡ calls.Report r → t.receipt.reply ≡ Fail Unknown → HasSpelling (calls.Report r)) where
+      (step : IsTurn desk.held t.call t.receipt.reply held) (kept : keeps disk → keeps desk.disk)
+      (running : held.stopped ≡ false → keeps disk → (c : List ℕ) → Leaves (view disk) c → StandsFor held.accepted c)
+      (left : desk.held.stopped ≡ false → keeps desk.disk → (c : List ℕ) → Leaves (view disk) c → MayBeLeftBy t.receipt.reply held.accepted t.call c)
+      (stays : desk.held.stopped ≡ true → (disk ≡ desk.disk) × (held.accepted ≡ desk.held.accepted)) (spelled : AreSpelled desk.held.accepted → AreSpelled held.accepted)
+      (pends : (r : Report) → t.call ≡ calls.Report r → t.receipt.reply ≡ Fail Unknown → HasSpelling (calls.Report r)) where
     left_cases : (b : Bool) → desk.held.stopped ≡ b → keeps disk → (c : List ℕ) → Leaves (view disk) c → MayStandFor held.accepted (desk.turns ++ t ∷ []) c
     left_cases true is here c leaves =
         let same = stays is in

@@ -1,5 +1,5 @@
 -- How the logic stores what desks are seen as.
-use Rattle.std.specs.Prelude.{◌≡◌, ℕ, List, Bool, refl}
+use Rattle.std.specs.Prelude.{ℕ, List, Bool, refl}
 use Rattle.std.specs.Coded.{Coded, code_by, coded×, coded_ℕ, coded_bool, coded_list}
 use Rattle.report_line.specs.Codes.{report_code}
 use Rattle.report_line.specs.SessionCodes.{call_code, reply_code}

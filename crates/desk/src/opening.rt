@@ -26,11 +26,7 @@ fn report_of(call: Call) -> Option<Shared<PackedReport>>
 }
 
 /// Reads the line of a report, which is the record of this number.
-fn read_report(
-    alloc: Global,
-    number: usize,
-    line: &[u8],
-) -> Result<Shared<PackedReport>, DeskFault>
+fn read_report(alloc: Global, number: usize, line: &[u8]) -> Result<Shared<PackedReport>, DeskFault>
     ensures ok { IfOk result (λ r. (line.now ≡ line_of r) × HasSpelling (calls.Report r)) }
     ensures err { IfErr result (IsUnread number line.now) }
 {

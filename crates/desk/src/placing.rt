@@ -52,7 +52,12 @@ fn append<D: Disk>(chains: &mut Chains, store: &mut Store<D>, ready: Ready) -> T
 }
 
 /// The turn of a report that was prepared.
-fn place<D: Disk>(chains: &mut Chains, store: &mut Store<D>, report: &PackedReport, prepared: Prepared) -> Twice
+fn place<D: Disk>(
+    chains: &mut Chains,
+    store: &mut Store<D>,
+    report: &PackedReport,
+    prepared: Prepared,
+) -> Twice
     requires ready { IsReady prepared chains.old }
     requires answer { Prepares (held_of chains.old) report.now (Ok prepared) }
     requires short { length (line_of report.now) ≤ 8192 }
@@ -88,7 +93,11 @@ fn prepare(chains: &mut Chains, report: &Shared<PackedReport>) -> Result<Prepare
 }
 
 /// The turn of a report, over a store that is not stopped.
-fn reported<D: Disk>(chains: &mut Chains, store: &mut Store<D>, report: &Shared<PackedReport>) -> Twice
+fn reported<D: Disk>(
+    chains: &mut Chains,
+    store: &mut Store<D>,
+    report: &Shared<PackedReport>,
+) -> Twice
     requires short { length (line_of report.now) ≤ 8192 }
     requires running { is_stopped store.old ≡ false }
     requires rest { D.keeps (disk_of store.old) → HasLines D.view store.old (map line_of chains.old.accepted) }
@@ -110,7 +119,11 @@ fn reported<D: Disk>(chains: &mut Chains, store: &mut Store<D>, report: &Shared<
 }
 
 /// The turn of a report.
-pub(crate) fn report_placed<D: Disk>(chains: &mut Chains, store: &mut Store<D>, report: &Shared<PackedReport>) -> Twice
+pub(crate) fn report_placed<D: Disk>(
+    chains: &mut Chains,
+    store: &mut Store<D>,
+    report: &Shared<PackedReport>,
+) -> Twice
     requires short { length (line_of report.now) ≤ 8192 }
     requires rest { is_stopped store.old ≡ false → D.keeps (disk_of store.old) → HasLines D.view store.old (map line_of chains.old.accepted) }
     ensures turn { (fate : Fate) × IsReported (is_stopped store.old) fate (held_with chains.old (is_stopped store.old)) report.now result (held_with chains.new (is_stopped store.new)) }

@@ -1,5 +1,4 @@
-use Rattle.std.proofs.Common.{◌≡◌, ◌≤◌, length, ap, sym, ◌∙◌, subst, ℕ, List}
-use Rattle.report_line.specs.declared.report.Report.{Report}
+use Rattle.std.proofs.Common.{◌≤◌, length, ap, sym, ◌∙◌, subst, ℕ, List}
 use Rattle.chains.specs.Held.{Held, held_of}
 use Rattle.desk.specs.Files.{line_of, AreSpelled}
 use Rattle.desk.proofs.Spelled.{some_line, spelled_more}

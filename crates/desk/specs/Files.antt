@@ -28,10 +28,10 @@ abbrev pub IsShort : Call → Type 0
 IsShort (calls.Report r) = length (line_of r) ≤ 8192
 IsShort _ = ⊤
 
--- a call that is no report
-abbrev pub IsNoReport : Call → Type 0
-IsNoReport (calls.Report r) = ⊥
-IsNoReport _ = ⊤
+-- a question for the state of a process
+abbrev pub AsksState : Call → Type 0
+AsksState (calls.State p) = ⊤
+AsksState _ = ⊥
 
 -- a turn of this report was answered FAIL unknown: it may be in the file
 abbrev pub IsPending : List Turn → Report → Type 0

@@ -10,7 +10,7 @@ ghost use Rattle.report_line.specs.declared.reply.Outcome.TheVariants.{Unknown};
 ghost use Rattle.report_line.specs.declared.reply.Reply.TheVariants.{Fail};
 ghost use Rattle.chains.specs.Held.{held_of};
 ghost use Rattle.chains.specs.Turns.{fine, IsLineReply, IsStateReply, IsQuestionTurn, IsTurn};
-ghost use Rattle.desk.specs.Files.{line_of, AreSpelled, IsShort, IsNoReport, UsesDevice, CountsReply};
+ghost use Rattle.desk.specs.Files.{line_of, AreSpelled, IsShort, AsksState, UsesDevice, CountsReply};
 ghost use Rattle.desk.specs.Parts.{held_with, StandsBy, MayBeLeftBy};
 
 use crate::placing::report_placed;
@@ -56,7 +56,7 @@ pub(crate) fn answered<D: Disk>(
     ensures turn { IfOk result (λ reply. IsTurn (held_with chains.old (is_stopped store.old)) call.now reply (held_with chains.new (is_stopped store.new))) }
     ensures spelled { AreSpelled chains.old.accepted → AreSpelled chains.new.accepted }
     ensures pending { IfOk result (λ reply. (r : AnyReport) → call.now ≡ calls.Report r → reply ≡ Fail Unknown → HasSpelling (calls.Report r)) }
-    ensures err { IfErr result (λ fault. (fault ≡ TurnFault.Memory) × IsNoReport call.now × (held_of chains.new ≡ held_of chains.old) × (store.new ≡ store.old)) }
+    ensures err { IfErr result (λ fault. (fault ≡ TurnFault.Memory) × AsksState call.now × (held_of chains.new ≡ held_of chains.old) × (store.new ≡ store.old)) }
     ensures rest { is_stopped store.new ≡ false → D.keeps (disk_of store.old) → HasLines D.view store.new (map line_of chains.new.accepted) }
     ensures left { is_stopped store.old ≡ false → D.keeps (disk_of store.old) → (c : List ℕ) → Leaves (D.view (disk_of store.new)) c
         → IfOk result (λ reply. MayBeLeftBy reply chains.new.accepted call.now c) }

@@ -92,7 +92,7 @@ impl<D: Disk> Desk<D> {
     ghost use Rattle.record_file.specs.Opening.{KeepsFile, IsSynced};
     ghost use Rattle.chains.specs.Admission.{IsReached};
     ghost use Rattle.chains.specs.Turns.{IsTurn};
-    ghost use Rattle.desk.specs.Files.{StandsFor, MayStandFor, StandsWhile, IsShort, IsNoReport, UsesDevice, CountsReply};
+    ghost use Rattle.desk.specs.Files.{StandsFor, MayStandFor, StandsWhile, IsShort, AsksState, UsesDevice, CountsReply};
     ghost use Rattle.desk.specs.Lawful.{IsLawful};
     ghost use Rattle.desk.specs.Openings.{RefusesFile, CountsDeskFault, LeavesFile, IsReopened};
 
@@ -230,7 +230,7 @@ impl<D: Disk> Desk<D> {
         ensures worn { length self.old.turns ≡ turn_limit → result ≡ Err TurnFault.Worn }
         ensures err { IfErr result (λ fault. self.new ≡ self.old) }
         ensures cause_err { result ≡ Err TurnFault.Worn → length self.old.turns ≡ turn_limit }
-        ensures memory { result ≡ Err TurnFault.Memory → IsNoReport call }
+        ensures memory { result ≡ Err TurnFault.Memory → AsksState call }
 
         // What a crash may leave at any moment of the call; what it leaves behind it says `lawful`.
         ensures any_moment { D.keeps self.old.disk → LeavesAlways (StandsWhile self.old.held.accepted self.old.turns call) (D.view self.old.disk) (D.view self.new.disk) }

@@ -23,7 +23,7 @@ pub enum TurnFault {
     /// All 65,536 turns since the desk was opened were made.
     #[error("worn")]
     Worn,
-    /// A growth was refused, in a call that is no report.
+    /// A growth was refused, in a question for the state of a process.
     #[error("memory")]
     Memory,
 }

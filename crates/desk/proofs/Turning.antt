@@ -12,15 +12,18 @@ use Rattle.report_line.specs.declared.reply.Outcome.TheVariants.{Unknown}
 use Rattle.report_line.specs.declared.reply.Reply.{Reply}
 use Rattle.report_line.specs.declared.reply.Reply.TheVariants.{Fail}
 use Rattle.chains.specs.Kept.{Kept}
-use Rattle.chains.specs.Held.{Held, held_of}
+use Rattle.chains.specs.Held.{Held, counting, held_of}
+use Rattle.chains.specs.Admission.{Passes}
 use Rattle.chains.specs.Turns.{IsTurn}
 use Rattle.desk.specs.Desks.{DeskState}
 use Rattle.desk.specs.Lawful.{IsLawful, turn_limit}
-use Rattle.desk.specs.Files.{AreSpelled, StandsFor, IsPending, MayStandFor, StandsWhile}
+use Rattle.desk.specs.Files.{AreSpelled, StandsFor, IsPending, MayFollow, MayStandFor, StandsWhile}
 use Rattle.desk.specs.Parts.{held_with, StandsBy, MayBeLeftBy}
 use Rattle.desk.specs.Replays.{ReplaysFrom, Replays}
 use Rattle.desk.specs.declared.turn.Turn.{Turn}
+use Rattle.chains.proofs.Unfailing.{stays_stopped}
 use Rattle.desk.proofs.Crashes.{always_weaker}
+use Rattle.desk.proofs.Deciding.{unknown_follows}
 
 -- ---- one turn more
 
@@ -100,7 +103,7 @@ module _ {D : Type 0} (keeps : D → Type 0) (view : D → View) (desk : DeskSta
       (running : held.stopped ≡ false → keeps disk → (c : List ℕ) → Leaves (view disk) c → StandsFor held.accepted c)
       (left : desk.held.stopped ≡ false → keeps desk.disk → (c : List ℕ) → Leaves (view disk) c → MayBeLeftBy t.receipt.reply held.accepted t.call c)
       (stays : desk.held.stopped ≡ true → (disk ≡ desk.disk) × (held.accepted ≡ desk.held.accepted)) (spelled : AreSpelled desk.held.accepted → AreSpelled held.accepted)
-      (pends : (r : Report) → t.call ≡ calls.Report r → t.receipt.reply ≡ Fail Unknown → HasSpelling (calls.Report r)) where
+      (counted : desk.held.front ≡ length desk.held.accepted) (pends : (r : Report) → t.call ≡ calls.Report r → t.receipt.reply ≡ Fail Unknown → HasSpelling (calls.Report r)) where
     left_cases : (b : Bool) → desk.held.stopped ≡ b → keeps disk → (c : List ℕ) → Leaves (view disk) c → MayStandFor held.accepted (desk.turns ++ t ∷ []) c
     left_cases true is here c leaves =
         let same = stays is in
@@ -108,13 +111,24 @@ module _ {D : Type 0} (keeps : D → Type 0) (view : D → View) (desk : DeskSta
         still_stands held.accepted desk.turns t c (subst (λ (a : List Report). MayStandFor a desk.turns c) (sym same.1) old)
     left_cases false is here c leaves = left_stands held.accepted desk.turns t c (left is (kept here) c leaves)
 
+    pends_now : (r : Report) → t.call ≡ calls.Report r → t.receipt.reply ≡ Fail Unknown → (held.stopped ≡ true) × MayFollow held.accepted r
+    pends_now r call says =
+        let found = unknown_follows desk.held.accepted desk.held.front desk.held.stopped held t.call t.receipt.reply r counted call says step in
+        (found.0, (pends r call says, subst (λ (a : List Report). Passes (counting a) r) (sym found.1) found.2))
+
+    pends_still : (r : Report) → IsPending desk.turns r → (held.stopped ≡ true) × MayFollow held.accepted r
+    pends_still r p =
+        let before = lawful.pending r p in
+        let same = stays_stopped desk.held held t.call t.receipt.reply before.0 step in
+        subst (λ (h : Held). (h.stopped ≡ true) × MayFollow h.accepted r) (sym same) before
+
     pub lawful_more : IsLawful keeps view (record { held = held; opening = desk.opening; turns = desk.turns ++ t ∷ []; disk = disk })
     lawful_more = record {
       replays = replays_more 0 desk.opening desk.held held desk.turns t lawful.replays (omega (arith, number)) step;
       goes = lawful.goes;
       few = omega (arith, fewer, length-append desk.turns (t ∷ []));
       spelled = spelled lawful.spelled;
-      pending = λ r p. elim (pending_in desk.turns t r p) [ inl old ↦ lawful.pending r old | inr new ↦ pends r new.0 new.1 ];
+      pending = λ r p. elim (pending_in desk.turns t r p) [ inl old ↦ pends_still r old | inr new ↦ pends_now r new.0 new.1 ];
       running = running;
       left = left_cases desk.held.stopped refl;
     }

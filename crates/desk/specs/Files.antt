@@ -9,6 +9,8 @@ use Rattle.report_line.specs.declared.call.Call.TheVariants as calls
 use Rattle.report_line.specs.declared.reply.Outcome.TheVariants.{Before, Unknown}
 use Rattle.report_line.specs.declared.reply.Reply.{Reply}
 use Rattle.report_line.specs.declared.reply.Reply.TheVariants.{Accepted, Fail}
+use Rattle.chains.specs.Held.{counting}
+use Rattle.chains.specs.Admission.{Passes}
 use Rattle.desk.specs.declared.turn.Turn.{Turn}
 
 -- the line of a report
@@ -36,6 +38,10 @@ AsksState _ = ⊥
 -- a turn of this report was answered FAIL unknown: it may be in the file
 abbrev pub IsPending : List Turn → Report → Type 0
 IsPending turns r = (turn : Turn) × Contains turns turn × (turn.call ≡ calls.Report r) × (turn.receipt.reply ≡ Fail Unknown)
+
+-- the report has a line, and passes all tests over this accepted list
+abbrev pub MayFollow : List Report → Report → Type 0
+MayFollow accepted r = HasSpelling (calls.Report r) × Passes (counting accepted) r
 
 -- the file stands for the accepted list, or for that and a report that is pending
 abbrev pub MayStandFor : List Report → List Turn → List ℕ → Type 0

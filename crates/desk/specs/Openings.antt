@@ -55,6 +55,12 @@ RefusesFile file (Refused k code) = (lines : List (List ℕ)) × Stands lines fi
 RefusesFile file Device = ⊤
 RefusesFile file Memory = ⊤
 
+-- the faults that say nothing of the file
+abbrev pub IsNotOfTheFile : DeskFault → Type 0
+IsNotOfTheFile Device = ⊤
+IsNotOfTheFile Memory = ⊤
+IsNotOfTheFile _ = ⊥
+
 -- A desk that is opened again has this accepted list: the one before, or that and a report that was pending.
 abbrev pub IsReopened : List Report → List Turn → List Report → Type 0
 IsReopened accepted turns opening = (opening ≡ accepted) ⊎ ((r : Report) × IsPending turns r × (opening ≡ accepted ++ r ∷ []))

@@ -94,7 +94,7 @@ impl<D: Disk> Desk<D> {
     ghost use Rattle.chains.specs.Turns.{IsTurn};
     ghost use Rattle.desk.specs.Files.{StandsFor, MayStandFor, StandsWhile, IsShort, AsksState, UsesDevice, CountsReply};
     ghost use Rattle.desk.specs.Lawful.{IsLawful};
-    ghost use Rattle.desk.specs.Openings.{RefusesFile, CountsDeskFault, LeavesFile, IsReopened};
+    ghost use Rattle.desk.specs.Openings.{RefusesFile, CountsDeskFault, LeavesFile, IsNotOfTheFile, IsReopened};
 
     /// Opens the record file on a disk, and admits its records in order. It takes the memory for all turns. A fault hands the
     /// disk back.
@@ -203,7 +203,8 @@ impl<D: Disk> Desk<D> {
     pub fn reopen(self) -> Result<Desk<D>, (DeskFault, D)>
         ensures records { D.keeps self.disk → IfOk result (λ desk. IsReopened self.held.accepted self.turns desk.held.accepted) }
         ensures fresh { IfOk result (λ desk. (desk.held ≡ desk.opening) × (desk.turns ≡ []) × (desk.held.stopped ≡ false)) }
-        ensures refused { D.keeps self.disk → IfErr result (λ e. RefusesFile (D.view self.disk).seen e.0) }
+        // A desk's own file is refused for nothing that it says.
+        ensures refused { D.keeps self.disk → IfErr result (λ e. IsNotOfTheFile e.0) }
         ensures any_moment { D.keeps self.disk → IfOk result (λ desk. IsSynced (KeepsFile (D.view self.disk).seen) (D.view self.disk) (D.view desk.disk)) }
         ensures any_moment_err { D.keeps self.disk → IfErr result (λ e. LeavesFile e.0 (D.view self.disk) (D.view e.1)) }
         ensures cause { MatchResult result (λ desk. D.failed desk.disk ≡ D.failed self.disk) (λ e. CountsDeskFault e.0 (D.failed self.disk) (D.failed e.1)) }
@@ -247,6 +248,7 @@ impl<D: Disk> Desk<D> {
         if self.turns.len() >= TURN_LIMIT {
             return Err(TurnFault::Worn);
         }
+        self.chains.lawful();
         let (given, kept) = answered(&mut self.chains, &mut self.store, &call)?.into_parts();
         let turn = self.turns.len() as u32 + 1;
         self.turns.push_reserved(Turn {

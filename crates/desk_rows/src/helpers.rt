@@ -65,12 +65,7 @@ pub fn refused(
 }
 
 /// The reply to a line.
-pub fn replied(
-    rt: &impl Abort,
-    alloc: Global,
-    desk: &mut Desk<MemoryDisk>,
-    line: &[u8],
-) -> Reply
+pub fn replied(rt: &impl Abort, alloc: Global, desk: &mut Desk<MemoryDisk>, line: &[u8]) -> Reply
     requires { length line.now ≤ 8192 }
 {
     let Ok(call) = read_line(alloc, line) else {

@@ -47,12 +47,12 @@ rest_same x y xs ys e = cc
 cons_same : {X : Type 0} (x y : X) (xs ys : List X) → x ≡ y → xs ≡ ys → x ∷ xs ≡ y ∷ ys
 cons_same x y xs ys e f = cc
 
-nothing_before : (before after : List Report) (x : Report) → [] ≢ before ++ x ∷ after
+pub nothing_before : (before after : List Report) (x : Report) → [] ≢ before ++ x ∷ after
 nothing_before [] after x e = cc
 nothing_before (b ∷ bs) after x e = cc
 
 -- what stands in a list with one more element is that element, or stands before it
-last_or_before : (accepted before after : List Report) (r x : Report) → accepted ++ r ∷ [] ≡ before ++ x ∷ after
+pub last_or_before : (accepted before after : List Report) (r x : Report) → accepted ++ r ∷ [] ≡ before ++ x ∷ after
     → ((accepted ≡ before) × (r ≡ x)) ⊎ ((rest : List Report) × (accepted ≡ before ++ x ∷ rest))
 last_or_before [] [] after r x e = inl (refl, first_same r x [] after e)
 last_or_before [] (b ∷ bs) after r x e = absurd (nothing_before bs after x (rest_same r b [] (bs ++ x ∷ after) e))

@@ -27,7 +27,7 @@ pub record IsOther (answer : Reply) : Type 0 where
   pub no_taken : (front : ℕ) → answer ≢ Taken front
   pub no_state : (p : Name) (reports elements : ℕ) (live : Bool) (id : List ℕ) → answer ≢ State p reports elements live id
 
-failure_is_other : (o : Outcome) → IsOther (Fail o)
+pub failure_is_other : (o : Outcome) → IsOther (Fail o)
 failure_is_other o = record { no_refusal = λ code name value e. cc; no_old = λ front e. cc; no_accepted = λ front e. cc; no_taken = λ front e. cc; no_state = λ p reports elements live id e. cc }
 
 line_is_other : (text : List ℕ) → IsOther (Line text)
@@ -65,7 +65,7 @@ module _ (answer : Reply) (other : IsOther answer) where
   of_begin None held p h = of_room held (Begin p) h
   of_begin (Some root) held p h = other.no_old _ (behind h (other.no_refusal _ _ _))
 
-  of_admission : (held : Held) (r : Report) → ¬ IsAdmission held r answer
+  pub of_admission : (held : Held) (r : Report) → ¬ IsAdmission held r answer
   of_admission held (Begin p) h = of_begin (slice_get (known held.accepted) 0) held p h
   of_admission held (Numbered r) h =
       of_standing (target_of r.process held.accepted) held r (behind (behind (behind h (other.no_refusal _ _ _)) (other.no_refusal _ _ _)) (other.no_old _))

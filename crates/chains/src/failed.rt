@@ -95,8 +95,8 @@ impl Failed {
     }
 }
 
-/// The first of these names that no process has.
-fn first_unknown<'a>(chains: &Chains, names: &'a [Name]) -> Option<&'a Name>
+/// The first of these names that no process has. It takes no memory.
+pub fn first_unknown<'a>(chains: &Chains, names: &'a [Name]) -> Option<&'a Name>
     ensures { MatchOption result (All (IsKnown chains.now.accepted) names.now) (λ name. IsFirstUnknown chains.now.accepted names.now name.now) }
 {
     for name in names {

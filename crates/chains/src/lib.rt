@@ -17,7 +17,7 @@ mod tests;
 
 pub use chains::Chains;
 pub use elements::{Element, Elements};
-pub use failed::{Failed, FailedFault};
+pub use failed::{Failed, FailedFault, first_unknown};
 pub use laws::{
     folded_lists_are_lawful, makers_make_the_elements, reachable_lists_are_folded,
     replies_keep_lists_reachable,

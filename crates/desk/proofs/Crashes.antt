@@ -1,0 +1,38 @@
+-- What a crash may leave, over the accepted list.
+use Rattle.std.proofs.Common.{◌≡◌, inl, inr, ℕ, List, [], ◌∷◌, ◌++◌, map, refl, sym, subst}
+use Rattle.line_disk.specs.Disk.{View, LeavesAlways}
+use Rattle.record_file.specs.File.{Stands}
+use Rattle.record_file.specs.Resting.{IsBeforeOrAfter}
+use Rattle.report_line.specs.declared.report.Report.{Report}
+use Rattle.report_line.specs.declared.reply.Outcome.TheVariants.{Unknown}
+use Rattle.report_line.specs.declared.reply.Reply.{Reply}
+use Rattle.report_line.specs.declared.reply.Reply.TheVariants.{Fail}
+use Rattle.desk.specs.Files.{line_of, StandsFor}
+use Rattle.desk.specs.Parts.{StandsWith, MayBeLeft}
+use Rattle.desk.proofs.Spelled.{lines_more}
+
+pub always_weaker : (P Q : List ℕ → Type 0) (a b : View) → ((c : List ℕ) → P c → Q c) → LeavesAlways P a b → LeavesAlways Q a b
+always_weaker P Q a b f always = record {
+  later = always.later;
+  past = always.past;
+  each = λ k c le above left. f c (always.each k c le above left);
+}
+
+module _ (accepted : List Report) (r : Report) (line : List ℕ) (is : line ≡ line_of r) where
+  with_report : (c : List ℕ) → IsBeforeOrAfter (map line_of accepted) line c → StandsWith accepted r c
+  with_report c (inl stands) = inl stands
+  with_report c (inr stands) = inr (subst (λ (ls : List (List ℕ)). Stands ls c) (lines_more accepted r line is) stands)
+
+  pub always_with : (a b : View) → LeavesAlways (IsBeforeOrAfter (map line_of accepted) line) a b → LeavesAlways (StandsWith accepted r) a b
+  always_with a b always = always_weaker _ _ a b with_report always
+
+  left_by : (c : List ℕ) → StandsWith accepted r c → MayBeLeft (Fail Unknown) accepted r c
+  left_by c (inl stands) = inl stands
+  left_by c (inr stands) = inr (refl, stands)
+
+  pub left_with : (reply : Reply) → reply ≡ Fail Unknown → (c : List ℕ) → IsBeforeOrAfter (map line_of accepted) line c → MayBeLeft reply accepted r c
+  left_with reply same c left = subst (λ (x : Reply). MayBeLeft x accepted r c) (sym same) (left_by c (with_report c left))
+
+  pub done_with : (after : List Report) (reply : Reply) → after ≡ accepted ++ r ∷ [] → (c : List ℕ) → Stands (map line_of accepted ++ line ∷ []) c → MayBeLeft reply after r c
+  done_with after reply same c stands =
+      inl (subst (λ (a : List Report). StandsFor a c) (sym same) (subst (λ (ls : List (List ℕ)). Stands ls c) (lines_more accepted r line is) stands))

@@ -1,0 +1,10 @@
+pub mod Spelled
+pub mod Short
+pub mod Numbers
+pub mod Crashes
+pub mod Admitting
+pub mod OneAccepted
+pub mod OneAnswer
+pub mod OwnFile
+pub mod Deciding
+pub mod Turning

@@ -1,0 +1,51 @@
+-- Admission answers once.
+use Rattle.std.proofs.Common.{◌≡◌, inl, inr, Option, Some, None, sym, ◌∙◌}
+use Rattle.std.specs.Prelude.{slice_get}
+use Rattle.report_line.specs.declared.report.Action.{Action}
+use Rattle.report_line.specs.declared.report.Action.TheVariants.{Check, Present, Fork, Retire, Absorb}
+use Rattle.report_line.specs.declared.report.NumberedReport.{NumberedReport}
+use Rattle.report_line.specs.declared.report.Report.{Report}
+use Rattle.report_line.specs.declared.report.Report.TheVariants.{Begin, Numbered}
+use Rattle.report_line.specs.declared.reply.Reply.{Reply}
+use Rattle.chains.specs.Processes.{Name, known, target_of}
+use Rattle.chains.specs.Held.{Held}
+use Rattle.chains.specs.Admission.{Decides, FitsOrNot, IsBeginReply, IsActionReply, IsStampReply, IsWaitingReply, IsStandingReply, IsAdmission}
+
+one : (P : Type 0) (reply x y : Reply) (L M : Type 0) → (L → M → x ≡ y) → Decides P reply x L → Decides P reply y M → x ≡ y
+one P reply x y L M later (inl (p, e)) (inl (q, f)) = e ∙ sym f
+one P reply x y L M later (inl (p, e)) (inr (q, m)) = absurd (q p)
+one P reply x y L M later (inr (p, l)) (inl (q, f)) = absurd (p q)
+one P reply x y L M later (inr (p, l)) (inr (q, m)) = later l m
+
+module _ (held : Held) (x y : Reply) where
+  fits : (r : Report) → FitsOrNot held r x → FitsOrNot held r y → x ≡ y
+  fits r = one _ _ x y _ _ (one _ _ x y _ _ (λ e f. e ∙ sym f))
+
+  acted : (r : NumberedReport) (a : Action) → IsActionReply held r a x → IsActionReply held r a y → x ≡ y
+  acted r Check = fits (Numbered r)
+  acted r Present = fits (Numbered r)
+  acted r (Fork f) = one _ _ x y _ _ (one _ _ x y _ _ (fits (Numbered r)))
+  acted r (Retire target) = one _ _ x y _ _ (fits (Numbered r))
+  acted r (Absorb retired) = one _ _ x y _ _ (fits (Numbered r))
+
+  stamped : (r : NumberedReport) (a : Action) → IsStampReply held r a x → IsStampReply held r a y → x ≡ y
+  stamped r a = one _ _ x y _ _ (one _ _ x y _ _ (acted r a))
+
+  waiting : (r : NumberedReport) (a : Action) → IsWaitingReply held r a x → IsWaitingReply held r a y → x ≡ y
+  waiting r Check = stamped r Check
+  waiting r Present = stamped r Present
+  waiting r (Fork f) = stamped r (Fork f)
+  waiting r (Retire target) = stamped r (Retire target)
+  waiting r (Absorb retired) = one _ _ x y _ _ (stamped r (Absorb retired))
+
+  standing : (target : Option Name) (r : NumberedReport) → IsStandingReply target held r x → IsStandingReply target held r y → x ≡ y
+  standing (Some target) r = λ e f. e ∙ sym f
+  standing None r = one _ _ x y _ _ (waiting r r.action)
+
+  begun : (root : Option Name) (p : Name) → IsBeginReply root held p x → IsBeginReply root held p y → x ≡ y
+  begun None p = fits (Begin p)
+  begun (Some root) p = one _ _ x y _ _ (λ e f. e ∙ sym f)
+
+  pub one_answer : (r : Report) → IsAdmission held r x → IsAdmission held r y → x ≡ y
+  one_answer (Begin p) = begun (slice_get (known held.accepted) 0) p
+  one_answer (Numbered r) = one _ _ x y _ _ (one _ _ x y _ _ (one _ _ x y _ _ (standing (target_of r.process held.accepted) r)))

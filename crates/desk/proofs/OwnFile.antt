@@ -1,0 +1,108 @@
+-- A file of reports that admission accepts in order is refused for nothing that it says.
+use Rattle.std.proofs.Common.{◌≡◌, ◌≢◌, inl, inr, ℕ, ◌+◌, List, [], ◌∷◌, ◌++◌, length, map, refl, sym, ◌∙◌, subst}
+use Rattle.std.proofs.lemmas.List.Elements.{All-head, All-tail}
+use Rattle.record_file.specs.File.{Stands}
+use Rattle.record_file.proofs.Exclusion.{foreign_stands, damaged_stands}
+use Rattle.record_file.proofs.Openings.{one_list}
+use Rattle.report_line.specs.Spelling.{HasSpelling}
+use Rattle.report_line.specs.declared.report.Report.{Report}
+use Rattle.report_line.specs.declared.call.Call.TheVariants as calls
+use Rattle.report_line.specs.declared.reply.Reply.TheVariants.{Accepted, Old, No}
+use Rattle.chains.specs.Held.{counting}
+use Rattle.chains.specs.Admission.{IsReachable, nothing_accepted, one_more, Passes}
+use Rattle.chains.proofs.Reaching.{nothing_before, last_or_before}
+use Rattle.desk.specs.Files.{line_of, AreSpelled, StandsFor, MayStandFor, MayFollow, IsPending}
+use Rattle.desk.specs.Openings.{Reaches, IsOfNoReport, IsRefusedBy, IsRefusedWith, RefusesFile, IsNotOfTheFile}
+use Rattle.desk.specs.declared.fault.DeskFault.{DeskFault}
+use Rattle.desk.specs.declared.fault.DeskFault.TheVariants.{Foreign, Damaged, Line, Refused, Device, Memory}
+use Rattle.desk.specs.declared.turn.Turn.{Turn}
+use Rattle.desk.proofs.Spelled.{spelled_more}
+use Rattle.desk.proofs.OneAccepted.{same_report}
+use Rattle.desk.proofs.OneAnswer.{one_answer}
+
+-- ---- each report of a list that admission reaches passes behind those before it
+
+passes_same : (accepted before : List Report) (r x : Report) → accepted ≡ before → r ≡ x → Passes (counting accepted) r → Passes (counting before) x
+passes_same accepted before r x e f passes =
+    subst (λ (xs : List Report). Passes (counting xs) x) e (subst (λ (y : Report). Passes (counting accepted) y) f passes)
+
+passes_at : (accepted before after : List Report) (x : Report) → IsReachable accepted → accepted ≡ before ++ x ∷ after → Passes (counting before) x
+passes_at _ before after x nothing_accepted e = absurd (nothing_before before after x e)
+passes_at _ before after x (one_more accepted r reach passes) e =
+    elim (last_or_before accepted before after r x e) [
+      | inl last ↦ passes_same accepted before r x last.0 last.1 passes
+      | inr earlier ↦ passes_at accepted before earlier.0 x reach earlier.1
+    ]
+
+-- ---- a line among those of reports is that of the report at its place
+
+-- the report of a line, and what stands behind it
+record IsPlaced (front accepted : List Report) (line : List ℕ) : Type 0 where
+  report : Report
+  later : List Report
+  parts : accepted ≡ front ++ report ∷ later
+  says : line ≡ line_of report
+  spelled : HasSpelling (calls.Report report)
+
+first_line : (r : Report) (line : List ℕ) (rs rest : List (List ℕ)) → line_of r ∷ rs ≡ line ∷ rest → line_of r ≡ line
+first_line r line rs rest e = cc
+
+later_lines : (r : Report) (line : List ℕ) (rs rest : List (List ℕ)) → line_of r ∷ rs ≡ line ∷ rest → rs ≡ rest
+later_lines r line rs rest e = cc
+
+cons_same : (x y : Report) (xs ys : List Report) → x ≡ y → xs ≡ ys → x ∷ xs ≡ y ∷ ys
+cons_same x y xs ys e f = cc
+
+no_line : (front : List Report) (line : List ℕ) (rest : List (List ℕ)) → [] ≢ map line_of front ++ line ∷ rest
+no_line [] line rest e = cc
+no_line (r ∷ front) line rest e = cc
+
+placed_more : (f r : Report) (front accepted : List Report) (line : List ℕ) → f ≡ r → IsPlaced front accepted line → IsPlaced (f ∷ front) (r ∷ accepted) line
+placed_more f r front accepted line same p =
+    record { report = p.report; later = p.later; parts = cons_same r f accepted (front ++ p.report ∷ p.later) (sym same) p.parts; says = p.says; spelled = p.spelled }
+
+placed : (front accepted : List Report) (line : List ℕ) (rest : List (List ℕ)) → AreSpelled front → AreSpelled accepted → map line_of accepted ≡ map line_of front ++ line ∷ rest → IsPlaced front accepted line
+placed front [] line rest has had e = absurd (no_line front line rest e)
+placed [] (r ∷ accepted) line rest has had e =
+    record { report = r; later = accepted; parts = refl; says = sym (first_line r line (map line_of accepted) rest e); spelled = All-head (λ (x : Report). HasSpelling (calls.Report x)) r accepted had }
+placed (f ∷ front) (r ∷ accepted) line rest has had e =
+    let P = λ (x : Report). HasSpelling (calls.Report x) in
+    let first = sym (same_report r f (All-head P r accepted had) (All-head P f front has) (first_line r (line_of f) (map line_of accepted) (map line_of front ++ line ∷ rest) e)) in
+    placed_more f r front accepted line first (placed front accepted line rest (All-tail P f front has) (All-tail P r accepted had) (later_lines r (line_of f) (map line_of accepted) (map line_of front ++ line ∷ rest) e))
+
+-- ---- so nothing that the file says is refused
+
+not_refused : (front : List Report) (r : Report) (code : ℕ) → Passes (counting front) r → IsRefusedBy front r code → ⊥
+not_refused front r code passes (inl (is, (k, old))) = absurd (let e = one_answer (counting front) (Accepted (length front + 1)) (Old k) r passes old in cc)
+not_refused front r code passes (inr (why, name, value, is, refused)) =
+    absurd (let e = one_answer (counting front) (Accepted (length front + 1)) (No why name value) r passes refused in cc)
+
+module _ (file : List ℕ) (accepted : List Report) (spelled : AreSpelled accepted) (reach : IsReachable accepted) (stands : StandsFor accepted file) where
+  at_place : (lines : List (List ℕ)) (k : ℕ) (line : List ℕ) → Stands lines file → (at : Reaches lines k line) → IsPlaced at.front accepted line
+  at_place lines k line stood at = placed at.front accepted line at.rest at.spelled spelled (one_list (map line_of accepted) lines file stands stood ∙ at.parts)
+
+  no_unread : (lines : List (List ℕ)) (k : ℕ) (line : List ℕ) → Stands lines file → Reaches lines k line → IsOfNoReport line → ⊥
+  no_unread lines k line stood at none = let p = at_place lines k line stood at in none p.report p.spelled p.says
+
+  no_refused : (lines : List (List ℕ)) (k code : ℕ) (line : List ℕ) → Stands lines file → (at : Reaches lines k line) → IsRefusedWith at.front line code → ⊥
+  no_refused lines k code line stood at (r, has, says, refused) =
+      let p = at_place lines k line stood at in
+      let same = same_report p.report r p.spelled has (sym p.says ∙ says) in
+      let passes = passes_at accepted at.front p.later p.report reach p.parts in
+      not_refused at.front r code (subst (λ (x : Report). Passes (counting at.front) x) same passes) refused
+
+  pub own_file : (fault : DeskFault) → RefusesFile file fault → IsNotOfTheFile fault
+  own_file Foreign foreign = foreign_stands file (map line_of accepted) foreign stands
+  own_file (Damaged k) damaged = damaged_stands file k (map line_of accepted) damaged stands
+  own_file (Line k) (lines, stood, (line, at, none)) = no_unread lines k line stood at none
+  own_file (Refused k code) (lines, stood, (line, at, refused)) = no_refused lines k code line stood at refused
+  own_file Device refused = tt
+  own_file Memory refused = tt
+
+-- a file that a desk leaves
+pub own_refused : (file : List ℕ) (accepted : List Report) (turns : List Turn) → AreSpelled accepted → IsReachable accepted → ((r : Report) → IsPending turns r → MayFollow accepted r)
+    → MayStandFor accepted turns file → (fault : DeskFault) → RefusesFile file fault → IsNotOfTheFile fault
+own_refused file accepted turns has reach pends (inl stands) fault refused = own_file file accepted has reach stands fault refused
+own_refused file accepted turns has reach pends (inr (r, pending, stands)) fault refused =
+    let follows = pends r pending in
+    own_file file (accepted ++ r ∷ []) (spelled_more accepted r follows.0 has) (one_more accepted r reach follows.1) stands fault refused

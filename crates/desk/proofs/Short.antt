@@ -1,0 +1,15 @@
+-- Lines that are short enough for a record.
+use Rattle.std.proofs.Common.{◌≡◌, ℕ, ◌≤◌, List, length, ap, arith}
+use Rattle.report_line.specs.Spelling.{spelling}
+use Rattle.report_line.specs.declared.call.Call.{Call}
+use Rattle.report_line.specs.declared.call.Call.TheVariants as calls
+use Rattle.desk.specs.Files.{IsShort}
+
+-- what a short line is read as
+pub short_call : (line : List ℕ) (call : Call) → length line ≤ 8192 → line ≡ spelling call → IsShort call
+short_call line (calls.Report r) few is = omega (arith, few, ap length is)
+short_call line (calls.Line names) few is = tt
+short_call line (calls.State p) few is = tt
+short_call line calls.Bye few is = tt
+short_call line (calls.Bad n) few is = tt
+short_call line calls.Unread few is = tt

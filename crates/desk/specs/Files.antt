@@ -1,0 +1,65 @@
+-- What a record file says of reports.
+use Rattle.std.specs.Prelude.{◌≡◌, ◌⊎◌, ℕ, ◌≤◌, List, [], ◌∷◌, ◌++◌, map, length, All, Contains, ⊤}
+use Rattle.line_disk.specs.Disk.{one_more}
+use Rattle.record_file.specs.File.{Stands}
+use Rattle.report_line.specs.Spelling.{spelling, HasSpelling}
+use Rattle.report_line.specs.declared.report.Report.{Report}
+use Rattle.report_line.specs.declared.call.Call.{Call}
+use Rattle.report_line.specs.declared.call.Call.TheVariants as calls
+use Rattle.report_line.specs.declared.reply.Outcome.TheVariants.{Before, Unknown}
+use Rattle.report_line.specs.declared.reply.Reply.{Reply}
+use Rattle.report_line.specs.declared.reply.Reply.TheVariants.{Accepted, Fail}
+use Rattle.chains.specs.Held.{counting}
+use Rattle.chains.specs.Admission.{Passes}
+use Rattle.desk.specs.declared.turn.Turn.{Turn}
+
+-- the line of a report
+abbrev pub line_of : Report → List ℕ
+line_of r = spelling (calls.Report r)
+
+-- each of the reports has a line
+abbrev pub AreSpelled : List Report → Type 0
+AreSpelled reports = All (λ r. HasSpelling (calls.Report r)) reports
+
+-- the file stands for the lines of these reports
+abbrev pub StandsFor : List Report → List ℕ → Type 0
+StandsFor accepted file = Stands (map line_of accepted) file
+
+-- a report whose line is no longer than a record holds, or another call
+abbrev pub IsShort : Call → Type 0
+IsShort (calls.Report r) = length (line_of r) ≤ 8192
+IsShort _ = ⊤
+
+-- a question for the state of a process
+abbrev pub AsksState : Call → Type 0
+AsksState (calls.State p) = ⊤
+AsksState _ = ⊥
+
+-- a turn of this report was answered FAIL unknown: it may be in the file
+abbrev pub IsPending : List Turn → Report → Type 0
+IsPending turns r = (turn : Turn) × Contains turns turn × (turn.call ≡ calls.Report r) × (turn.receipt.reply ≡ Fail Unknown)
+
+-- the report has a line, and passes all tests over this accepted list
+abbrev pub MayFollow : List Report → Report → Type 0
+MayFollow accepted r = HasSpelling (calls.Report r) × Passes (counting accepted) r
+
+-- the file stands for the accepted list, or for that and a report that is pending
+abbrev pub MayStandFor : List Report → List Turn → List ℕ → Type 0
+MayStandFor accepted turns file = StandsFor accepted file ⊎ ((r : Report) × IsPending turns r × StandsFor (accepted ++ r ∷ []) file)
+
+-- the same, or for the accepted list and the report of this call, whose turn is under way
+abbrev pub StandsWhile : List Report → List Turn → Call → List ℕ → Type 0
+StandsWhile accepted turns call file = MayStandFor accepted turns file ⊎ ((r : Report) × (call ≡ calls.Report r) × StandsFor (accepted ++ r ∷ []) file)
+
+-- the replies of turns that call the device
+abbrev pub UsesDevice : Reply → Type 0
+UsesDevice (Accepted front) = ⊤
+UsesDevice (Fail Before) = ⊤
+UsesDevice (Fail Unknown) = ⊤
+UsesDevice _ = ⊥
+
+-- the device failed where the reply is FAIL before or FAIL unknown, and only there
+abbrev pub CountsReply : Reply → ℕ → ℕ → Type 0
+CountsReply (Fail Before) old new = new ≡ one_more old
+CountsReply (Fail Unknown) old new = new ≡ one_more old
+CountsReply _ old new = new ≡ old

@@ -1,0 +1,10 @@
+pub mod Replays
+pub mod Desks
+pub mod Files
+pub mod Lawful
+pub mod Openings
+pub mod OneList
+pub mod Codes
+pub mod Faults
+pub mod Reading
+pub mod Parts

@@ -1,0 +1,260 @@
+//! The desk.
+
+ghost use Rattle.std.specs.Prelude.{◌≡◌, ◌↔◌, ◌⊎◌, ◌+◌, ◌≤◌, ◌++◌, [], ◌∷◌, ℕ, List, true, false, length, map, IfOk, IfErr, MatchResult, vec_capacity};
+ghost use Rattle.line_disk.specs.Disk.{Leaves, LeavesAlways};
+ghost use Rattle.record_file.specs.Lines.{lines_in};
+ghost use Rattle.report_line.specs.declared.reply.Outcome.TheVariants as outcomes;
+ghost use Rattle.report_line.specs.declared.reply.Reply.TheVariants.{Fail};
+ghost use Rattle.chains.specs.Held.{held_of};
+ghost use Rattle.desk.specs.Faults.{from_store};
+ghost use Rattle.desk.specs.Files.{line_of, AreSpelled};
+ghost use Rattle.desk.specs.Lawful.{turn_limit};
+ghost use Rattle.desk.specs.Openings.{RefusesLines};
+
+use crate::answering::answered;
+use crate::fault::DeskFault;
+use crate::opening::admit_lines;
+use crate::turn::{Receipt, Turn, TurnFault};
+use chains::Chains;
+use line_disk::Disk;
+use record_file::{OpenFault, Store};
+use report_line::Call;
+use std::alloc::{AllocError, Global};
+use std::marker::Model;
+
+const TURN_LIMIT: usize = 65536;
+
+/// Accepted reports whose records are in a file, and the turns that were made since it was opened.
+#[derive(Drop)]
+pub struct Desk<D: Disk> {
+    chains: Chains,
+    /// The chains as they were when the desk was opened.
+    opening: Chains,
+    store: Store<D>,
+    /// There is room for all of them.
+    turns: Vec<Turn>,
+}
+
+impl<D: Disk> Model for Desk<D> {
+    ghost use Rattle.std.specs.Prelude.{◌≡◌, ◌≤◌, false, map, vec_capacity};
+    ghost use Rattle.record_file.specs.Store.{disk_of, is_stopped, HasLines};
+    ghost use Rattle.chains.specs.Held.{held_of};
+    ghost use Rattle.desk.specs.Codes.{desk_code};
+    ghost use Rattle.desk.specs.Desks.{DeskState};
+    ghost use Rattle.desk.specs.Files.{line_of};
+    ghost use Rattle.desk.specs.Lawful.{IsLawful, turn_limit};
+    ghost use Rattle.desk.specs.Parts.{held_with};
+
+    ghost Value = { DeskState D };
+
+    ghost coded = { desk_code D.code };
+
+    ghost view = { λ desk. record { held = held_with desk.chains (is_stopped desk.store); opening = held_of desk.opening; turns = desk.turns.items; disk = disk_of desk.store } };
+
+    ghost invariant = { λ desk.
+        IsLawful D.keeps D.view (record { held = held_with desk.chains (is_stopped desk.store); opening = held_of desk.opening; turns = desk.turns.items; disk = disk_of desk.store })
+        × (is_stopped desk.store ≡ false → D.keeps (disk_of desk.store) → HasLines D.view desk.store (map line_of desk.chains.accepted))
+        × (turn_limit ≤ vec_capacity desk.turns) };
+}
+
+/// Room for all turns.
+fn room(alloc: Global) -> Result<Vec<Turn>, AllocError>
+    ensures none { IfOk result (λ turns. turns.items ≡ []) }
+    ensures room { IfOk result (λ turns. turn_limit ≤ vec_capacity turns) }
+{
+    Vec::with_capacity(alloc, TURN_LIMIT)
+}
+
+/// The fault of a store, told on.
+fn told<D>(refused: (OpenFault, D)) -> (DeskFault, D)
+    ensures fault { result.0 ≡ from_store refused.0 }
+    ensures disk { result.1 ≡ refused.1 }
+{
+    let (fault, disk) = refused;
+    (DeskFault::from(fault), disk)
+}
+
+/// The chains of these records, admitted in order, and a copy of them.
+fn chains_of(alloc: Global, lines: &[Vec<u8>]) -> Result<(Chains, Chains), DeskFault>
+    ensures ok { IfOk result (λ both. lines_in lines.now ≡ map line_of both.0.accepted) }
+    ensures spelled { IfOk result (λ both. AreSpelled both.0.accepted) }
+    ensures copy { IfOk result (λ both. held_of both.1 ≡ held_of both.0) }
+    ensures err { IfErr result (RefusesLines (lines_in lines.now)) }
+{
+    let chains = admit_lines(alloc, lines)?;
+    match chains.copy() {
+        Ok(copy) => Ok((chains, copy)),
+        Err(_) => Err(DeskFault::Memory),
+    }
+}
+
+impl<D: Disk> Desk<D> {
+    ghost use Rattle.record_file.specs.Opening.{KeepsFile, IsSynced};
+    ghost use Rattle.chains.specs.Admission.{IsReached};
+    ghost use Rattle.chains.specs.Turns.{IsTurn};
+    ghost use Rattle.desk.specs.Files.{StandsFor, MayStandFor, StandsWhile, IsShort, AsksState, UsesDevice, CountsReply};
+    ghost use Rattle.desk.specs.Lawful.{IsLawful};
+    ghost use Rattle.desk.specs.Openings.{RefusesFile, CountsDeskFault, LeavesFile, IsNotOfTheFile, IsReopened};
+
+    /// Opens the record file on a disk, and admits its records in order. It takes the memory for all turns. A fault hands the
+    /// disk back.
+    pub fn open(alloc: Global, disk: D) -> Result<Desk<D>, (DeskFault, D)>
+        ensures records { D.keeps disk → IfOk result (λ desk. StandsFor desk.held.accepted (D.view disk).seen) }
+        ensures fresh { IfOk result (λ desk. (desk.held ≡ desk.opening) × (desk.turns ≡ []) × (desk.held.stopped ≡ false)) }
+        ensures refused { D.keeps disk → IfErr result (λ e. RefusesFile (D.view disk).seen e.0) }
+
+        // What a crash at any moment of the call may leave.
+        ensures any_moment { D.keeps disk → IfOk result (λ desk. IsSynced (KeepsFile (D.view disk).seen) (D.view disk) (D.view desk.disk)) }
+        ensures any_moment_err { D.keeps disk → IfErr result (λ e. LeavesFile e.0 (D.view disk) (D.view e.1)) }
+
+        ensures cause { MatchResult result (λ desk. D.failed desk.disk ≡ D.failed disk) (λ e. CountsDeskFault e.0 (D.failed disk) (D.failed e.1)) }
+        ensures premise { MatchResult result (λ desk. D.keeps desk.disk ↔ D.keeps disk) (λ e. D.keeps e.1 ↔ D.keeps disk) }
+    {
+        let turns = match room(alloc) {
+            Ok(turns) => turns,
+            Err(_) => return Err((DeskFault::Memory, disk)),
+        };
+        let store = match Store::open(alloc, disk) {
+            Ok(store) => store,
+            Err(refused) => return Err(told(refused)),
+        };
+        match chains_of(alloc, store.records()) {
+            Ok((chains, opening)) => Ok(Desk {
+                chains,
+                opening,
+                store,
+                turns,
+            }),
+            Err(fault) => Err((fault, store.close())),
+        }
+    }
+
+    /// Tells a proof what holds of each desk.
+    pub fn lawful(&self)
+        ensures lawful { IsLawful D.keeps D.view self.now }
+        ensures reached { IsReached self.now.held }
+        ensures opening { IsReached self.now.opening }
+    {
+        self.chains.lawful();
+        self.opening.lawful();
+    }
+
+    /// The accepted reports, as chains.
+    pub fn chains(&self) -> &Chains
+        ensures accepted { result.now.accepted ≡ self.now.held.accepted }
+        ensures front { result.now.front ≡ self.now.held.front }
+    {
+        &self.chains
+    }
+
+    /// The number of accepted reports.
+    pub fn front(&self) -> u32
+        ensures { result ≡ self.now.held.front }
+    {
+        self.chains.front()
+    }
+
+    /// The calls since the desk was opened, each with its receipt.
+    pub fn turns(&self) -> &[Turn]
+        ensures { result.now ≡ self.now.turns }
+    {
+        &self.turns
+    }
+
+    /// Whether a turn since the desk was opened was answered `FAIL before` or `FAIL unknown`.
+    pub fn stopped(&self) -> bool
+        ensures { result ≡ self.now.held.stopped }
+    {
+        self.store.stopped()
+    }
+
+    /// The chains of the accepted reports, once more.
+    pub fn snapshot(&self) -> Result<Chains, AllocError>
+        ensures accepted { IfOk result (λ chains. chains.accepted ≡ self.now.held.accepted) }
+        ensures front { IfOk result (λ chains. chains.front ≡ self.now.held.front) }
+    {
+        self.chains.copy()
+    }
+
+    /// The chains as they were when the desk was opened, once more.
+    pub fn opening(&self) -> Result<Chains, AllocError>
+        ensures { IfOk result (λ chains. held_of chains ≡ self.now.opening) }
+    {
+        self.opening.copy()
+    }
+
+    /// The disk.
+    pub fn close(self) -> D
+        ensures disk { result ≡ self.disk }
+        // What a crash leaves from now on.
+        ensures left { D.keeps result → (c : List ℕ) → Leaves (D.view result) c → MayStandFor self.held.accepted self.turns c }
+    {
+        self.lawful();
+        let Desk {
+            chains: _,
+            opening: _,
+            store,
+            turns: _,
+        } = self;
+        store.close()
+    }
+
+    /// Closes the desk and opens its disk again: the list of turns begins anew.
+    pub fn reopen(self) -> Result<Desk<D>, (DeskFault, D)>
+        ensures records { D.keeps self.disk → IfOk result (λ desk. IsReopened self.held.accepted self.turns desk.held.accepted) }
+        ensures fresh { IfOk result (λ desk. (desk.held ≡ desk.opening) × (desk.turns ≡ []) × (desk.held.stopped ≡ false)) }
+        // A desk's own file is refused for nothing that it says.
+        ensures refused { D.keeps self.disk → IfErr result (λ e. IsNotOfTheFile e.0) }
+        ensures any_moment { D.keeps self.disk → IfOk result (λ desk. IsSynced (KeepsFile (D.view self.disk).seen) (D.view self.disk) (D.view desk.disk)) }
+        ensures any_moment_err { D.keeps self.disk → IfErr result (λ e. LeavesFile e.0 (D.view self.disk) (D.view e.1)) }
+        ensures cause { MatchResult result (λ desk. D.failed desk.disk ≡ D.failed self.disk) (λ e. CountsDeskFault e.0 (D.failed self.disk) (D.failed e.1)) }
+        ensures premise { MatchResult result (λ desk. D.keeps desk.disk ↔ D.keeps self.disk) (λ e. D.keeps e.1 ↔ D.keeps self.disk) }
+    {
+        self.lawful();
+        let alloc = self.chains.alloc();
+        match Desk::open(alloc, self.close()) {
+            Ok(desk) => {
+                desk.lawful();
+                Ok(desk)
+            }
+            Err(refused) => Err(refused),
+        }
+    }
+
+    /// Makes the turn of a call.
+    pub fn turn(&mut self, call: Call) -> Result<Receipt, TurnFault>
+        requires { IsShort call }
+        ensures step { IfOk result (λ receipt. IsTurn self.old.held call receipt.reply self.new.held) }
+        ensures turns { IfOk result (λ receipt. self.new.turns ≡ self.old.turns ++ record { call = call; receipt = receipt } ∷ []) }
+        ensures number { IfOk result (λ receipt. receipt.turn ≡ length self.old.turns + 1) }
+        ensures opening { self.new.opening ≡ self.old.opening }
+        ensures worn { length self.old.turns ≡ turn_limit → result ≡ Err TurnFault.Worn }
+        ensures err { IfErr result (λ fault. self.new ≡ self.old) }
+        ensures cause_err { result ≡ Err TurnFault.Worn → length self.old.turns ≡ turn_limit }
+        ensures memory { result ≡ Err TurnFault.Memory → AsksState call }
+
+        // What a crash may leave at any moment of the call; what it leaves behind it says `lawful`.
+        ensures any_moment { D.keeps self.old.disk → LeavesAlways (StandsWhile self.old.held.accepted self.old.turns call) (D.view self.old.disk) (D.view self.new.disk) }
+        ensures before { IfOk result (λ receipt. receipt.reply ≡ Fail outcomes.Before → D.keeps self.old.disk
+            → (c : List ℕ) → Leaves (D.view self.new.disk) c → StandsFor self.old.held.accepted c) }
+
+        // No other reply comes of a call of the device, and a stopped store makes none.
+        ensures unmoved { IfOk result (λ receipt. ¬ UsesDevice receipt.reply → self.new.disk ≡ self.old.disk) }
+        ensures stopped_only { IfOk result (λ receipt. receipt.reply ≡ Fail outcomes.Stopped → self.old.held.stopped ≡ true) }
+        ensures stopped { self.old.held.stopped ≡ true → (self.new.disk ≡ self.old.disk) × (self.new.held ≡ self.old.held) }
+        ensures cause { IfOk result (λ receipt. CountsReply receipt.reply (D.failed self.old.disk) (D.failed self.new.disk)) }
+        ensures premise { D.keeps self.new.disk ↔ D.keeps self.old.disk }
+    {
+        if self.turns.len() >= TURN_LIMIT {
+            return Err(TurnFault::Worn);
+        }
+        self.chains.lawful();
+        let (given, kept) = answered(&mut self.chains, &mut self.store, &call)?.into_parts();
+        let turn = self.turns.len() as u32 + 1;
+        self.turns.push_reserved(Turn {
+            call,
+            receipt: Receipt { turn, reply: kept },
+        });
+        Ok(Receipt { turn, reply: given })
+    }
+}

@@ -1,0 +1,79 @@
+//! Records that are admitted.
+
+ghost use Rattle.std.specs.Prelude.{◌≡◌, ◌≢◌, ◌+◌, ◌++◌, [], ◌∷◌, map, MatchOption, IfOk, IfErr, OnOk};
+ghost use Rattle.record_file.specs.Lines.{lines_in};
+ghost use Rattle.report_line.specs.declared.report.Report.{Report as AnyReport};
+ghost use Rattle.report_line.specs.declared.call.Call.TheVariants as calls;
+ghost use Rattle.report_line.specs.Spelling.{HasSpelling};
+ghost use Rattle.chains.specs.Held.{held_of, with_report};
+ghost use Rattle.desk.specs.Files.{line_of, AreSpelled};
+ghost use Rattle.desk.specs.Openings.{RefusesLines};
+ghost use Rattle.desk.specs.Reading.{IsUnread, RefusesLine, IsFaultOf};
+
+use crate::fault::DeskFault;
+use chains::{Admitted, Chains, No};
+use report_line::{Call, Code, LineFault, PackedReport, Shared, read_line};
+use std::alloc::Global;
+
+/// The report of a call, if it is one.
+fn report_of(call: Call) -> Option<Shared<PackedReport>>
+    ensures { MatchOption result ((r : AnyReport) → call ≢ calls.Report r) (λ r. call ≡ calls.Report r) }
+{
+    match call {
+        Call::Report(report) => Some(report),
+        _ => None,
+    }
+}
+
+/// Reads the line of a report, which is the record of this number.
+fn read_report(alloc: Global, number: usize, line: &[u8]) -> Result<Shared<PackedReport>, DeskFault>
+    ensures ok { IfOk result (λ r. (line.now ≡ line_of r) × HasSpelling (calls.Report r)) }
+    ensures err { IfErr result (IsUnread number line.now) }
+{
+    match read_line(alloc, line) {
+        Ok(call) => match report_of(call) {
+            Some(report) => Ok(report),
+            None => Err(DeskFault::Line(number)),
+        },
+        Err(LineFault::Grammar) => Err(DeskFault::Line(number)),
+        Err(LineFault::Memory) => Err(DeskFault::Memory),
+    }
+}
+
+/// The fault of a record whose report is refused.
+fn fault_of(number: usize, refusal: No) -> DeskFault
+    ensures { IsFaultOf number refusal result }
+{
+    if refusal.code == Code::OutOfMemory {
+        return DeskFault::Memory;
+    }
+    DeskFault::Refused(number, refusal.code.number())
+}
+
+/// Admits the record of this number.
+fn admit_line(chains: &mut Chains, number: usize, line: &[u8]) -> Result<(), DeskFault>
+    ensures ok { OnOk result ((r : AnyReport) × (line.now ≡ line_of r) × HasSpelling (calls.Report r) × (held_of chains.new ≡ with_report (held_of chains.old) r)) }
+    ensures err { IfErr result (RefusesLine chains.old.accepted number line.now) }
+{
+    chains.lawful();
+    let report = read_report(chains.alloc(), number, line)?;
+    match chains.admit_shared(report) {
+        Ok(Admitted::Accepted(_)) => Ok(()),
+        Ok(Admitted::Old(_)) => Err(DeskFault::Refused(number, 1)),
+        Err(refusal) => Err(fault_of(number, refusal)),
+    }
+}
+
+/// The chains of these records, admitted in order.
+pub(crate) fn admit_lines(alloc: Global, lines: &[Vec<u8>]) -> Result<Chains, DeskFault>
+    ensures ok { IfOk result (λ chains. lines_in lines.now ≡ map line_of chains.accepted) }
+    ensures spelled { IfOk result (λ chains. AreSpelled chains.accepted) }
+    ensures err { IfErr result (RefusesLines (lines_in lines.now)) }
+{
+    let mut chains = Chains::new(alloc);
+    for i in 0..lines.len() {
+        chains.lawful();
+        admit_line(&mut chains, i + 1, &lines[i])?;
+    }
+    Ok(chains)
+}

@@ -65,26 +65,27 @@ fn write_words(
     write(svg, &[Text(b"<title id=\"title\">".as_slice())])?;
     write_failed(svg, &scene.lanes, line.failed.as_slice())?;
     write(svg, &[Text(b"</title>\n<desc id=\"words\">".as_slice())])?;
-    write_lines(svg, &scene.lanes, line.line.as_slice(), obsolete.line.as_slice())?;
+    write_lines(
+        svg,
+        &scene.lanes,
+        line.line.as_slice(),
+        obsolete.line.as_slice(),
+    )?;
     write(svg, &[Text(b"</desc>\n".as_slice())])
 }
 
 /// The white ground, and which processes failed.
-fn write_ground(
-    svg: &mut Vec<u8>,
-    frame: Frame,
-    scene: &Scene,
-    failed: &[u32],
-) -> Result<(), AllocError> {
-    write(svg, &[
-        Text(LOOKS),
-        Text(b"<rect width=\"100%\" height=\"100%\" fill=\"#fff\"/>\n".as_slice()),
-    ])?;
+fn write_ground(svg: &mut Vec<u8>, scene: &Scene, failed: &[u32]) -> Result<(), AllocError> {
+    write(
+        svg,
+        &[
+            Text(LOOKS),
+            Text(b"<rect width=\"100%\" height=\"100%\" fill=\"#fff\"/>\n".as_slice()),
+        ],
+    )?;
     open_text(svg, b"title", (12, 24))?;
     write_failed(svg, &scene.lanes, failed)?;
-    close_text(svg)?;
-    let _whole = frame;
-    Ok(())
+    close_text(svg)
 }
 
 /// The layers, from the lowest to the highest.
@@ -102,7 +103,7 @@ fn write_layers(
     draw_lives(svg, frame, lanes, places)?;
     draw_arrows(svg, frame, scene, places)?;
     draw_marks(svg, frame, lanes, places)?;
-    draw_failures(svg, frame, lanes, failed)?;
+    draw_failures(svg, frame, lanes, places, failed)?;
     draw_recovery_line(svg, frame, lanes, places)
 }
 
@@ -117,7 +118,7 @@ fn picture(
     let mut svg = Vec::new(alloc);
     write_head(&mut svg, frame)?;
     write_words(&mut svg, scene, line, obsolete)?;
-    write_ground(&mut svg, frame, scene, line.failed.as_slice())?;
+    write_ground(&mut svg, scene, line.failed.as_slice())?;
     write_layers(&mut svg, frame, scene, line, obsolete)?;
     write(&mut svg, &[Text(b"</svg>\n".as_slice())])?;
     Ok(svg)

@@ -92,16 +92,17 @@ fn go_on(followed: &mut Followed, line: &[u8]) -> Result<(), Stop> {
     }
 }
 
-/// Takes the steps of these lines, of which the first has this number, up to one that is refused.
-fn go_through(followed: &mut Followed, lines: &[u8], first: u64) -> Ending {
+/// Takes the steps of these lines, which stand behind the first line of their script, up to one that is refused.
+fn go_through(followed: &mut Followed, lines: &[u8]) -> Ending {
     let mut rest = lines;
-    let mut number = first;
-    while let Some((line, behind)) = cut_line(rest) {
+    for step in 2..u64::MAX {
+        let Some((line, behind)) = cut_line(rest) else {
+            return Ending::Done;
+        };
         match go_on(followed, line) {
             Ok(()) => {}
-            Err(stop) => return ending_by(stop, number),
+            Err(stop) => return ending_by(stop, step),
         }
-        number = number.saturating_add(1);
         rest = behind;
     }
     Ending::Done
@@ -115,7 +116,7 @@ pub(crate) fn follow(alloc: Global, script: &[u8]) -> (Option<Followed>, Ending)
     match begin(alloc, first) {
         Ok(begun) => {
             let mut followed = begun;
-            let ending = go_through(&mut followed, behind, 2);
+            let ending = go_through(&mut followed, behind);
             (Some(followed), ending)
         }
         Err(stop) => (None, ending_by(stop, 1)),

@@ -1,6 +1,8 @@
 //! Where things stand in a picture, in pixels.
 
-use crate::lane::Lane;
+ghost use Rattle.std.specs.Prelude.{◌<◌, ◌≤◌, ◌^◌};
+
+use crate::lane::{Lane, counted};
 use crate::scene::{Scene, Spot};
 use chains::{Place, Position};
 
@@ -23,6 +25,16 @@ pub(crate) struct Frame {
     last: u32,
 }
 
+/// The line of a process in a picture with these measures.
+#[derive(Clone, Copy)]
+pub(crate) struct Row<'a> {
+    frame: Frame,
+    pub(crate) lane: &'a Lane,
+    number: u32,
+    /// Where the recovery line crosses it.
+    pub(crate) crossing: u64,
+}
+
 /// The length of the longest name.
 fn longest_name(lanes: &[Lane]) -> usize {
     let mut longest = 0;
@@ -41,18 +53,24 @@ impl Frame {
         let letters = longest_name(&scene.lanes).min(32) as u32;
         Frame {
             left: 28 + 8 * letters,
-            lanes: scene.lanes.len() as u32,
+            lanes: counted(scene.lanes.len()),
             last: scene.column,
         }
     }
 
     /// The middle of a column.
-    pub(crate) fn x(self, column: u32) -> u64 {
+    pub(crate) fn x(self, column: u32) -> u64
+        ensures low { 16 ≤ result }
+        ensures high { result < 2 ^ 40 }
+    {
         self.left as u64 + COLUMN * column as u64 + COLUMN / 2
     }
 
     /// The middle of a line.
-    pub(crate) fn y(self, lane: u32) -> u64 {
+    pub(crate) fn y(self, lane: u32) -> u64
+        ensures low { 52 ≤ result }
+        ensures high { result < 2 ^ 40 }
+    {
         MARGIN + LANE * lane as u64 + LANE / 2
     }
 
@@ -66,31 +84,67 @@ impl Frame {
 
     /// Where the recovery line crosses the line of a process that returns to this position: behind it, or in front of the
     /// birth.
-    pub(crate) fn crossing(self, lane: &Lane, position: Position) -> u64 {
+    fn crossing(self, lane: &Lane, position: Position) -> u64
+        ensures { result < 2 ^ 41 }
+    {
         match lane.column_of(position) {
             Some(column) => self.x(column) + BEHIND,
             None => self.x(lane.birth) - BEHIND,
         }
     }
 
-    /// Where the line crosses that of the process of this number.
-    pub(crate) fn crossing_at(self, lanes: &[Lane], places: &[Place], number: u32) -> u64 {
-        match lanes.get(number as usize) {
-            None => 0,
-            Some(lane) => match places.get(number as usize) {
-                None => 0,
-                Some(place) => self.crossing(lane, place.position),
-            },
+    /// Where the recovery line through these places crosses the line of the process of this number.
+    fn crossing_of(self, lane: &Lane, places: &[Place], number: u32) -> u64
+        ensures { result < 2 ^ 41 }
+    {
+        match places.get(number as usize) {
+            None => self.x(lane.birth),
+            Some(place) => self.crossing(lane, place.position),
         }
     }
 
-    /// Whether a step is undone, where the line crosses that of its process here.
-    pub(crate) fn is_undone(self, column: u32, crossing: u64) -> bool {
-        self.x(column) > crossing
+    /// The line of the process of this number, crossed by the recovery line through these places.
+    pub(crate) fn row<'a>(
+        self,
+        lanes: &'a [Lane],
+        places: &[Place],
+        number: u32,
+    ) -> Option<Row<'a>> {
+        let lane = lanes.get(number as usize)?;
+        let crossing = self.crossing_of(lane, places, number);
+        Some(Row {
+            frame: self,
+            lane,
+            number,
+            crossing,
+        })
     }
 
-    /// Both parts of a spot.
+    /// Where a step stands.
     pub(crate) fn at(self, spot: Spot) -> (u64, u64) {
         (self.x(spot.column), self.y(spot.lane))
+    }
+}
+
+impl<'a> Row<'a> {
+    /// The middle of the line.
+    pub(crate) fn y(self) -> u64
+        ensures low { 52 ≤ result }
+        ensures high { result < 2 ^ 40 }
+    {
+        self.frame.y(self.number)
+    }
+
+    /// The middle of a column.
+    pub(crate) fn x(self, column: u32) -> u64
+        ensures low { 16 ≤ result }
+        ensures high { result < 2 ^ 40 }
+    {
+        self.frame.x(column)
+    }
+
+    /// Whether the process's step in this column is undone.
+    pub(crate) fn is_undone(self, column: u32) -> bool {
+        self.frame.x(column) > self.crossing
     }
 }

@@ -82,3 +82,8 @@ impl Lane {
         }
     }
 }
+
+/// A number of processes, of which there are never so many.
+pub(crate) fn counted(processes: usize) -> u32 {
+    processes.min(4_294_967_295) as u32
+}

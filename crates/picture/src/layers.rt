@@ -1,13 +1,24 @@
 //! The layers of a picture.
 
-use crate::frame::Frame;
-use crate::lane::Lane;
+use crate::frame::{Frame, Row};
+use crate::lane::{Lane, counted};
 use crate::pen::Piece::{Number, Text};
 use crate::pen::write;
 use crate::scene::{Arrow, Scene, Tie};
 use crate::shapes::{circle, line, number, rectangle, word};
 use chains::Place;
 use std::alloc::AllocError;
+
+/// Hatches what is obsolete of a process: what stands in front of the place at which its line is crossed.
+fn draw_obsolete_part(svg: &mut Vec<u8>, row: Row<'_>) -> Result<(), AllocError> {
+    let from = row.x(row.lane.birth);
+    // The place itself is not obsolete, so the hatching ends in front of its mark.
+    let to = row.crossing.saturating_sub(20);
+    if from >= to {
+        return Ok(());
+    }
+    rectangle(svg, b"obsolete", (from, row.y() - 9), (to - from, 18))
+}
 
 /// Hatches what is obsolete of each process: what stands in front of this line.
 pub(crate) fn draw_obsolete(
@@ -17,29 +28,21 @@ pub(crate) fn draw_obsolete(
     places: &[Place],
 ) -> Result<(), AllocError> {
     for i in 0..lanes.len() {
-        let from = frame.x(lanes[i].birth);
-        let to = frame.crossing_at(lanes, places, i as u32);
-        if from < to {
-            // The place itself is not obsolete, so the hatching ends in front of its mark.
-            let width = (to - from).saturating_sub(20);
-            let top = frame.y(i as u32) - 9;
-            rectangle(svg, b"obsolete", (from, top), (width, 18))?;
+        match frame.row(lanes, places, counted(i)) {
+            None => {}
+            Some(row) => draw_obsolete_part(svg, row)?,
         }
     }
     Ok(())
 }
 
-/// The life of a process, whose later part is undone.
-fn draw_life(
-    svg: &mut Vec<u8>,
-    frame: Frame,
-    lane: &Lane,
-    y: u64,
-    crossing: u64,
-) -> Result<(), AllocError> {
-    let from = frame.x(lane.birth);
-    let to = frame.x(lane.last);
-    let turn = crossing.max(from).min(to);
+/// The name of a process, and its life, whose later part is undone.
+fn draw_life(svg: &mut Vec<u8>, row: Row<'_>) -> Result<(), AllocError> {
+    let y = row.y();
+    let from = row.x(row.lane.birth);
+    let to = row.x(row.lane.last);
+    let turn = row.crossing.max(from).min(to);
+    word(svg, b"name", (12, y + 5), row.lane.name.as_bytes())?;
     line(svg, b"life", (from, y), (turn, y))?;
     line(svg, b"life undone", (turn, y), (to, y))
 }
@@ -52,10 +55,10 @@ pub(crate) fn draw_lives(
     places: &[Place],
 ) -> Result<(), AllocError> {
     for i in 0..lanes.len() {
-        let y = frame.y(i as u32);
-        let crossing = frame.crossing_at(lanes, places, i as u32);
-        word(svg, b"name", (12, y + 5), lanes[i].name.as_bytes())?;
-        draw_life(svg, frame, &lanes[i], y, crossing)?;
+        match frame.row(lanes, places, counted(i)) {
+            None => {}
+            Some(row) => draw_life(svg, row)?,
+        }
     }
     Ok(())
 }
@@ -72,14 +75,14 @@ fn class_of(tie: Tie, is_undone: bool) -> &'static [u8] {
     }
 }
 
-/// An arrow, which is undone where the step that it leads to is.
+/// An arrow to a step in this row, which is undone where that step is.
 fn draw_arrow(
     svg: &mut Vec<u8>,
     frame: Frame,
+    row: Row<'_>,
     arrow: Arrow,
-    crossing: u64,
 ) -> Result<(), AllocError> {
-    let class = class_of(arrow.tie, frame.is_undone(arrow.to.column, crossing));
+    let class = class_of(arrow.tie, row.is_undone(arrow.to.column));
     line(svg, class, frame.at(arrow.from), frame.at(arrow.to))
 }
 
@@ -90,10 +93,11 @@ pub(crate) fn draw_arrows(
     scene: &Scene,
     places: &[Place],
 ) -> Result<(), AllocError> {
-    let arrows = &scene.arrows;
-    for i in 0..arrows.len() {
-        let crossing = frame.crossing_at(&scene.lanes, places, arrows[i].to.lane);
-        draw_arrow(svg, frame, arrows[i], crossing)?;
+    for arrow in &scene.arrows {
+        match frame.row(&scene.lanes, places, arrow.to.lane) {
+            None => {}
+            Some(row) => draw_arrow(svg, frame, row, *arrow)?,
+        }
     }
     Ok(())
 }
@@ -111,81 +115,63 @@ fn class_of_mark(is_present: bool, is_undone: bool) -> &'static [u8] {
 /// An element with its number.
 fn draw_element(
     svg: &mut Vec<u8>,
-    at: (u64, u64),
-    class: &[u8],
-    element: u64,
+    row: Row<'_>,
+    column: u32,
+    is_present: bool,
+    element: usize,
 ) -> Result<(), AllocError> {
-    circle(svg, class, at, 6)?;
-    number(svg, b"number", (at.0, at.1 - 12), element)
+    let class = class_of_mark(is_present, row.is_undone(column));
+    let (x, y) = (row.x(column), row.y());
+    circle(svg, class, (x, y), 6)?;
+    number(svg, b"number", (x, y - 12), element as u64)
 }
 
 /// The marks of the birth and of the checkpoints.
-fn draw_elements(
-    svg: &mut Vec<u8>,
-    frame: Frame,
-    lane: &Lane,
-    y: u64,
-    crossing: u64,
-) -> Result<(), AllocError> {
-    let columns = &lane.elements;
+fn draw_elements(svg: &mut Vec<u8>, row: Row<'_>) -> Result<(), AllocError> {
+    let columns = &row.lane.elements;
     for i in 0..columns.len() {
-        let class = class_of_mark(false, frame.is_undone(columns[i], crossing));
-        draw_element(svg, (frame.x(columns[i]), y), class, i as u64 + 1)?;
+        draw_element(svg, row, columns[i], false, i + 1)?;
     }
     Ok(())
 }
 
 /// The marks of present states that another report ended.
-fn draw_ended(
-    svg: &mut Vec<u8>,
-    frame: Frame,
-    lane: &Lane,
-    y: u64,
-    crossing: u64,
-) -> Result<(), AllocError> {
-    let columns = &lane.ended;
-    for i in 0..columns.len() {
-        let class = class_of_mark(true, frame.is_undone(columns[i], crossing));
-        circle(svg, class, (frame.x(columns[i]), y), 4)?;
+fn draw_ended(svg: &mut Vec<u8>, row: Row<'_>) -> Result<(), AllocError> {
+    for column in &row.lane.ended {
+        let class = class_of_mark(true, row.is_undone(*column));
+        circle(svg, class, (row.x(*column), row.y()), 4)?;
     }
     Ok(())
 }
 
 /// The mark of its present state.
-fn draw_present(
-    svg: &mut Vec<u8>,
-    frame: Frame,
-    lane: &Lane,
-    y: u64,
-    crossing: u64,
-) -> Result<(), AllocError> {
-    match lane.present {
+fn draw_present(svg: &mut Vec<u8>, row: Row<'_>) -> Result<(), AllocError> {
+    match row.lane.present {
         None => Ok(()),
-        Some(column) => {
-            let class = class_of_mark(true, frame.is_undone(column, crossing));
-            let element = lane.elements.len() as u64 + 1;
-            draw_element(svg, (frame.x(column), y), class, element)
-        }
+        Some(column) => draw_element(svg, row, column, true, row.lane.elements.len() + 1),
     }
 }
 
 /// The mark of its retirement.
-fn draw_retirement(
-    svg: &mut Vec<u8>,
-    frame: Frame,
-    lane: &Lane,
-    y: u64,
-    crossing: u64,
-) -> Result<(), AllocError> {
-    if !lane.is_retired {
+fn draw_retirement(svg: &mut Vec<u8>, row: Row<'_>) -> Result<(), AllocError> {
+    if !row.lane.is_retired {
         return Ok(());
     }
-    let x = frame.x(lane.last);
-    if frame.is_undone(lane.last, crossing) {
-        line(svg, b"life undone", (x, y - 9), (x, y + 9))
+    let class = if row.is_undone(row.lane.last) {
+        b"life undone".as_slice()
     } else {
-        line(svg, b"life", (x, y - 9), (x, y + 9))
-    }
+        b"life".as_slice()
+    };
+    let (x, y) = (row.x(row.lane.last), row.y());
+    line(svg, class, (x, y - 9), (x, y + 9))
+}
+
+/// The marks of a process.
+fn draw_marks_of(svg: &mut Vec<u8>, row: Row<'_>) -> Result<(), AllocError> {
+    draw_retirement(svg, row)?;
+    draw_ended(svg, row)?;
+    draw_elements(svg, row)?;
+    draw_present(svg, row)
 }
 
 /// The marks of each process.
@@ -196,14 +182,19 @@ pub(crate) fn draw_marks(
     places: &[Place],
 ) -> Result<(), AllocError> {
     for i in 0..lanes.len() {
-        let y = frame.y(i as u32);
-        let crossing = frame.crossing_at(lanes, places, i as u32);
-        draw_retirement(svg, frame, &lanes[i], y, crossing)?;
-        draw_ended(svg, frame, &lanes[i], y, crossing)?;
-        draw_elements(svg, frame, &lanes[i], y, crossing)?;
-        draw_present(svg, frame, &lanes[i], y, crossing)?;
+        match frame.row(lanes, places, counted(i)) {
+            None => {}
+            Some(row) => draw_marks_of(svg, row)?,
+        }
     }
     Ok(())
+}
+
+/// A cross at the end of the line of a process that failed.
+fn draw_failure(svg: &mut Vec<u8>, row: Row<'_>) -> Result<(), AllocError> {
+    let (x, y) = (row.x(row.lane.last) + 20, row.y());
+    line(svg, b"failure", (x - 7, y - 7), (x + 7, y + 7))?;
+    line(svg, b"failure", (x - 7, y + 7), (x + 7, y - 7))
 }
 
 /// A cross at the end of the line of each process that failed.
@@ -211,19 +202,34 @@ pub(crate) fn draw_failures(
     svg: &mut Vec<u8>,
     frame: Frame,
     lanes: &[Lane],
+    places: &[Place],
     failed: &[u32],
 ) -> Result<(), AllocError> {
     for number in failed {
-        match lanes.get(*number as usize) {
+        match frame.row(lanes, places, *number) {
             None => {}
-            Some(lane) => {
-                let (x, y) = (frame.x(lane.last) + 20, frame.y(*number));
-                line(svg, b"failure", (x - 7, y - 7), (x + 7, y + 7))?;
-                line(svg, b"failure", (x - 7, y + 7), (x + 7, y - 7))?;
-            }
+            Some(row) => draw_failure(svg, row)?,
         }
     }
     Ok(())
+}
+
+/// The part of the recovery line that crosses the line of a process.
+fn draw_crossing(svg: &mut Vec<u8>, row: Row<'_>) -> Result<(), AllocError> {
+    let y = row.y();
+    write(
+        svg,
+        &[
+            Number(row.crossing),
+            Text(b",".as_slice()),
+            Number(y - 26),
+            Text(b" ".as_slice()),
+            Number(row.crossing),
+            Text(b",".as_slice()),
+            Number(y + 26),
+            Text(b" ".as_slice()),
+        ],
+    )
 }
 
 /// The recovery line: one stroke through all processes.
@@ -233,23 +239,15 @@ pub(crate) fn draw_recovery_line(
     lanes: &[Lane],
     places: &[Place],
 ) -> Result<(), AllocError> {
-    write(svg, &[Text(b"<polyline class=\"recovery\" points=\"".as_slice())])?;
+    write(
+        svg,
+        &[Text(b"<polyline class=\"recovery\" points=\"".as_slice())],
+    )?;
     for i in 0..lanes.len() {
-        let x = frame.crossing_at(lanes, places, i as u32);
-        let y = frame.y(i as u32);
-        write(
-            svg,
-            &[
-                Number(x),
-                Text(b",".as_slice()),
-                Number(y - 26),
-                Text(b" ".as_slice()),
-                Number(x),
-                Text(b",".as_slice()),
-                Number(y + 26),
-                Text(b" ".as_slice()),
-            ],
-        )?;
+        match frame.row(lanes, places, counted(i)) {
+            None => {}
+            Some(row) => draw_crossing(svg, row)?,
+        }
     }
     write(svg, &[Text(b"\"/>\n".as_slice())])
 }

@@ -1,6 +1,6 @@
 //! What a picture shows, whatever failed.
 
-use crate::lane::Lane;
+use crate::lane::{Lane, counted};
 use driver::{Act, Step};
 use indexmap::IndexMap;
 use report_line::Name;
@@ -61,7 +61,7 @@ impl Scene {
 
     /// A process is born.
     fn bear(&mut self, name: Name) -> Result<u32, AllocError> {
-        let number = self.lanes.len() as u32;
+        let number = counted(self.lanes.len());
         self.known.insert(name.copy(), number)?;
         self.lanes.push(Lane::born(self.alloc, name, self.column)?)?;
         Ok(number)

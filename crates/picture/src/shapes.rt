@@ -78,11 +78,7 @@ pub(crate) fn rectangle(
 }
 
 /// What stands in front of a text that begins here, or stands round it, as the class says.
-pub(crate) fn open_text(
-    svg: &mut Vec<u8>,
-    class: &[u8],
-    at: (u64, u64),
-) -> Result<(), AllocError> {
+pub(crate) fn open_text(svg: &mut Vec<u8>, class: &[u8], at: (u64, u64)) -> Result<(), AllocError> {
     write(
         svg,
         &[

@@ -16,7 +16,11 @@ fn write_name(svg: &mut Vec<u8>, lanes: &[Lane], number: u32) -> Result<(), Allo
 
 /// What stands between words.
 fn comma(i: usize) -> &'static [u8] {
-    if i == 0 { b" ".as_slice() } else { b", ".as_slice() }
+    if i == 0 {
+        b" ".as_slice()
+    } else {
+        b", ".as_slice()
+    }
 }
 
 /// The names of the processes of these numbers.

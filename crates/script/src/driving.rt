@@ -22,8 +22,8 @@ enum Stop {
     Memory,
 }
 
-// What stands in front of the first LF, and what behind it.
-fn cut_line(bytes: &[u8]) -> Option<(&[u8], &[u8])>
+/// What stands in front of the first LF, and what behind it; none where there is no LF.
+pub fn cut_line(bytes: &[u8]) -> Option<(&[u8], &[u8])>
     ensures { MatchOption result (NoBreak bytes.now) (λ parts. NoBreak parts.0.now × (bytes.now ≡ parts.0.now ++ 10 ∷ parts.1.now)) }
 {
     let at = memchr(b'\n', bytes)?;

@@ -8,6 +8,6 @@ mod driving;
 mod end;
 mod reading;
 
-pub use driving::drive;
+pub use driving::{cut_line, drive};
 pub use end::{Cause, End};
 pub use reading::{a_line_has_one_step, read_root, read_step};

@@ -1,0 +1,79 @@
+//! What a picture says in words, for who cannot see it.
+
+use crate::lane::Lane;
+use crate::pen::Piece::{Number, Text};
+use crate::pen::write;
+use chains::{Place, Position};
+use std::alloc::AllocError;
+
+/// The name of a process, by its number.
+fn write_name(svg: &mut Vec<u8>, lanes: &[Lane], number: u32) -> Result<(), AllocError> {
+    match lanes.get(number as usize) {
+        None => Ok(()),
+        Some(lane) => write(svg, &[Text(lane.name.as_bytes())]),
+    }
+}
+
+/// What stands between words.
+fn comma(i: usize) -> &'static [u8] {
+    if i == 0 {
+        b" ".as_slice()
+    } else {
+        b", ".as_slice()
+    }
+}
+
+/// The names of the processes of these numbers.
+fn write_names(svg: &mut Vec<u8>, lanes: &[Lane], numbers: &[u32]) -> Result<(), AllocError> {
+    for i in 0..numbers.len() {
+        write(svg, &[Text(comma(i))])?;
+        write_name(svg, lanes, numbers[i])?;
+    }
+    Ok(())
+}
+
+/// Which processes failed.
+pub(crate) fn write_failed(
+    svg: &mut Vec<u8>,
+    lanes: &[Lane],
+    failed: &[u32],
+) -> Result<(), AllocError> {
+    if failed.is_empty() {
+        return write(svg, &[Text(b"No process failed".as_slice())]);
+    }
+    write(svg, &[Text(b"Failed:".as_slice())])?;
+    write_names(svg, lanes, failed)
+}
+
+/// Where a process stands.
+fn write_position(svg: &mut Vec<u8>, position: Position) -> Result<(), AllocError> {
+    match position {
+        Position::At(0) => write(svg, &[Text(b" unborn".as_slice())]),
+        Position::At(k) => write(svg, &[Text(b" at ".as_slice()), Number(k as u64)]),
+        Position::Retired => write(svg, &[Text(b" retired".as_slice())]),
+    }
+}
+
+/// Where each process stands.
+fn write_places(svg: &mut Vec<u8>, lanes: &[Lane], places: &[Place]) -> Result<(), AllocError> {
+    for i in 0..places.len() {
+        write(svg, &[Text(comma(i))])?;
+        write_name(svg, lanes, places[i].process)?;
+        write_position(svg, places[i].position)?;
+    }
+    Ok(())
+}
+
+/// The recovery line, and the line before which all is obsolete.
+pub(crate) fn write_lines(
+    svg: &mut Vec<u8>,
+    lanes: &[Lane],
+    line: &[Place],
+    obsolete: &[Place],
+) -> Result<(), AllocError> {
+    write(svg, &[Text(b"Recovery line:".as_slice())])?;
+    write_places(svg, lanes, line)?;
+    write(svg, &[Text(b". Obsolete before:".as_slice())])?;
+    write_places(svg, lanes, obsolete)?;
+    write(svg, &[Text(b".".as_slice())])
+}

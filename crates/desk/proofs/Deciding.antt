@@ -18,6 +18,7 @@ use Rattle.desk.specs.Parts.{MayBeLeftBy}
 same_held : (held after : Held) (call : Call) → IsTurn held call (Fail Stopped) after → after ≡ held
 same_held held after (calls.Report r) (fate, t) = after_report_turn held.stopped fate held r (Fail Stopped) after t
 same_held held after (calls.Line names) (fate, t) = unchanged held.stopped fate held _ (Fail Stopped) after t
+same_held held after calls.Garbage (fate, t) = unchanged held.stopped fate held _ (Fail Stopped) after t
 same_held held after (calls.State p) (fate, t) = unchanged held.stopped fate held _ (Fail Stopped) after t
 same_held held after calls.Bye (fate, t) = t.2
 same_held held after (calls.Bad n) (fate, t) = t.2
@@ -44,6 +45,7 @@ asked_before false fate held after Answers t = refl
 before_runs : (held after : Held) (call : Call) → IsTurn held call (Fail Before) after → held.stopped ≡ false
 before_runs held after (calls.Report r) (fate, t) = reported_before held.stopped fate held after r t
 before_runs held after (calls.Line names) (fate, t) = asked_before held.stopped fate held after _ t
+before_runs held after calls.Garbage (fate, t) = asked_before held.stopped fate held after _ t
 before_runs held after (calls.State p) (fate, t) = asked_before held.stopped fate held after _ t
 before_runs held after calls.Bye (fate, t) = absurd (let e = t.1 in cc)
 before_runs held after (calls.Bad n) (fate, t) = absurd (let e = t.1 in cc)
@@ -52,6 +54,7 @@ before_runs held after calls.Unread (fate, t) = absurd (let e = t.1 in cc)
 before_keeps : (held after : Held) (call : Call) → IsTurn held call (Fail Before) after → after.accepted ≡ held.accepted
 before_keeps held after (calls.Report r) (fate, t) = ap (λ (h : Held). h.accepted) (after_report_turn held.stopped fate held r (Fail Before) after t)
 before_keeps held after (calls.Line names) (fate, t) = ap (λ (h : Held). h.accepted) (unchanged held.stopped fate held _ (Fail Before) after t)
+before_keeps held after calls.Garbage (fate, t) = ap (λ (h : Held). h.accepted) (unchanged held.stopped fate held _ (Fail Before) after t)
 before_keeps held after (calls.State p) (fate, t) = ap (λ (h : Held). h.accepted) (unchanged held.stopped fate held _ (Fail Before) after t)
 before_keeps held after calls.Bye (fate, t) = ap (λ (h : Held). h.accepted) t.2
 before_keeps held after (calls.Bad n) (fate, t) = ap (λ (h : Held). h.accepted) t.2

@@ -9,6 +9,7 @@ use Rattle.desk.specs.Files.{IsShort}
 pub short_call : (line : List ℕ) (call : Call) → length line ≤ 8192 → line ≡ spelling call → IsShort call
 short_call line (calls.Report r) few is = omega (arith, few, ap length is)
 short_call line (calls.Line names) few is = tt
+short_call line calls.Garbage few is = tt
 short_call line (calls.State p) few is = tt
 short_call line calls.Bye few is = tt
 short_call line (calls.Bad n) few is = tt

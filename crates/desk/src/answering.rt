@@ -9,13 +9,13 @@ ghost use Rattle.report_line.specs.declared.report.Report.{Report as AnyReport};
 ghost use Rattle.report_line.specs.declared.reply.Outcome.TheVariants.{Unknown};
 ghost use Rattle.report_line.specs.declared.reply.Reply.TheVariants.{Fail};
 ghost use Rattle.chains.specs.Held.{held_of};
-ghost use Rattle.chains.specs.Turns.{fine, IsLineReply, IsStateReply, IsQuestionTurn, IsTurn};
+ghost use Rattle.chains.specs.Turns.{fine, IsGarbageReply, IsLineReply, IsStateReply, IsQuestionTurn, IsTurn};
 ghost use Rattle.desk.specs.Files.{line_of, AreSpelled, IsShort, AsksState, UsesDevice, CountsReply};
 ghost use Rattle.desk.specs.Parts.{held_with, StandsBy, MayBeLeftBy};
 
 use crate::placing::report_placed;
 use crate::turn::TurnFault;
-use crate::twice::{Twice, bad, bye, failed, line_taken, refused, state_told};
+use crate::twice::{Twice, bad, bye, failed, garbage_taken, line_taken, refused, state_told};
 use chains::Chains;
 use line_disk::Disk;
 use record_file::Store;
@@ -29,6 +29,16 @@ fn line_asked(chains: &Chains, stopped: bool, names: &[Name]) -> Twice
         return failed(Outcome::Stopped);
     }
     line_taken(chains, names)
+}
+
+/// The turn of the question for the line with every process failed.
+fn garbage_asked(chains: &Chains, stopped: bool) -> Twice
+    ensures { IsQuestionTurn stopped fine (held_with chains.now stopped) (IsGarbageReply (held_with chains.now stopped)) result (held_with chains.now stopped) }
+{
+    if stopped {
+        return failed(Outcome::Stopped);
+    }
+    garbage_taken(chains)
 }
 
 /// The turn of a question for the state of a process, if memory suffices for it.
@@ -70,6 +80,7 @@ pub(crate) fn answered<D: Disk>(
     match call {
         Call::Report(report) => Ok(report_placed(chains, store, report)),
         Call::Line(names) => Ok(line_asked(chains, store.stopped(), names.as_slice())),
+        Call::Garbage => Ok(garbage_asked(chains, store.stopped())),
         Call::State(name) => state_asked(chains, store.stopped(), name),
         Call::Bye => Ok(bye()),
         Call::Bad(number) => Ok(bad(*number)),

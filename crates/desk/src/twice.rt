@@ -3,7 +3,7 @@
 ghost use Rattle.std.specs.Prelude.{◌≡◌, ◌⊎◌, IfOk, None, option_copied, is_some};
 ghost use Rattle.chains.specs.Admission.{TakesMemory};
 ghost use Rattle.chains.specs.Held.{held_of};
-ghost use Rattle.chains.specs.Turns.{no_memory, IsLineReply, IsStateReply};
+ghost use Rattle.chains.specs.Turns.{no_memory, IsGarbageReply, IsLineReply, IsStateReply};
 ghost use Rattle.desk.specs.Parts.{id_text};
 
 use chains::{Chains, No, State, first_unknown};
@@ -166,6 +166,16 @@ pub(crate) fn refused_by(alloc: Global, refused_as: No) -> Twice
             }
         }
     }
+}
+
+/// The reply to the question for the line with every process failed.
+pub(crate) fn garbage_taken(chains: &Chains) -> Twice
+    ensures { IsGarbageReply (held_of chains.now) result }
+{
+    if chains.is_empty() {
+        return refused(Code::NothingBegun);
+    }
+    taken(chains.front())
 }
 
 /// The reply to a question for a line. It takes no memory.

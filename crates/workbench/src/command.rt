@@ -15,6 +15,8 @@ pub enum Command {
     Calls,
     /// Lines of reports.
     Traffic(Stream),
+    /// The clock operations of a script of traffic alone.
+    Steps { processes: NonZeroU32, turns: u32 },
 }
 
 /// Which lines are wanted.
@@ -26,6 +28,8 @@ pub enum Stream {
     Forks(u32),
     /// So many reports of a family of so many processes, which send messages to one another.
     Messages { processes: NonZeroU32, reports: u32 },
+    /// A script of a family of so many processes, which send so many messages to one another.
+    Script { processes: NonZeroU32, turns: u32 },
 }
 
 /// What the words ask for, of which the first is the program's name; nothing, where they are no command.
@@ -37,6 +41,10 @@ pub fn read(words: &[String]) -> Option<Command> {
         ("clocks", []) => Some(Command::Clocks),
         ("certificate", []) => Some(Command::Certificate),
         ("calls", []) => Some(Command::Calls),
+        ("steps", [processes, turns]) => Some(Command::Steps {
+            processes: NonZeroU32::new(number_of(processes.as_str())?)?,
+            turns: number_of(turns.as_str())?,
+        }),
         ("traffic", rest) => Some(Command::Traffic(stream_of(rest)?)),
         _ => None,
     }
@@ -50,6 +58,10 @@ fn stream_of(words: &[String]) -> Option<Stream> {
         ("messages", [processes, reports]) => Some(Stream::Messages {
             processes: NonZeroU32::new(number_of(processes.as_str())?)?,
             reports: number_of(reports.as_str())?,
+        }),
+        ("script", [processes, turns]) => Some(Stream::Script {
+            processes: NonZeroU32::new(number_of(processes.as_str())?)?,
+            turns: number_of(turns.as_str())?,
         }),
         _ => None,
     }

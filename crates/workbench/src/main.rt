@@ -12,12 +12,14 @@ use std::env;
 use std::process::ExitCode;
 
 /// Which words there are.
-const USAGE: &str = "usage: workbench session | clocks | certificate | calls | traffic STREAM
+const USAGE: &str =
+    "usage: workbench session | clocks | certificate | calls | traffic STREAM | steps PROCESSES TURNS
 
 session      measures a session of one process against a loop that reads and compares the same lines
 clocks       measures clock operations on families of 2, 64 and 1,024 processes
 certificate  measures finding, writing, reading and checking the certificate of the reports on standard input
 calls        answers each line of standard input, a call of the libraries, by a line
+steps        makes the clock operations of `traffic script` for the same numbers, and nothing else
 traffic      writes a stream of reports:
 
   limit     BEGIN and 16,383 checkpoints of one process, the last one once more, and one checkpoint more
@@ -27,7 +29,10 @@ traffic      writes a stream of reports:
             BEGIN, a family of so many processes, and checkpoints until there are so many reports: in each round process
             i sends a message to process 7 * i + ROUND, counted round the family (or to the one after it, if that is i
             itself), which receives it and takes a checkpoint; the lines of 1,000 processes and 16,384 reports have
-            6,243 bytes at most";
+            6,243 bytes at most
+  script PROCESSES TURNS
+            not reports but a script: a family of so many processes, which send so many messages as above, and each is
+            received at once";
 
 /// Does what the command asks for.
 fn run(rt: &HostRuntime, command: &Command) -> Result<()> {
@@ -36,6 +41,7 @@ fn run(rt: &HostRuntime, command: &Command) -> Result<()> {
         Command::Clocks => measures::clocks::measure_all(rt),
         Command::Certificate => measures::certificates::measure_all(rt),
         Command::Calls => calls::answer_all(rt),
+        Command::Steps { processes, turns } => traffic::steps(rt.alloc(), *processes, *turns),
         Command::Traffic(stream) => traffic::write(rt, stream),
     }
 }

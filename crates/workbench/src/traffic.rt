@@ -4,10 +4,12 @@
 //! checkpoints. The same words give the same lines.
 
 mod process;
+mod scripts;
 mod streams;
 
 use crate::command::Stream;
 use anyhow::Result;
+pub use scripts::steps;
 use std::io::{BufWriter, Write};
 
 /// Writes the lines of a stream.
@@ -22,6 +24,9 @@ pub fn write(rt: &HostRuntime, stream: &Stream) -> Result<()> {
         Stream::Messages { processes, reports } => {
             streams::messages(alloc, &mut out, *processes, *reports)?
         }
+        Stream::Script { processes, turns } => scripts::script(
+            alloc, &mut out, *processes, *turns,
+        )?,
     }
     out.flush()?;
     Ok(())

@@ -3,6 +3,7 @@
 use super::process::{Process, name_of};
 use anyhow::{Result, bail};
 use report_line::{Name, PackedReport, write_line};
+use stamp::Stamp;
 use std::alloc::Global;
 use std::io::Write;
 use std::num::NonZeroU32;
@@ -54,6 +55,15 @@ fn member_name(alloc: Global, index: u32) -> Result<Name> {
     name_of(text.as_str())
 }
 
+/// The round of forks in which this child is born, which is in that one or in the next.
+pub fn round_at(round: u32, child: u32) -> u32 {
+    if child.is_power_of_two() {
+        child
+    } else {
+        round
+    }
+}
+
 /// A root and so many processes that descend from it: in each round each process that is there forks once, in order of
 /// birth. A round begins at each power of two, since it doubles the family.
 pub fn forks<W: Write>(alloc: Global, out: &mut W, forks: u32) -> Result<Vec<Process>> {
@@ -63,9 +73,7 @@ pub fn forks<W: Write>(alloc: Global, out: &mut W, forks: u32) -> Result<Vec<Pro
     family.push(root)?;
     let mut round = 0u32;
     for child in 1..=forks {
-        if child.is_power_of_two() {
-            round = child;
-        }
+        round = round_at(round, child);
         let parent = child.wrapping_sub(round);
         fork(alloc, out, &mut family, parent, child)?;
     }
@@ -117,8 +125,8 @@ pub fn messages<W: Write>(
     Ok(())
 }
 
-// Who sends in a turn, and who receives. In each round each process sends once, and none to itself unless it is alone.
-fn ends_of(turn: u32, processes: NonZeroU32) -> (u32, u32) {
+/// Who sends in a turn, and who receives. In each round each process sends once, and none to itself unless it is alone.
+pub fn ends_of(turn: u32, processes: NonZeroU32) -> (u32, u32) {
     let count = u64::from(processes.get());
     let sender = u64::from(turn) % count;
     let round = u64::from(turn) / count;
@@ -139,13 +147,18 @@ fn message<W: Write>(
     sender: u32,
     receiver: u32,
 ) -> Result<()> {
-    let Some(process) = family.get_mut(sender as usize) else {
-        bail!("there is no process {sender}");
-    };
-    let sent = process.send(alloc)?;
+    let sent = send(alloc, family, sender)?;
     let Some(process) = family.get_mut(receiver as usize) else {
         bail!("there is no process {receiver}");
     };
     process.receive(alloc, &sent)?;
     put(alloc, out, &process.check(alloc)?)
+}
+
+/// Process `sender` sends a message.
+pub fn send(alloc: Global, family: &mut [Process], sender: u32) -> Result<Stamp> {
+    match family.get_mut(sender as usize) {
+        Some(process) => process.send(alloc),
+        None => bail!("there is no process {sender}"),
+    }
 }

@@ -1,0 +1,50 @@
+//! Scripts, and the clock operations of their steps.
+
+use super::streams::{ends_of, forks, round_at, send};
+use anyhow::{Result, bail};
+use std::alloc::Global;
+use std::io::{self, Write};
+use std::num::NonZeroU32;
+
+// Writes the lines by which so many processes are forked.
+fn put_forks<W: Write>(alloc: Global, out: &mut W, forks: u32) -> Result<()> {
+    let mut round = 0u32;
+    for child in 1..=forks {
+        round = round_at(round, child);
+        let parent = child.wrapping_sub(round);
+        let line = format!(in alloc; "fork p{parent} p{child}\n")?;
+        out.write_all(line.as_bytes())?;
+    }
+    Ok(())
+}
+
+/// A script of a family of so many processes, and of so many messages behind that.
+pub fn script<W: Write>(
+    alloc: Global,
+    out: &mut W,
+    processes: NonZeroU32,
+    turns: u32,
+) -> Result<()> {
+    out.write_all(b"root p0\n")?;
+    put_forks(alloc, out, processes.get() - 1)?;
+    for turn in 0..turns {
+        let (sender, receiver) = ends_of(turn, processes);
+        let lines = format!(in alloc; "send p{sender} m{turn}\nreceive p{receiver} m{turn}\n")?;
+        out.write_all(lines.as_bytes())?;
+    }
+    Ok(())
+}
+
+/// The clock operations of that script.
+pub fn steps(alloc: Global, processes: NonZeroU32, turns: u32) -> Result<()> {
+    let mut family = forks(alloc, &mut io::sink(), processes.get() - 1)?;
+    for turn in 0..turns {
+        let (sender, receiver) = ends_of(turn, processes);
+        let sent = send(alloc, &mut family, sender)?;
+        let Some(process) = family.get_mut(receiver as usize) else {
+            bail!("there is no process {receiver}");
+        };
+        process.receive(alloc, &sent)?;
+    }
+    Ok(())
+}

@@ -19,7 +19,7 @@ session      measures a session of one process against a loop that reads and com
 clocks       measures clock operations on families of 2, 64 and 1,024 processes
 certificate  measures finding, writing, reading and checking the certificate of the reports on standard input
 calls        answers each line of standard input, a call of the libraries, by a line
-steps        makes the clock operations of `traffic script` for the same numbers, and nothing else
+steps        makes the clock operations of `traffic script` for the same numbers, and writes nothing
 traffic      writes a stream of reports:
 
   limit     BEGIN and 16,383 checkpoints of one process, the last one once more, and one checkpoint more

@@ -35,7 +35,7 @@ pub fn script<W: Write>(
     Ok(())
 }
 
-/// The clock operations of that script.
+/// The clock operations of that script. The reports of its forks, which are few, are made too, and go nowhere.
 pub fn steps(alloc: Global, processes: NonZeroU32, turns: u32) -> Result<()> {
     let mut family = forks(alloc, &mut io::sink(), processes.get() - 1)?;
     for turn in 0..turns {

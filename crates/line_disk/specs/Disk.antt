@@ -1,5 +1,5 @@
 -- What a disk's calls do to its file, and what a crash may leave of it.
-use Rattle.std.specs.Prelude.{◌≡◌, ◌↔◌, ℕ, ◌+◌, ◌-◌, ◌^◌, ◌<◌, ◌≤◌, min, max, List, ◌++◌, length, take, drop, Result, Ok, Err}
+use Rattle.std.specs.Prelude.{◌≡◌, ◌↔◌, ℕ, ◌+◌, ◌-◌, ◌^◌, ◌<◌, ◌≤◌, min, max, List, [], ◌++◌, length, take, drop, Result, Ok, Err}
 use Rattle.line_disk.specs.declared.fault.DiskFault.{DiskFault}
 use Rattle.line_disk.specs.declared.fault.DiskFault.TheVariants.{Device, Memory}
 
@@ -11,6 +11,10 @@ pub record View : Type 1 where
   pub clock : ℕ
   -- what a crash at a moment up to this one could leave
   pub image : ℕ → List ℕ → Type 0
+
+-- a disk of which nothing is kept
+abbrev pub nothing_kept : View
+nothing_kept = record { seen = []; clock = 0; image = λ k c. ⊥ }
 
 -- what a crash now could leave
 abbrev pub Leaves : View → List ℕ → Type 0

@@ -1,4 +1,5 @@
-//! A disk that may crash, as a trait; a disk in memory, which notes its calls; and a disk over a file of the system.
+//! A disk that may crash, as a trait; a disk in memory, which notes its calls; a disk over a file of the system; and a disk that
+//! keeps nothing.
 //!
 //! Of a disk three things are seen: what a read gives, what a crash at each moment could leave, and how many calls failed. Code
 //! over any disk is proved once, for crashes at every moment.
@@ -13,6 +14,7 @@ mod image;
 mod known;
 mod log;
 mod memory;
+mod null;
 mod overwrite;
 mod plan;
 mod tape;
@@ -22,4 +24,5 @@ pub use disk::Disk;
 pub use fault::DiskFault;
 pub use file::FileDisk;
 pub use memory::MemoryDisk;
+pub use null::NullDisk;
 pub use plan::{Effect, Planned};

@@ -74,7 +74,7 @@ fn drive_over<K: Link>(alloc: Global, client: &mut K) -> Result<End, LinkFault>
 }
 
 /// Writes the pieces of a fault line and hands them on, as far as that can be done.
-fn tell_all<F: Link>(faults: &mut F, pieces: &[&[u8]])
+pub(crate) fn tell_all<F: Link>(faults: &mut F, pieces: &[&[u8]])
     ensures { Tells (F.told faults.old) (F.told faults.new) (flat_map (λ p. p.now) pieces.now) }
 {
     let Ok(()) = put_all(faults, pieces) else {

@@ -1,12 +1,13 @@
 //! The command `run`.
 
-ghost use Rattle.std.specs.Prelude.{◌≡◌, []};
-ghost use Rattle.chains.specs.Kept.{Kept};
-ghost use Rattle.chains.specs.Held.{held_of, counting};
-ghost use Rattle.recline.specs.Outcome.{Runs, Tells, fault_line, status_of};
+ghost use Rattle.std.specs.Prelude.{◌≡◌};
+ghost use Rattle.recline.specs.Outcome.{Runs, RunsOn, Tells, fault_line, status_of, open_fault_line};
 
-use chains::Chains;
-use session::{Kind, Link, put, run_lines};
+use crate::driving::tell_all;
+use desk::{Desk, DeskFault};
+use itoa::Buffer;
+use line_disk::Disk;
+use session::{Kind, Link, put, put_all, run};
 use std::alloc::Global;
 
 /// Writes a fault line and hands it on, as far as that can be done.
@@ -22,14 +23,14 @@ pub(crate) fn tell<F: Link>(faults: &mut F, line: &[u8])
     }
 }
 
-/// The status of the process for a session that ended so.
-fn status_for(kind: Kind) -> u8
-    ensures { result ≡ status_of kind }
+/// The status of the process for a session that ended so over a desk, which may be stopped.
+fn status_for(kind: Kind, stopped: bool) -> u8
+    ensures { result ≡ status_of kind stopped }
 {
     match kind {
-        Kind::End | Kind::Bye | Kind::TooLong => 0,
         Kind::Memory | Kind::ReadFailed | Kind::WriteFailed => 3,
-        Kind::Endless => 5,
+        Kind::End | Kind::Bye | Kind::TooLong => if stopped { 3 } else { 0 },
+        Kind::Worn | Kind::Endless => if stopped { 3 } else { 5 },
     }
 }
 
@@ -40,24 +41,81 @@ fn fault_for(kind: Kind) -> &'static [u8]
     match kind {
         Kind::Memory => b"recline: memory\n".as_slice(),
         Kind::ReadFailed | Kind::WriteFailed => b"recline: device\n".as_slice(),
-        Kind::End | Kind::Bye | Kind::TooLong | Kind::Endless => b"".as_slice(),
+        Kind::End | Kind::Bye | Kind::TooLong | Kind::Worn | Kind::Endless => b"".as_slice(),
     }
 }
 
-/// Serves one client over these chains, tells how it ended where that was a fault, and answers the status of the process.
-pub fn run_over<K: Link, F: Link>(chains: &mut Chains, client: &mut K, faults: &mut F) -> u8
-    ensures { Runs K.told F.told client.old client.new faults.old faults.new (held_of chains.old) (held_of chains.new) result }
+/// Serves one client over a desk, tells how it ended where that was a fault, and answers the status of the process.
+pub fn run_over<D: Disk, K: Link, F: Link>(
+    desk: &mut Desk<D>,
+    client: &mut K,
+    faults: &mut F,
+) -> u8
+    ensures { Runs D.keeps K.told F.told client.old client.new faults.old faults.new desk.old desk.new result }
 {
-    let end = run_lines(chains, client);
+    let end = run(desk, client);
     tell(faults, fault_for(end.kind));
-    status_for(end.kind)
+    status_for(end.kind, desk.stopped())
 }
 
-/// The command `run`: `run_over` over fresh chains.
-pub fn run_on<K: Link, F: Link>(alloc: Global, client: &mut K, faults: &mut F) -> u8
-    // What chains hold is never stopped, so no device fails in a turn of it.
-    ensures { (after : Kept) × Runs K.told F.told client.old client.new faults.old faults.new (counting []) (held_of after) result }
+/// Tells why a record file was not opened.
+pub(crate) fn tell_refusal<F: Link>(faults: &mut F, fault: DeskFault)
+    ensures { Tells (F.told faults.old) (F.told faults.new) (open_fault_line fault) }
 {
-    let mut chains = Chains::new(alloc);
-    run_over(&mut chains, client, faults)
+    let mut of_record = Buffer::new();
+    let mut of_code = Buffer::new();
+    match fault {
+        DeskFault::Foreign => tell(faults, b"recline: foreign\n"),
+        DeskFault::Damaged(record) => tell_all(
+            faults,
+            &[
+                b"recline: damaged ".as_slice(),
+                of_record.format(record).as_bytes(),
+                b"\n".as_slice(),
+            ],
+        ),
+        DeskFault::Line(record) => tell_all(
+            faults,
+            &[
+                b"recline: line ".as_slice(),
+                of_record.format(record).as_bytes(),
+                b"\n".as_slice(),
+            ],
+        ),
+        DeskFault::Refused(record, code) => tell_all(
+            faults,
+            &[
+                b"recline: refused ".as_slice(),
+                of_record.format(record).as_bytes(),
+                b" ".as_slice(),
+                of_code.format(code).as_bytes(),
+                b"\n".as_slice(),
+            ],
+        ),
+        DeskFault::Device => tell(faults, b"recline: device\n"),
+        DeskFault::Memory => tell(faults, b"recline: memory\n"),
+    }
+}
+
+/// The command `run`: opens the record file on a disk, serves one client over the desk of it, and answers the status of the process.
+/// The disk is dropped then.
+pub fn run_on<D: Disk, K: Link, F: Link>(
+    alloc: Global,
+    disk: D,
+    client: &mut K,
+    faults: &mut F,
+) -> u8
+    ensures { RunsOn D.keeps D.view K.told F.told disk client.old client.new faults.old faults.new result }
+{
+    match Desk::open(alloc, disk) {
+        Ok(mut desk) => {
+            let status = run_over(&mut desk, client, faults);
+            desk.lawful();
+            status
+        }
+        Err((fault, _disk)) => {
+            tell_refusal(faults, fault);
+            3
+        }
+    }
 }

@@ -3,6 +3,7 @@
 
 use clap::Error;
 use clap::error::ErrorKind;
+use line_disk::NullDisk;
 use recline::{Command, drive_on, read_args, run_on};
 use session::Streams;
 use std::env;
@@ -60,7 +61,7 @@ fn act<R: Read + Drop>(rt: &HostRuntime, command: Command<'_>, input: R) -> u8 {
     let mut client = Streams::new(input, output);
     let mut faults = Streams::new(io::empty(), errors);
     let status = match command {
-        Command::Run => run_on(rt.alloc(), &mut client, &mut faults),
+        Command::Run => run_on(rt.alloc(), NullDisk::new(), &mut client, &mut faults),
         Command::Drive { .. } => drive_on(rt.alloc(), &mut client, &mut faults),
     };
     let (_input, output) = client.into_inner();

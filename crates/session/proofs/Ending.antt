@@ -6,20 +6,20 @@ use Rattle.std.proofs.lemmas.List.{length-append, take-append-le}
 use Rattle.std.proofs.lemmas.List.Concat.{flat_map-append}
 use Rattle.std.proofs.Math.Seq.{take-append_seam}
 use borrow.Author.Count.{below_more}
-use Rattle.chains.specs.Held.{Held}
+use Rattle.desk.specs.Desks.{DeskState}
 use Rattle.report_line.specs.Cutting.{Stand, onto, cut_from, cut_of}
 use Rattle.report_line.proofs.Streams.{cut_append}
 use Rattle.session.specs.declared.kind.Kind.{Kind}
 use Rattle.session.specs.declared.kind.Kind.TheVariants as kinds
 use Rattle.session.specs.Links.{up, LinkState, IsSound, IsFault, IsHandOn}
 use Rattle.session.specs.SessionText.{Exchange, Mean, NoBye, exchange_line, session_text, joined, most_reads, ending_line, ending_count, IsWhole, IsCutInReply, Reached, Ends, Gave, GaveAll}
-use Rattle.session.specs.Turned.{Served}
+use Rattle.session.specs.Turned.{MakesTurns}
 use Rattle.session.specs.Ends.{IsReadAt, IsPrompt, Ended, Leaves}
 use Rattle.session.specs.Parts.{IsSaid, FaultsAt, StepsTo, IsQuiet, GaveBy, Steps, Going, Closing, Closes}
 use Rattle.chains.specs.Admission.{IsReached}
 use Rattle.session.proofs.RightLines.{lines_are_right}
 use Rattle.session.proofs.Sent.{appends_none, appends_then, sound_none, sound_then, fault_then}
-use Rattle.session.proofs.Served.{served_then, mean_then, mean_length, no_bye_then, bye_then, said_then, cut_then}
+use Rattle.session.proofs.Served.{no_turns, makes_then, made_then, mean_then, mean_length, no_bye_then, bye_then, said_then, cut_then, worn_then, worn_since}
 use Rattle.session.proofs.ServeSteps.{faults_then}
 
 consumes_none : (a : Option (List ℕ)) → Consumes a a []
@@ -87,9 +87,9 @@ prompt_then {K} told link pieces piece turned more before here =
 
 -- ---- one read after the other
 
-pub going_none : {K : Type 0} (told : K → LinkState) (link : K) (stand : Stand) (held : Held) → stand ≡ Some [] → Going told link link stand held held 0 0
+pub going_none : {D K : Type 0} (keeps : D → Type 0) (told : K → LinkState) (link : K) (stand : Stand) (desk : DeskState D) → stand ≡ Some [] → Going keeps told link link stand desk desk 0 0
 unfolding cut_from
-going_none told link stand held new =
+going_none keeps told link stand desk new =
     rw new record {
       pieces = [];
       turned = [];
@@ -99,7 +99,7 @@ going_none told link stand held new =
       is_open = refl;
       no_bye = tt;
       gave = tt;
-      served = refl;
+      turns = no_turns keeps desk;
       consumed = consumes_none (told link).left;
       written = appends_none (told link).held;
       count_is = refl;
@@ -113,9 +113,9 @@ sound_hand_on : {E : Type 0} (old new : LinkState) (u : Unit {0}) → IsHandOn {
 sound_hand_on old new u hand = record { failures = hand.failures; stalls = hand.stalls }
 
 -- the state in which the next read is made
-read_at : {K E : Type 0} (told : K → LinkState) (link now reading : K) (stand : Stand) (held mid : Held) (reads count : ℕ) (u : Unit {0}) (more : List Exchange) → (s : Going told link now stand held mid reads count)
+read_at : {D K E : Type 0} (keeps : D → Type 0) (told : K → LinkState) (link now reading : K) (stand : Stand) (desk mid : DeskState D) (reads count : ℕ) (u : Unit {0}) (more : List Exchange) → (s : Going keeps told link now stand desk mid reads count)
     → IsHandOn {E = E} (told now) (told reading) (Ok u) → IsReadAt told link (length s.pieces) (joined s.pieces) (s.turned ++ more)
-read_at told link now reading stand held mid reads count u more s hand =
+read_at keeps told link now reading stand desk mid reads count u more s hand =
     record {
       reading = reading;
       reads_are = hand.reads ∙ s.reads_are ∙ ap (λ (n : ℕ). up n (told link).reads) (sym s.made);
@@ -142,13 +142,14 @@ stop_gave kinds.End pieces piece gave g = (pieces, ap (λ (p : List ℕ). pieces
 stop_gave kinds.ReadFailed pieces piece gave g = (pieces, ap (λ (p : List ℕ). pieces ++ p ∷ []) g, gave)
 stop_gave kinds.Bye pieces piece gave g = all_more pieces piece gave g
 stop_gave kinds.TooLong pieces piece gave g = all_more pieces piece gave g
+stop_gave kinds.Worn pieces piece gave g = all_more pieces piece gave g
 stop_gave kinds.Memory pieces piece gave g = all_more pieces piece gave g
 stop_gave kinds.WriteFailed pieces piece gave g = all_more pieces piece gave g
 stop_gave kinds.Endless pieces piece gave g = all_more pieces piece gave g
 
-pub going_on : {K E : Type 0} (told : K → LinkState) (link now reading next : K) (stand stand_after : Stand) (held mid after : Held) (reads count more : ℕ) (u : Unit {0}) → Going told link now stand held mid reads count
-    → IsHandOn {E = E} (told now) (told reading) (Ok u) → Steps (told reading) (told next) stand stand_after mid after None more → Going told link next stand_after held after (reads + 1) (count + more)
-going_on told link now reading next stand stand_after held mid after reads count more u s hand t =
+pub going_on : {D K E : Type 0} (keeps : D → Type 0) (told : K → LinkState) (link now reading next : K) (stand stand_after : Stand) (desk mid after : DeskState D) (reads count more : ℕ) (u : Unit {0}) → Going keeps told link now stand desk mid reads count
+    → IsHandOn {E = E} (told now) (told reading) (Ok u) → Steps keeps (told reading) (told next) stand stand_after mid after None more → Going keeps told link next stand_after desk after (reads + 1) (count + more)
+going_on keeps told link now reading next stand stand_after desk mid after reads count more u s hand t =
     let cut = cut_more s.pieces t.piece stand s.stands in
     let lines : (cut_from stand t.piece).0 ≡ t.front = t.lines_are ∙ ap (λ (l : List (List ℕ)). t.front ++ l) t.how.1 ∙ append-nil t.front in
     record {
@@ -161,7 +162,7 @@ going_on told link now reading next stand stand_after held mid after reads count
       is_open = subst (λ (x : Stand). IsSome x) (t.stands refl) t.how.2;
       no_bye = no_bye_then s.turned t.turned s.no_bye t.how.0;
       gave = all_more s.pieces t.piece s.gave t.gave;
-      served = served_then held mid after s.turned t.turned s.served t.served;
+      turns = makes_then keeps desk mid after s.turned t.turned s.turns t.turns;
       consumed = subst (λ (l : List ℕ). Consumes (told link).left (told next).left l) (joined_more s.pieces t.piece)
           (consumes_then (told link).left (told reading).left (told next).left (joined s.pieces) t.piece (subst (λ (l : Option (List ℕ)). Consumes (told link).left l (joined s.pieces)) (sym hand.left) s.consumed) t.consumed);
       written = subst (λ (l : List ℕ). Appends (told link).held (told next).held l) (ap (λ (l : List ℕ). session_text s.turned ++ l) t.how.3.0 ∙ text_then s.turned t.turned)
@@ -169,15 +170,15 @@ going_on told link now reading next stand stand_after held mid after reads count
       count_is = omega (arith, length-append s.turned t.turned, s.count_is, t.how.3.1);
       reads_are = reads_more (told link).reads (told now).reads (told reading).reads (told next).reads reads s.reads_are hand.reads t.reads;
       sound = sound_then (told link) (told reading) (told next) (sound_then (told link) (told now) (told reading) s.sound (sound_hand_on (told now) (told reading) u hand)) t.faults;
-      prompt = prompt_then told link s.pieces t.piece s.turned t.turned s.prompt (read_at told link now reading stand held mid reads count u t.turned s hand);
+      prompt = prompt_then told link s.pieces t.piece s.turned t.turned s.prompt (read_at keeps told link now reading stand desk mid reads count u t.turned s hand);
     }
 
 -- ---- where it stops
 
 -- how far the lines of all reads were answered, before the ending line
-abbrev StopsTo : Kind → List (List ℕ) → Stand → List (List ℕ) → List (List ℕ) → List Exchange → List ℕ → ℕ → Type 0
-StopsTo kinds.WriteFailed pieces stand front later turned text count = IsCutInReply turned text count
-StopsTo kind pieces stand front later turned text count = Reached kind pieces stand front later turned × IsSaid turned text count
+abbrev StopsTo : Kind → ℕ → List (List ℕ) → Stand → List (List ℕ) → List (List ℕ) → List Exchange → List ℕ → ℕ → Type 0
+StopsTo kinds.WriteFailed made pieces stand front later turned text count = IsCutInReply turned text count
+StopsTo kind made pieces stand front later turned text count = Reached kind made pieces stand front later turned × IsSaid turned text count
 
 -- what a link tells before the ending line
 abbrev LeftBy : Kind → LinkState → LinkState → Type 0
@@ -187,7 +188,7 @@ LeftBy kinds.WriteFailed old now = IsFault old now
 LeftBy _ old now = IsSound old now
 
 -- a session before its ending line
-pub record Stopping {K : Type 0} (told : K → LinkState) (link now : K) (held after : Held) (kind : Kind) (count : ℕ) : Type 0 where
+pub record Stopping {D K : Type 0} (keeps : D → Type 0) (told : K → LinkState) (link now : K) (desk after : DeskState D) (kind : Kind) (count : ℕ) : Type 0 where
   pub pieces : List (List ℕ)
   pub front : List (List ℕ)
   pub later : List (List ℕ)
@@ -195,8 +196,8 @@ pub record Stopping {K : Type 0} (told : K → LinkState) (link now : K) (held a
   pub text : List ℕ
   pub lines_are : (cut_of (joined pieces)).0 ≡ front ++ later
   pub mean : Mean front turned
-  pub how : StopsTo kind pieces (cut_of (joined pieces)).1 front later turned text count
-  pub served : Served held turned after
+  pub how : StopsTo kind (length desk.turns) pieces (cut_of (joined pieces)).1 front later turned text count
+  pub turns : MakesTurns keeps desk turned after
   pub consumed : Consumes (told link).left (told now).left (joined pieces)
   pub written : Appends (told link).held (told now).held text
   pub reads : (told now).reads ≡ up (length pieces) (told link).reads
@@ -205,19 +206,22 @@ pub record Stopping {K : Type 0} (told : K → LinkState) (link now : K) (held a
   pub leaves : LeftBy kind (told link) (told now)
   pub gave : GaveAll kind pieces
 
-stops_then : (kind : Kind) (pieces : List (List ℕ)) (piece : List ℕ) (stand : Stand) (front later : List (List ℕ)) (es fs : List Exchange) (text line : List ℕ) (m n : ℕ) → NoBye es → IsSaid es text m
-    → StepsTo (Some kind) stand front later fs line n → StopsTo kind (pieces ++ piece ∷ []) stand ((cut_of (joined pieces)).0 ++ front) later (es ++ fs) (text ++ line) (m + n)
-stops_then kinds.Bye pieces piece stand front later es fs text line m n none said t = (bye_then es fs none t.0, said_then es fs text line m n said t.1)
-stops_then kinds.Memory pieces piece stand front later es fs text line m n none said (a, inl nothing, b) = (
+stops_then : (kind : Kind) (made : ℕ) (pieces : List (List ℕ)) (piece : List ℕ) (stand : Stand) (front later : List (List ℕ)) (es fs : List Exchange) (text line : List ℕ) (m n : ℕ) → NoBye es → IsSaid es text m
+    → StepsTo (Some kind) (made + length es) stand front later fs line n → StopsTo kind made (pieces ++ piece ∷ []) stand ((cut_of (joined pieces)).0 ++ front) later (es ++ fs) (text ++ line) (m + n)
+stops_then kinds.Bye made pieces piece stand front later es fs text line m n none said t = (bye_then es fs none t.0, said_then es fs text line m n said t.1)
+stops_then kinds.Memory made pieces piece stand front later es fs text line m n none said (a, inl nothing, b) = (
   (no_bye_then es fs none a, inl (pieces, piece, refl, ap (λ (l : List (List ℕ)). (cut_of (joined pieces)).0 ++ l) nothing ∙ append-nil (cut_of (joined pieces)).0)),
   said_then es fs text line m n said b,
 )
-stops_then kinds.Memory pieces piece stand front later es fs text line m n none said (a, inr question, b) = ((no_bye_then es fs none a, inr question), said_then es fs text line m n said b)
-stops_then kinds.TooLong pieces piece stand front later es fs text line m n none said t = ((no_bye_then es fs none t.0, t.1, t.2), said_then es fs text line m n said t.3)
-stops_then kinds.End pieces piece stand front later es fs text line m n none said t = ((no_bye_then es fs none t.0, t.1, t.2), said_then es fs text line m n said t.3)
-stops_then kinds.ReadFailed pieces piece stand front later es fs text line m n none said t = ((no_bye_then es fs none t.0, t.1, t.2), said_then es fs text line m n said t.3)
-stops_then kinds.WriteFailed pieces piece stand front later es fs text line m n none said t = cut_then es fs text line m n none said t
-stops_then kinds.Endless pieces piece stand front later es fs text line m n none said t = absurd t
+stops_then kinds.Memory made pieces piece stand front later es fs text line m n none said (a, inr question, b) =
+    ((no_bye_then es fs none a, inr (question.0, λ worn. question.1 (worn_since made es fs worn))), said_then es fs text line m n said b)
+stops_then kinds.Worn made pieces piece stand front later es fs text line m n none said t =
+    ((no_bye_then es fs none t.0, t.1.0, worn_then made es fs t.1.1), said_then es fs text line m n said t.2)
+stops_then kinds.TooLong made pieces piece stand front later es fs text line m n none said t = ((no_bye_then es fs none t.0, t.1, t.2), said_then es fs text line m n said t.3)
+stops_then kinds.End made pieces piece stand front later es fs text line m n none said t = ((no_bye_then es fs none t.0, t.1, t.2), said_then es fs text line m n said t.3)
+stops_then kinds.ReadFailed made pieces piece stand front later es fs text line m n none said t = ((no_bye_then es fs none t.0, t.1, t.2), said_then es fs text line m n said t.3)
+stops_then kinds.WriteFailed made pieces piece stand front later es fs text line m n none said t = cut_then es fs text line m n none said t
+stops_then kinds.Endless made pieces piece stand front later es fs text line m n none said t = absurd t
 
 left_by : (kind : Kind) (old now : LinkState) → FaultsAt (Some kind) old now → (kind ≡ kinds.End → (now.waiting ≡ []) × IsAtEnd now.left) → (kind ≡ kinds.ReadFailed → now.waiting ≡ []) → LeftBy kind old now
 left_by kinds.End old now faults quiet still = (faults, (quiet refl).0, (quiet refl).1)
@@ -225,6 +229,7 @@ left_by kinds.ReadFailed old now faults quiet still = (faults.0, faults.1, still
 left_by kinds.WriteFailed old now faults quiet still = faults
 left_by kinds.Bye old now faults quiet still = faults
 left_by kinds.TooLong old now faults quiet still = faults
+left_by kinds.Worn old now faults quiet still = faults
 left_by kinds.Memory old now faults quiet still = faults
 left_by kinds.Endless old now faults quiet still = faults
 
@@ -234,10 +239,10 @@ quiet_end kind old now nothing quiet is = let q = rw is at quiet in (q.0 ∙ not
 quiet_failed : (kind : Kind) (old now : LinkState) → old.waiting ≡ [] → IsQuiet (Some kind) old now → kind ≡ kinds.ReadFailed → now.waiting ≡ []
 quiet_failed kind old now nothing quiet is = let q = rw is at quiet in q ∙ nothing
 
-pub stopping : {K E : Type 0} (told : K → LinkState) (link now reading next : K) (kind : Kind) (stand stand_after : Stand) (held mid after : Held) (reads count more : ℕ) (u : Unit {0}) → reads < most_reads
-    → Going told link now stand held mid reads count → IsHandOn {E = E} (told now) (told reading) (Ok u) → Steps (told reading) (told next) stand stand_after mid after (Some kind) more
-    → Stopping told link next held after kind (count + more)
-stopping told link now reading next kind stand stand_after held mid after reads count more u few s hand t =
+pub stopping : {D K E : Type 0} (keeps : D → Type 0) (told : K → LinkState) (link now reading next : K) (kind : Kind) (stand stand_after : Stand) (desk mid after : DeskState D) (reads count more : ℕ) (u : Unit {0}) → reads < most_reads
+    → Going keeps told link now stand desk mid reads count → IsHandOn {E = E} (told now) (told reading) (Ok u) → Steps keeps (told reading) (told next) stand stand_after mid after (Some kind) more
+    → Stopping keeps told link next desk after kind (count + more)
+stopping keeps told link now reading next kind stand stand_after desk mid after reads count more u few s hand t =
     let cut = cut_more s.pieces t.piece stand s.stands in
     let before = appends_held (told link).held (told now).held (told reading).held (session_text s.turned) s.written hand.held in
     let sound = sound_then (told link) (told now) (told reading) s.sound (sound_hand_on (told now) (told reading) u hand) in
@@ -249,24 +254,25 @@ stopping told link now reading next kind stand stand_after held mid after reads 
       text = session_text s.turned ++ t.text;
       lines_are = ap (λ (c : Cut). c.0) cut ∙ ap (λ (l : List (List ℕ)). (cut_of (joined s.pieces)).0 ++ l) t.lines_are ∙ sym (append_assoc (cut_of (joined s.pieces)).0 t.front t.later);
       mean = mean_then (cut_of (joined s.pieces)).0 t.front s.turned t.turned s.mean t.mean;
-      how = subst (λ (x : Stand). StopsTo kind (s.pieces ++ t.piece ∷ []) x ((cut_of (joined s.pieces)).0 ++ t.front) t.later (s.turned ++ t.turned) (session_text s.turned ++ t.text) (count + more)) (sym (ap (λ (c : Cut). c.1) cut))
-          (stops_then kind s.pieces t.piece (cut_from stand t.piece).1 t.front t.later s.turned t.turned (session_text s.turned) t.text count more s.no_bye (refl, s.count_is) t.how);
-      served = served_then held mid after s.turned t.turned s.served t.served;
+      how = subst (λ (x : Stand). StopsTo kind (length desk.turns) (s.pieces ++ t.piece ∷ []) x ((cut_of (joined s.pieces)).0 ++ t.front) t.later (s.turned ++ t.turned) (session_text s.turned ++ t.text) (count + more)) (sym (ap (λ (c : Cut). c.1) cut))
+          (stops_then kind (length desk.turns) s.pieces t.piece (cut_from stand t.piece).1 t.front t.later s.turned t.turned (session_text s.turned) t.text count more s.no_bye (refl, s.count_is)
+          (subst (λ (made : ℕ). StepsTo (Some kind) made (cut_from stand t.piece).1 t.front t.later t.turned t.text more) (made_then keeps desk mid s.turned s.turns) t.how));
+      turns = makes_then keeps desk mid after s.turned t.turned s.turns t.turns;
       consumed = subst (λ (l : List ℕ). Consumes (told link).left (told next).left l) (joined_more s.pieces t.piece)
           (consumes_then (told link).left (told reading).left (told next).left (joined s.pieces) t.piece (subst (λ (l : Option (List ℕ)). Consumes (told link).left l (joined s.pieces)) (sym hand.left) s.consumed) t.consumed);
       written = appends_then (told link).held (told reading).held (told next).held (session_text s.turned) t.text before t.written;
       reads = reads_more (told link).reads (told now).reads (told reading).reads (told next).reads (length s.pieces) (rw s.made s.reads_are) hand.reads t.reads ∙ ap (λ (n : ℕ). up n (told link).reads) (sym (length_more s.pieces t.piece));
       few = omega (arith, length_more s.pieces t.piece, s.made);
-      prompt = prompt_then told link s.pieces t.piece s.turned t.turned s.prompt (read_at told link now reading stand held mid reads count u t.turned s hand);
+      prompt = prompt_then told link s.pieces t.piece s.turned t.turned s.prompt (read_at keeps told link now reading stand desk mid reads count u t.turned s hand);
       leaves = left_by kind (told link) (told next) (faults_then (Some kind) (told link) (told reading) (told next) sound t.faults) (quiet_end kind (told reading) (told next) hand.handed t.quiet)
           (quiet_failed kind (told reading) (told next) hand.handed t.quiet);
       gave = stop_gave kind s.pieces t.piece s.gave t.gave;
     }
 
 -- all lines of all reads were answered
-said_all : {K : Type 0} (told : K → LinkState) (link now : K) (stand : Stand) (held after : Held) (reads count : ℕ) (kind : Kind) → (s : Going told link now stand held after reads count) → reads ≤ most_reads
-    → StopsTo kind s.pieces (cut_of (joined s.pieces)).1 (cut_of (joined s.pieces)).0 [] s.turned (session_text s.turned) count → LeftBy kind (told link) (told now) → GaveAll kind s.pieces → Stopping told link now held after kind count
-said_all told link now stand held after reads count kind s few how leaves gave =
+said_all : {D K : Type 0} (keeps : D → Type 0) (told : K → LinkState) (link now : K) (stand : Stand) (desk after : DeskState D) (reads count : ℕ) (kind : Kind) → (s : Going keeps told link now stand desk after reads count) → reads ≤ most_reads
+    → StopsTo kind (length desk.turns) s.pieces (cut_of (joined s.pieces)).1 (cut_of (joined s.pieces)).0 [] s.turned (session_text s.turned) count → LeftBy kind (told link) (told now) → GaveAll kind s.pieces → Stopping keeps told link now desk after kind count
+said_all keeps told link now stand desk after reads count kind s few how leaves gave =
     record {
       pieces = s.pieces;
       front = (cut_of (joined s.pieces)).0;
@@ -276,7 +282,7 @@ said_all told link now stand held after reads count kind s few how leaves gave =
       lines_are = sym (append-nil (cut_of (joined s.pieces)).0);
       mean = s.mean;
       how = how;
-      served = s.served;
+      turns = s.turns;
       consumed = s.consumed;
       written = s.written;
       reads = s.reads_are ∙ ap (λ (n : ℕ). up n (told link).reads) (sym s.made);
@@ -286,10 +292,10 @@ said_all told link now stand held after reads count kind s few how leaves gave =
       gave = gave;
     }
 
-pub stopping_endless : {K : Type 0} (told : K → LinkState) (link now : K) (stand : Stand) (held after : Held) (reads count : ℕ) → reads ≡ most_reads → Going told link now stand held after reads count
-    → Stopping told link now held after kinds.Endless count
-stopping_endless told link now stand held after reads count all s =
-    said_all told link now stand held after reads count kinds.Endless s (omega arith)
+pub stopping_endless : {D K : Type 0} (keeps : D → Type 0) (told : K → LinkState) (link now : K) (stand : Stand) (desk after : DeskState D) (reads count : ℕ) → reads ≡ most_reads → Going keeps told link now stand desk after reads count
+    → Stopping keeps told link now desk after kinds.Endless count
+stopping_endless keeps told link now stand desk after reads count all s =
+    said_all keeps told link now stand desk after reads count kinds.Endless s (omega arith)
     ((s.no_bye, refl, subst (λ (x : Stand). IsSome x) (sym s.stands) s.is_open, s.made ∙ all), (refl, s.count_is)) s.sound s.gave
 
 -- ---- the ending line
@@ -297,62 +303,63 @@ stopping_endless told link now stand held after reads count all s =
 whole_by : (kind : Kind) (turned : List Exchange) (text : List ℕ) (count total : ℕ) → IsSaid turned text count → total ≡ count + ending_count kind → IsWhole kind turned (text ++ ending_line kind) total
 whole_by kind turned text count total said sum = (ap (λ (l : List ℕ). l ++ ending_line kind) said.0, sum ∙ ap (λ (n : ℕ). n + ending_count kind) said.1)
 
-ends_by : (kind : Kind) (pieces : List (List ℕ)) (stand : Stand) (front later : List (List ℕ)) (turned : List Exchange) (text : List ℕ) (count : ℕ) → Reached kind pieces stand front later turned → IsWhole kind turned text count
-    → Ends kind pieces stand front later turned text count
-ends_by kinds.WriteFailed pieces stand front later turned text count reached whole = absurd reached
-ends_by kinds.End pieces stand front later turned text count reached whole = (reached, whole)
-ends_by kinds.Bye pieces stand front later turned text count reached whole = (reached, whole)
-ends_by kinds.TooLong pieces stand front later turned text count reached whole = (reached, whole)
-ends_by kinds.Memory pieces stand front later turned text count reached whole = (reached, whole)
-ends_by kinds.ReadFailed pieces stand front later turned text count reached whole = (reached, whole)
-ends_by kinds.Endless pieces stand front later turned text count reached whole = (reached, whole)
+ends_by : (kind : Kind) (made : ℕ) (pieces : List (List ℕ)) (stand : Stand) (front later : List (List ℕ)) (turned : List Exchange) (text : List ℕ) (count : ℕ) → Reached kind made pieces stand front later turned → IsWhole kind turned text count
+    → Ends kind made pieces stand front later turned text count
+ends_by kinds.WriteFailed made pieces stand front later turned text count reached whole = absurd reached
+ends_by kinds.End made pieces stand front later turned text count reached whole = (reached, whole)
+ends_by kinds.Bye made pieces stand front later turned text count reached whole = (reached, whole)
+ends_by kinds.TooLong made pieces stand front later turned text count reached whole = (reached, whole)
+ends_by kinds.Worn made pieces stand front later turned text count reached whole = (reached, whole)
+ends_by kinds.Memory made pieces stand front later turned text count reached whole = (reached, whole)
+ends_by kinds.ReadFailed made pieces stand front later turned text count reached whole = (reached, whole)
+ends_by kinds.Endless made pieces stand front later turned text count reached whole = (reached, whole)
 
 -- how it ended, and what the link tells then
-pub record Finished {K : Type 0} (told : K → LinkState) (link final : K) (held after : Held) (end : Kind) (total : ℕ) : Type 0 where
-  pub ended : Ended told link final held after end total
+pub record Finished {D K : Type 0} (keeps : D → Type 0) (told : K → LinkState) (link final : K) (desk after : DeskState D) (end : Kind) (total : ℕ) : Type 0 where
+  pub ended : Ended keeps told link final desk after end total
   pub leaves : Leaves end (told link) (told final)
 
 -- behind a session that stopped so, this more was written, and that is how it ends
-ended_then : {K : Type 0} (told : K → LinkState) (link now final : K) (held after : Held) (kind end : Kind) (count total : ℕ) (more : List ℕ) → IsReached held → (s : Stopping told link now held after kind count) → GaveAll end s.pieces
-    → Ends end s.pieces (cut_of (joined s.pieces)).1 s.front s.later s.turned (s.text ++ more) total → Appends (told now).held (told final).held more → (told final).left ≡ (told now).left → (told final).reads ≡ (told now).reads
-    → Ended told link final held after end total
-ended_then told link now final held after kind end count total more reach s gave ends sent left reads =
+ended_then : {D K : Type 0} (keeps : D → Type 0) (told : K → LinkState) (link now final : K) (desk after : DeskState D) (kind end : Kind) (count total : ℕ) (more : List ℕ) → IsReached desk.held → (s : Stopping keeps told link now desk after kind count) → GaveAll end s.pieces
+    → Ends end (length desk.turns) s.pieces (cut_of (joined s.pieces)).1 s.front s.later s.turned (s.text ++ more) total → Appends (told now).held (told final).held more → (told final).left ≡ (told now).left → (told final).reads ≡ (told now).reads
+    → Ended keeps told link final desk after end total
+ended_then keeps told link now final desk after kind end count total more reach s gave ends sent left reads =
     record {
       pieces = s.pieces;
       turned = s.turned;
       text = s.text ++ more;
       session = record { front = s.front; later = s.later; lines_are = s.lines_are; gave = gave; mean = s.mean; ends = ends };
-      served = s.served;
+      turns = s.turns;
       consumed = subst (λ (l : Option (List ℕ)). Consumes (told link).left l (joined s.pieces)) (sym left) s.consumed;
       written = appends_then (told link).held (told now).held (told final).held s.text more s.written sent;
       reads = reads ∙ s.reads;
       few = s.few;
       prompt = s.prompt;
-      lines = lines_are_right held after s.turned reach s.served;
+      lines = lines_are_right desk.held after.held s.turned reach s.turns.served;
     }
 
 -- nothing more was written
-ended_so : {K : Type 0} (told : K → LinkState) (link now final : K) (held after : Held) (kind : Kind) (count : ℕ) → IsReached held → (s : Stopping told link now held after kind count)
-    → Ends kind s.pieces (cut_of (joined s.pieces)).1 s.front s.later s.turned s.text count → told final ≡ told now → Ended told link final held after kind count
-ended_so told link now final held after kind count reach s ends same =
-    ended_then told link now final held after kind kind count count [] reach s s.gave
-    (subst (λ (l : List ℕ). Ends kind s.pieces (cut_of (joined s.pieces)).1 s.front s.later s.turned l count) (sym (append-nil s.text)) ends)
+ended_so : {D K : Type 0} (keeps : D → Type 0) (told : K → LinkState) (link now final : K) (desk after : DeskState D) (kind : Kind) (count : ℕ) → IsReached desk.held → (s : Stopping keeps told link now desk after kind count)
+    → Ends kind (length desk.turns) s.pieces (cut_of (joined s.pieces)).1 s.front s.later s.turned s.text count → told final ≡ told now → Ended keeps told link final desk after kind count
+ended_so keeps told link now final desk after kind count reach s ends same =
+    ended_then keeps told link now final desk after kind kind count count [] reach s s.gave
+    (subst (λ (l : List ℕ). Ends kind (length desk.turns) s.pieces (cut_of (joined s.pieces)).1 s.front s.later s.turned l count) (sym (append-nil s.text)) ends)
     (subst (λ (h : Option (List ℕ)). Appends (told now).held h []) (sym (ap (λ (x : LinkState). x.held) same)) (appends_none (told now).held)) (ap (λ (x : LinkState). x.left) same) (ap (λ (x : LinkState). x.reads) same)
 
-closed_by : {K : Type 0} (told : K → LinkState) (link now final : K) (held after : Held) (kind end : Kind) (count total : ℕ) → IsReached held → (s : Stopping told link now held after kind count)
-    → Reached kind s.pieces (cut_of (joined s.pieces)).1 s.front s.later s.turned × IsSaid s.turned s.text count → IsSound (told link) (told now) → (IsSound (told link) (told final) → (told final).waiting ≡ [] → Leaves kind (told link) (told final))
-    → (GaveAll kind s.pieces → Gave s.pieces) → Closing kind (told now) (told final) count end total → Finished told link final held after end total
-closed_by told link now final held after kind end count total reach s how sound leaves plain c = elim c.closed [
+closed_by : {D K : Type 0} (keeps : D → Type 0) (told : K → LinkState) (link now final : K) (desk after : DeskState D) (kind end : Kind) (count total : ℕ) → IsReached desk.held → (s : Stopping keeps told link now desk after kind count)
+    → Reached kind (length desk.turns) s.pieces (cut_of (joined s.pieces)).1 s.front s.later s.turned × IsSaid s.turned s.text count → IsSound (told link) (told now) → (IsSound (told link) (told final) → (told final).waiting ≡ [] → Leaves kind (told link) (told final))
+    → (GaveAll kind s.pieces → Gave s.pieces) → Closing kind (told now) (told final) count end total → Finished keeps told link final desk after end total
+closed_by keeps told link now final desk after kind end count total reach s how sound leaves plain c = elim c.closed [
   | inl w ↦ rw w.0 record {
-    ended = ended_then told link now final held after kind kind count total (ending_line kind) reach s s.gave
-        (ends_by kind s.pieces (cut_of (joined s.pieces)).1 s.front s.later s.turned (s.text ++ ending_line kind) total how.0 (whole_by kind s.turned s.text count total how.1 w.1)) w.2 c.left c.reads;
+    ended = ended_then keeps told link now final desk after kind kind count total (ending_line kind) reach s s.gave
+        (ends_by kind (length desk.turns) s.pieces (cut_of (joined s.pieces)).1 s.front s.later s.turned (s.text ++ ending_line kind) total how.0 (whole_by kind s.turned s.text count total how.1 w.1)) w.2 c.left c.reads;
     leaves = leaves (sound_then (told link) (told now) (told final) sound w.3) w.4;
   }
   | inr w ↦ rw w.0 record {
     ended = elim w.2 [
-      | inl v ↦ ended_then told link now final held after kind kinds.WriteFailed count total v.1.0 reach s (plain s.gave)
+      | inl v ↦ ended_then keeps told link now final desk after kind kinds.WriteFailed count total v.1.0 reach s (plain s.gave)
           (inr (kind, how.0, inl (record { part = v.1.0; short = v.1.1; text_is = ap (λ (l : List ℕ). l ++ v.1.0) how.1.0; count_is = v.0 ∙ how.1.1 }))) v.1.2 c.left c.reads
-      | inr v ↦ ended_then told link now final held after kind kinds.WriteFailed count total (ending_line kind) reach s (plain s.gave)
+      | inr v ↦ ended_then keeps told link now final desk after kind kinds.WriteFailed count total (ending_line kind) reach s (plain s.gave)
           (inr (kind, how.0, inr (whole_by kind s.turned s.text count total how.1 v.0))) v.1 c.left c.reads
     ];
     leaves = fault_then (told link) (told now) (told final) sound w.1;
@@ -365,33 +372,34 @@ said_whole turned text count said = (said.0 ∙ sym (append-nil (session_text tu
 same_leaves : (kind : Kind) (old now final : LinkState) → final ≡ now → Leaves kind old now → Leaves kind old final
 same_leaves kind old now final same leaves = subst (λ (x : LinkState). Leaves kind old x) (sym same) leaves
 
-pub finished : {K : Type 0} (told : K → LinkState) (link now final : K) (held after : Held) (kind end : Kind) (count total : ℕ) → IsReached held → Stopping told link now held after kind count
-    → Closes kind (told now) (told final) count end total → Finished told link final held after end total
-finished told link now final held after kinds.End end count total reach s c =
+pub finished : {D K : Type 0} (keeps : D → Type 0) (told : K → LinkState) (link now final : K) (desk after : DeskState D) (kind end : Kind) (count total : ℕ) → IsReached desk.held → Stopping keeps told link now desk after kind count
+    → Closes kind (told now) (told final) count end total → Finished keeps told link final desk after end total
+finished keeps told link now final desk after kinds.End end count total reach s c =
     rw (c.0, c.1) record {
-      ended = ended_so told link now final held after kinds.End count reach s (s.how.0, said_whole s.turned s.text count s.how.1) c.2;
+      ended = ended_so keeps told link now final desk after kinds.End count reach s (s.how.0, said_whole s.turned s.text count s.how.1) c.2;
       leaves = same_leaves kinds.End (told link) (told now) (told final) c.2 s.leaves;
     }
-finished told link now final held after kinds.ReadFailed end count total reach s c =
+finished keeps told link now final desk after kinds.ReadFailed end count total reach s c =
     rw (c.0, c.1) record {
-      ended = ended_so told link now final held after kinds.ReadFailed count reach s (s.how.0, said_whole s.turned s.text count s.how.1) c.2;
+      ended = ended_so keeps told link now final desk after kinds.ReadFailed count reach s (s.how.0, said_whole s.turned s.text count s.how.1) c.2;
       leaves = same_leaves kinds.ReadFailed (told link) (told now) (told final) c.2 s.leaves;
     }
-finished told link now final held after kinds.WriteFailed end count total reach s c =
+finished keeps told link now final desk after kinds.WriteFailed end count total reach s c =
     rw (c.0, c.1) record {
-      ended = ended_so told link now final held after kinds.WriteFailed count reach s (inl s.how) c.2;
+      ended = ended_so keeps told link now final desk after kinds.WriteFailed count reach s (inl s.how) c.2;
       leaves = same_leaves kinds.WriteFailed (told link) (told now) (told final) c.2 s.leaves;
     }
-finished told link now final held after kinds.Bye end count total reach s c = closed_by told link now final held after kinds.Bye end count total reach s s.how s.leaves (λ sound nothing. (sound, nothing)) (λ g. g) c
-finished told link now final held after kinds.TooLong end count total reach s c = closed_by told link now final held after kinds.TooLong end count total reach s s.how s.leaves (λ sound nothing. (sound, nothing)) (λ g. g) c
-finished told link now final held after kinds.Memory end count total reach s c = closed_by told link now final held after kinds.Memory end count total reach s s.how s.leaves (λ sound nothing. (sound, nothing)) (λ g. g) c
-finished told link now final held after kinds.Endless end count total reach s c = closed_by told link now final held after kinds.Endless end count total reach s s.how s.leaves (λ sound nothing. (sound, nothing)) (λ g. g) c
+finished keeps told link now final desk after kinds.Bye end count total reach s c = closed_by keeps told link now final desk after kinds.Bye end count total reach s s.how s.leaves (λ sound nothing. (sound, nothing)) (λ g. g) c
+finished keeps told link now final desk after kinds.TooLong end count total reach s c = closed_by keeps told link now final desk after kinds.TooLong end count total reach s s.how s.leaves (λ sound nothing. (sound, nothing)) (λ g. g) c
+finished keeps told link now final desk after kinds.Worn end count total reach s c = closed_by keeps told link now final desk after kinds.Worn end count total reach s s.how s.leaves (λ sound nothing. (sound, nothing)) (λ g. g) c
+finished keeps told link now final desk after kinds.Memory end count total reach s c = closed_by keeps told link now final desk after kinds.Memory end count total reach s s.how s.leaves (λ sound nothing. (sound, nothing)) (λ g. g) c
+finished keeps told link now final desk after kinds.Endless end count total reach s c = closed_by keeps told link now final desk after kinds.Endless end count total reach s s.how s.leaves (λ sound nothing. (sound, nothing)) (λ g. g) c
 
 -- what was written could not be handed on before a read
-pub not_handed_on : {K E : Type 0} (told : K → LinkState) (link now final : K) (stand : Stand) (held after : Held) (reads count : ℕ) (e : E) → reads ≤ most_reads → IsReached held → Going told link now stand held after reads count
-    → IsHandOn (told now) (told final) (Err e) → Finished told link final held after kinds.WriteFailed count
-not_handed_on told link now final stand held after reads count e few reach s hand =
-    let all : Reached kinds.End s.pieces (cut_of (joined s.pieces)).1 (cut_of (joined s.pieces)).0 [] s.turned = (s.no_bye, refl, subst (λ (x : Stand). IsSome x) (sym s.stands) s.is_open) in
+pub not_handed_on : {D K E : Type 0} (keeps : D → Type 0) (told : K → LinkState) (link now final : K) (stand : Stand) (desk after : DeskState D) (reads count : ℕ) (e : E) → reads ≤ most_reads → IsReached desk.held → Going keeps told link now stand desk after reads count
+    → IsHandOn (told now) (told final) (Err e) → Finished keeps told link final desk after kinds.WriteFailed count
+not_handed_on keeps told link now final stand desk after reads count e few reach s hand =
+    let all : Reached kinds.End (length desk.turns) s.pieces (cut_of (joined s.pieces)).1 (cut_of (joined s.pieces)).0 [] s.turned = (s.no_bye, refl, subst (λ (x : Stand). IsSome x) (sym s.stands) s.is_open) in
     record {
       ended = record {
         pieces = s.pieces;
@@ -405,13 +413,13 @@ not_handed_on told link now final stand held after reads count e few reach s han
           mean = s.mean;
           ends = inr (kinds.End, all, inr (said_whole s.turned (session_text s.turned) count (refl, s.count_is)));
         };
-        served = s.served;
+        turns = s.turns;
         consumed = subst (λ (l : Option (List ℕ)). Consumes (told link).left l (joined s.pieces)) (sym hand.left) s.consumed;
         written = appends_held (told link).held (told now).held (told final).held (session_text s.turned) s.written hand.held;
         reads = hand.reads ∙ s.reads_are ∙ ap (λ (n : ℕ). up n (told link).reads) (sym s.made);
         few = omega (arith, s.made);
         prompt = s.prompt;
-        lines = lines_are_right held after s.turned reach s.served;
+        lines = lines_are_right desk.held after.held s.turned reach s.turns.served;
       };
       leaves = inl (rw s.sound.failures at hand.failures, hand.stalls ∙ s.sound.stalls);
     }

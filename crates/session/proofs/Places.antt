@@ -7,35 +7,34 @@ use Rattle.chains.specs.Held.{Held}
 use Rattle.chains.specs.Admission.{IsReached, held_after}
 use Rattle.chains.specs.Turns.{IsTurn}
 use Rattle.chains.proofs.Turning.{unchanged, after_report_turn, turn_reached}
-use Rattle.reasons.specs.Shown.{IsShown}
 use Rattle.session.specs.SessionText.{Exchange}
-use Rattle.session.specs.Turned.{Shows, Served, after_call, held_by}
+use Rattle.session.specs.Turned.{IsExchange, Served, after_call, held_by}
 
-after_turn : (held after : Held) (call : Call) (reply shown : Reply) → IsTurn held call reply after → IsShown held call reply shown → after ≡ after_call held call shown
-after_turn held after (calls.Report r) reply shown (fate, t) s = after_report_turn held.stopped fate held r reply after t ∙ ap (held_after held r) (sym s)
-after_turn held after (calls.Line names) reply shown (fate, t) s = unchanged held.stopped fate held _ reply after t
-after_turn held after calls.Garbage reply shown (fate, t) s = unchanged held.stopped fate held _ reply after t
-after_turn held after (calls.State p) reply shown (fate, t) s = unchanged held.stopped fate held _ reply after t
-after_turn held after calls.Bye reply shown (fate, t) s = t.2
-after_turn held after (calls.Bad n) reply shown (fate, t) s = t.2
-after_turn held after calls.Unread reply shown (fate, t) s = t.2
+after_turn : (held after : Held) (call : Call) (reply : Reply) → IsTurn held call reply after → after ≡ after_call held call reply
+after_turn held after (calls.Report r) reply (fate, t) = after_report_turn held.stopped fate held r reply after t
+after_turn held after (calls.Line names) reply (fate, t) = unchanged held.stopped fate held _ reply after t
+after_turn held after calls.Garbage reply (fate, t) = unchanged held.stopped fate held _ reply after t
+after_turn held after (calls.State p) reply (fate, t) = unchanged held.stopped fate held _ reply after t
+after_turn held after calls.Bye reply (fate, t) = t.2
+after_turn held after (calls.Bad n) reply (fate, t) = t.2
+after_turn held after calls.Unread reply (fate, t) = t.2
 
 pub served_by : (held after : Held) (exchanges : List Exchange) → Served held exchanges after → after ≡ held_by held exchanges
 served_by held after [] s = s
-served_by held after (e ∷ es) s = served_by s.0 after es s.2 ∙ ap (λ (a : Held). held_by a es) (after_turn held s.0 e.call s.1.reply e.shown s.1.turned s.1.fits)
+served_by held after (e ∷ es) s = served_by s.0 after es s.2 ∙ ap (λ (a : Held). held_by a es) (after_turn held s.0 e.call e.reply s.1.turned)
 
 reached_before : (held after : Held) (before later : List Exchange) → IsReached held → Served held (before ++ later) after → IsReached (held_by held before)
 reached_before held after [] later reach s = reach
 reached_before held after (e ∷ es) later reach s =
-    let there = turn_reached held s.0 e.call s.1.reply reach s.1.turned in
-    subst (λ (a : Held). IsReached (held_by a es)) (after_turn held s.0 e.call s.1.reply e.shown s.1.turned s.1.fits) (reached_before s.0 after es later there s.2)
+    let there = turn_reached held s.0 e.call e.reply reach s.1.turned in
+    subst (λ (a : Held). IsReached (held_by a es)) (after_turn held s.0 e.call e.reply s.1.turned) (reached_before s.0 after es later there s.2)
 
 pub places_reached : (held after : Held) (exchanges before later : List Exchange) → IsReached held → Served held exchanges after → exchanges ≡ before ++ later → IsReached (held_by held before)
 places_reached held after exchanges before later reach s e = reached_before held after before later reach (subst (λ (es : List Exchange). Served held es after) e s)
 
 -- what is held at an exchange is told by those before it
 pub served_at : (held after : Held) (before later : List Exchange) (exchange : Exchange) → Served held (before ++ exchange ∷ later) after
-    → (between : Held) × Shows (held_by held before) exchange.call between exchange.shown
+    → (between : Held) × IsExchange (held_by held before) exchange between
 served_at held after [] later exchange s = (s.0, s.1)
 served_at held after (e ∷ es) later exchange s =
-    subst (λ (a : Held). (between : Held) × Shows (held_by a es) exchange.call between exchange.shown) (after_turn held s.0 e.call s.1.reply e.shown s.1.turned s.1.fits) (served_at s.0 after es later exchange s.2)
+    subst (λ (a : Held). (between : Held) × IsExchange (held_by a es) exchange between) (after_turn held s.0 e.call e.reply s.1.turned) (served_at s.0 after es later exchange s.2)

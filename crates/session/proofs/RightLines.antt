@@ -17,7 +17,7 @@ use Rattle.history_law.specs.Headline.{IsRightLine}
 use Rattle.history_law.proofs.Lines.{line_of_histories}
 use Rattle.propagate.proofs.Certified.{certified_is_greatest}
 use Rattle.session.specs.SessionText.{Exchange}
-use Rattle.session.specs.Turned.{Shows, Served, held_by}
+use Rattle.session.specs.Turned.{IsExchange, Served, held_by}
 use Rattle.session.specs.Headline.{AsksForLine, EachLineIsRight}
 use Rattle.session.proofs.Places.{served_at, places_reached}
 
@@ -55,9 +55,9 @@ right_shown held calls.Bye reply text after reach turned shown = absurd (no_line
 right_shown held (calls.Bad n) reply text after reach turned shown = absurd (no_line held after (calls.Bad n) text (subst (λ (x : Reply). IsTurn held (calls.Bad n) x after) (sym shown) turned))
 right_shown held calls.Unread reply text after reach turned shown = absurd (no_line held after calls.Unread text (subst (λ (x : Reply). IsTurn held calls.Unread x after) (sym shown) turned))
 
-right_exchange : (held between : Held) (exchange : Exchange) (text : List ℕ) → IsReached held → Shows held exchange.call between exchange.shown → exchange.shown ≡ replies.Line text
+right_exchange : (held between : Held) (exchange : Exchange) (text : List ℕ) → IsReached held → IsExchange held exchange between → exchange.shown ≡ replies.Line text
     → (names : List Name) × AsksForLine held exchange.call names × IsRightLine held names text
-right_exchange held between exchange text reach s e = right_shown held exchange.call s.reply text between reach s.turned (subst (IsShown held exchange.call s.reply) e s.fits)
+right_exchange held between exchange text reach s e = right_shown held exchange.call exchange.reply text between reach s.turned (subst (IsShown held exchange.call exchange.reply) e s.fits)
 
 pub lines_are_right : (held after : Held) (exchanges : List Exchange) → IsReached held → Served held exchanges after → EachLineIsRight held exchanges
 lines_are_right held after exchanges reach served before later exchange text same shown =

@@ -1,11 +1,11 @@
--- Turns of questions.
-use Rattle.std.proofs.Common.{◌≡◌, ℕ, ◌<◌, List, [], length, Option, Some, None, Result, Ok, Err, true, refl, ap, inl, inr, All, rules}
-use Rattle.std.specs.Prelude.{◌⊎◌, ◌↔◌, Contains, option_copied, is_some}
-use Rattle.std.proofs.lemmas.Option.{slice_get_within}
-use denote.Ref.{Bor}
-use Rattle.id_tree.specs.IdTree.{IdTree}
-use Rattle.report_line.specs.declared.code.Code.TheVariants.{NothingBegun, UnknownProcess}
-use Rattle.report_line.specs.declared.report.Report.{Report}
+-- What a line is read as, and what is shown for the turn of it.
+use Rattle.std.proofs.Common.{◌≡◌, ◌≢◌, ℕ, zero, suc, ◌+◌, ◌-◌, ◌<◌, ◌≤◌, List, [], ◌∷◌, ◌++◌, length, Some, Result, Ok, Err, Bool, true, false, refl, sym, ap, subst, ◌∙◌, inl, inr, arith}
+use Rattle.std.specs.Prelude.{◌↔◌, Contains}
+use Rattle.std.specs.List.{slice_get, AllByRecursion}
+use Rattle.std.proofs.lemmas.List.{length-append}
+use Rattle.std.proofs.lemmas.Option.{same_Some, slice_get_within}
+use Rattle.chains.proofs.Showing.{get_behind}
+use Rattle.report_line.specs.Cutting.{IsLine}
 use Rattle.report_line.specs.declared.call.Call.{Call}
 use Rattle.report_line.specs.declared.call.Call.TheVariants as calls
 use Rattle.report_line.specs.declared.fault.LineFault.{LineFault}
@@ -13,85 +13,24 @@ use Rattle.report_line.specs.declared.fault.LineFault.TheVariants as faults
 use Rattle.report_line.specs.Reading.{Reads}
 use Rattle.report_line.specs.declared.reply.Reply.{Reply}
 use Rattle.report_line.specs.declared.reply.Reply.TheVariants as replies
-use Rattle.chains.specs.Processes.{Name, known, IsKnown, reports_of, target_of}
-use Rattle.chains.specs.Elements.{elements_of}
+use Rattle.chains.specs.Processes.{Name, known}
 use Rattle.chains.specs.Kept.{Kept}
 use Rattle.chains.specs.Held.{Held, held_of}
-use Rattle.chains.specs.States.{live_id, IsStateOf}
-use Rattle.chains.specs.declared.state.State.{State}
-use Rattle.chains.specs.Failures.{IsFirstUnknown, IsFailedSet}
-use Rattle.chains.specs.Turns.{fine, no_memory, state_by}
-use Rattle.reasons.specs.Shown.{IsLineText}
+use Rattle.chains.specs.Failures.{IsFailedSet}
+use Rattle.chains.specs.Turns.{Fate, IsQuestionTurn, IsTurn}
+use Rattle.desk.specs.Desks.{DeskState}
+use Rattle.desk.specs.Files.{IsShort}
+use Rattle.desk.proofs.Short.{short_call}
+use Rattle.desk.specs.declared.turn.Turn.{Turn}
+use Rattle.reasons.specs.Shown.{IsLineText, IsLineShown, IsShown}
 use Rattle.reasons.specs.declared.certificate.Certificate.{Certificate}
 use Rattle.reasons.specs.Certificates.{Certifies}
 use Rattle.reasons.specs.CertificateText.{certificate_text}
 use Rattle.session.specs.SessionText.{Means}
-use Rattle.session.specs.Turned.{Shows}
-use Rattle.session.specs.Parts.{call_read, id_text}
+use Rattle.session.specs.Turned.{MakesTurns}
+use Rattle.session.specs.Parts.{call_read}
 
-pub nothing_begun : (k : Kept) (names : List Name) → k.accepted ≡ [] → Shows (held_of k) (calls.Line names) (held_of k) (replies.No NothingBegun None None)
-nothing_begun k names none = record { reply = replies.No NothingBegun None None; turned = (fine, (refl, inl (none, refl), refl)); fits = refl }
-
-pub unknown_name : (k : Kept) (names : List Name) (name : Name) → ¬ (k.accepted ≡ []) → IsFirstUnknown k.accepted names name
-    → Shows (held_of k) (calls.Line names) (held_of k) (replies.No UnknownProcess (Some name) None)
-unknown_name k names name some first =
-    record { reply = replies.No UnknownProcess (Some name) None; turned = (fine, (refl, inr (some, inl (name, first, refl)), refl)); fits = refl }
-
-taken : (k : Kept) (names : List Name) (shown : Reply) → ¬ (k.accepted ≡ []) → All (IsKnown k.accepted) names
-    → (((text : List ℕ) × (shown ≡ replies.Line text) × IsLineText (held_of k) names text) ⊎ (shown ≡ no_memory)) → Shows (held_of k) (calls.Line names) (held_of k) shown
-taken k names shown some known shows =
-    record { reply = replies.Taken k.front; turned = (fine, (refl, inr (some, inr (known, refl)), refl)); fits = shows }
-
-pub shown_text : (k : Kept) (names : List Name) (text : List ℕ) → ¬ (k.accepted ≡ []) → All (IsKnown k.accepted) names → IsLineText (held_of k) names text
-    → Shows (held_of k) (calls.Line names) (held_of k) (replies.Line text)
-shown_text k names text some known is = taken k names (replies.Line text) some known (inl (text, refl, is))
-
-pub shown_none : (k : Kept) (names : List Name) → ¬ (k.accepted ≡ []) → All (IsKnown k.accepted) names → Shows (held_of k) (calls.Line names) (held_of k) no_memory
-shown_none k names some known = taken k names no_memory some known (inr refl)
-
--- ---- the line of all
-
-pub nothing_begun_garbage : (k : Kept) → k.accepted ≡ [] → Shows (held_of k) calls.Garbage (held_of k) (replies.No NothingBegun None None)
-nothing_begun_garbage k none = record { reply = replies.No NothingBegun None None; turned = (fine, (refl, inl (none, refl), refl)); fits = refl }
-
-taken_garbage : (k : Kept) (shown : Reply) → ¬ (k.accepted ≡ []) → (((text : List ℕ) × (shown ≡ replies.Line text) × IsLineText (held_of k) (known k.accepted) text) ⊎ (shown ≡ no_memory))
-    → Shows (held_of k) calls.Garbage (held_of k) shown
-taken_garbage k shown some shows = record { reply = replies.Taken k.front; turned = (fine, (refl, inr (some, refl), refl)); fits = shows }
-
-pub shown_garbage : (k : Kept) (text : List ℕ) → ¬ (k.accepted ≡ []) → IsLineText (held_of k) (known k.accepted) text → Shows (held_of k) calls.Garbage (held_of k) (replies.Line text)
-shown_garbage k text some is = taken_garbage k (replies.Line text) some (inl (text, refl, is))
-
-pub no_garbage : (k : Kept) → ¬ (k.accepted ≡ []) → Shows (held_of k) calls.Garbage (held_of k) no_memory
-no_garbage k some = taken_garbage k no_memory some (inr refl)
-
--- ---- other lines and questions
-
-pub bad_line : (held after : Held) (n : ℕ) → after ≡ held → Shows held (calls.Bad n) after (replies.Bad n)
-bad_line held after n same = record { reply = replies.Bad n; turned = (fine, (refl, refl, same)); fits = refl }
-
-pub nothing_begun_state : (k : Kept) (p : Name) → k.accepted ≡ [] → Shows (held_of k) (calls.State p) (held_of k) (replies.No NothingBegun None None)
-nothing_begun_state k p none = record { reply = replies.No NothingBegun None None; turned = (fine, (refl, inl (none, refl), refl)); fits = refl }
-
-pub unknown_state : (k : Kept) (p : Name) → ¬ (k.accepted ≡ []) → ¬ IsKnown k.accepted p → Shows (held_of k) (calls.State p) (held_of k) (replies.No UnknownProcess (Some p) None)
-unknown_state k p some unknown =
-    record { reply = replies.No UnknownProcess (Some p) None; turned = (fine, (refl, inr (some, inl (unknown, refl)), refl)); fits = refl }
-
--- what is shown for a state, by its registered id
-shown_by : (accepted : List Report) (p : Name) (target : Option Name) (reports elements : ℕ) (id : Option (Bor IdTree)) → reports ≡ reports_of p accepted → elements ≡ length (elements_of p accepted)
-    → option_copied id ≡ live_id target accepted p → replies.State p reports elements (is_some id) (id_text (option_copied id)) ≡ state_by target accepted p
-shown_by accepted p None reports elements (Some i) e f g = rw (e, f) (ap (λ (o : Option IdTree). replies.State p (reports_of p accepted) (length (elements_of p accepted)) true (id_text o)) g)
-shown_by accepted p (Some t) reports elements None e f g = rw (e, f) refl
-shown_by accepted p None reports elements None e f g = absurd (search rules)
-shown_by accepted p (Some t) reports elements (Some i) e f g = absurd (search rules)
-
-pub shown_state : (k : Kept) (p : Name) (state : State) → ¬ (k.accepted ≡ []) → IsKnown k.accepted p → IsStateOf k.accepted p state
-    → Shows (held_of k) (calls.State p) (held_of k) (replies.State p state.reports state.elements (is_some state.id) (id_text (option_copied state.id)))
-shown_state k p state some known is =
-    let shown = shown_by k.accepted p (target_of p k.accepted) state.reports state.elements state.id is.reports is.elements is.id in
-    record { reply = replies.State p state.reports state.elements (is_some state.id) (id_text (option_copied state.id)); turned = (fine, (refl, inr (some, inr (λ h. h known, shown)), refl)); fits = refl }
-
-pub bye_said : (held : Held) → Shows held calls.Bye held replies.Bye
-bye_said held = record { reply = replies.Bye; turned = (fine, (refl, refl, refl)); fits = refl }
+-- ---- what is shown
 
 -- the certificate for a failed set that these names have is one for the names
 pub line_of_names : (held : Held) (names : List Name) (failed text : List ℕ) (c : Certificate) → IsFailedSet held.accepted names failed
@@ -106,6 +45,82 @@ line_of_names held names failed text c set just certifies is = record {
   text_is = is;
 }
 
+line_as_is : (held : Held) (names : List Name) (reply : Reply) → ((front : ℕ) → reply ≢ replies.Taken front) → IsLineShown held names reply reply
+line_as_is held names (replies.Taken front) other = absurd (other front refl)
+line_as_is held names (replies.Accepted front) other = refl
+line_as_is held names (replies.Old front) other = refl
+line_as_is held names (replies.No code name value) other = refl
+line_as_is held names (replies.Bad n) other = refl
+line_as_is held names (replies.Line text) other = refl
+line_as_is held names (replies.Fail outcome) other = refl
+line_as_is held names (replies.State name reports elements live id) other = refl
+line_as_is held names replies.Bye other = refl
+
+-- a reply by which no line was taken is shown as it is
+pub as_it_is : (held : Held) (call : Call) (reply : Reply) → ((front : ℕ) → reply ≢ replies.Taken front) → IsShown held call reply reply
+as_it_is held (calls.Line names) reply other = line_as_is held names reply other
+as_it_is held calls.Garbage reply other = line_as_is held (known held.accepted) reply other
+as_it_is held (calls.Report r) reply other = refl
+as_it_is held (calls.State p) reply other = refl
+as_it_is held calls.Bye reply other = refl
+as_it_is held (calls.Bad n) reply other = refl
+as_it_is held calls.Unread reply other = refl
+
+-- ---- the turn of it
+
+-- a question is taken where the store is not stopped, and changes nothing
+taken_runs : (stopped : Bool) (fate : Fate) (held after : Held) (Answers : Reply → Type 0) (front : ℕ) → IsQuestionTurn stopped fate held Answers (replies.Taken front) after → (stopped ≡ false) × (after ≡ held)
+taken_runs true fate held after Answers front t = absurd (let e = t.1 in cc)
+taken_runs false fate held after Answers front t = (refl, t.2)
+
+same_held : (held after : Held) (k : Kept) → held.stopped ≡ false → after ≡ held → k.accepted ≡ after.accepted → k.front ≡ after.front → held_of k ≡ held
+same_held held after k runs same list front =
+    let a = list ∙ ap (λ (h : Held). h.accepted) same in
+    let f = front ∙ ap (λ (h : Held). h.front) same in
+    rw (a, f) (ap (λ (s : Bool). record { accepted = held.accepted; front = held.front; stopped = s }) (sym runs))
+
+line_fits : (stopped : Bool) (fate : Fate) (held after : Held) (Answers : Reply → Type 0) (k : Kept) (names : Held → List Name) (reply shown : Reply) → held.stopped ≡ stopped → IsQuestionTurn stopped fate held Answers reply after
+    → k.accepted ≡ after.accepted → k.front ≡ after.front → IsLineShown (held_of k) (names (held_of k)) reply shown → IsLineShown held (names held) reply shown
+line_fits stopped fate held after Answers k names (replies.Taken front) shown e t list n s =
+    let runs = taken_runs stopped fate held after Answers front t in
+    subst (λ (h : Held). IsLineShown h (names h) (replies.Taken front) shown) (same_held held after k (e ∙ runs.0) runs.1 list n) s
+line_fits stopped fate held after Answers k names (replies.Accepted front) shown e t list n s = s
+line_fits stopped fate held after Answers k names (replies.Old front) shown e t list n s = s
+line_fits stopped fate held after Answers k names (replies.No code name value) shown e t list n s = s
+line_fits stopped fate held after Answers k names (replies.Bad m) shown e t list n s = s
+line_fits stopped fate held after Answers k names (replies.Line text) shown e t list n s = s
+line_fits stopped fate held after Answers k names (replies.Fail outcome) shown e t list n s = s
+line_fits stopped fate held after Answers k names (replies.State name reports elements live id) shown e t list n s = s
+line_fits stopped fate held after Answers k names replies.Bye shown e t list n s = s
+
+-- what is shown over the chains behind a turn is shown over what was held before it
+fits_at : (held after : Held) (k : Kept) (call : Call) (reply shown : Reply) → IsTurn held call reply after → k.accepted ≡ after.accepted → k.front ≡ after.front → IsShown (held_of k) call reply shown → IsShown held call reply shown
+fits_at held after k (calls.Line names) reply shown (fate, t) list n s = line_fits held.stopped fate held after _ k (λ h. names) reply shown refl t list n s
+fits_at held after k calls.Garbage reply shown (fate, t) list n s = line_fits held.stopped fate held after _ k (λ h. known h.accepted) reply shown refl t list n s
+fits_at held after k (calls.Report r) reply shown t list n s = s
+fits_at held after k (calls.State p) reply shown t list n s = s
+fits_at held after k calls.Bye reply shown t list n s = s
+fits_at held after k (calls.Bad m) reply shown t list n s = s
+fits_at held after k calls.Unread reply shown t list n s = s
+
+-- the last of the turns
+pub last_turn : (turns old : List Turn) (x y : Turn) → turns ≡ old ++ x ∷ [] → Some y ≡ slice_get turns (length turns - 1) → y ≡ x
+last_turn turns old x y is at =
+    let n : length turns - 1 ≡ length old = omega (arith, ap length is, length-append old (x ∷ [])) in
+    same_Some y x (at ∙ ap (λ (i : ℕ). slice_get turns i) n ∙ ap (λ (l : List Turn). slice_get l (length old)) is ∙ get_behind old (x ∷ []))
+
+-- a desk's turn, and what is shown for it
+pub makes_turn : {D : Type 0} (keeps : D → Type 0) (desk after : DeskState D) (k : Kept) (call : Call) (reply shown : Reply) (number : ℕ) → IsTurn desk.held call reply after.held
+    → after.turns ≡ desk.turns ++ record { call = call; receipt = record { turn = number; reply = reply } } ∷ [] → number ≡ length desk.turns + 1 → after.opening ≡ desk.opening → (keeps after.disk ↔ keeps desk.disk)
+    → k.accepted ≡ after.held.accepted → k.front ≡ after.held.front → IsShown (held_of k) call reply shown → MakesTurns keeps desk (record { call = call; reply = reply; shown = shown } ∷ []) after
+makes_turn keeps desk after k call reply shown number turned turns is opening premise list n fits =
+    record {
+      served = (after.held, record { turned = turned; fits = fits_at desk.held after.held k call reply shown turned list n fits }, refl);
+      turns = turns ∙ ap (λ (m : ℕ). desk.turns ++ record { call = call; receipt = record { turn = m; reply = reply } } ∷ []) is;
+      opening = opening;
+      premise = premise;
+    }
+
 -- ---- what a line is read as
 
 pub means_read : (line : List ℕ) (read : Result Call LineFault) → Reads read line → Means line (call_read read)
@@ -113,12 +128,19 @@ means_read line (Ok call) is = inl is
 means_read line (Err faults.Grammar) is = inr (inl (refl, is))
 means_read line (Err faults.Memory) is = inr (inr refl)
 
+pub short_read : (line : List ℕ) (read : Result Call LineFault) → length line ≤ 8192 → Reads read line → IsShort (call_read read)
+short_read line (Ok call) short is = short_call line call short is.1
+short_read line (Err faults.Grammar) short is = tt
+short_read line (Err faults.Memory) short is = tt
+
+-- each of the lines is one
+pub line_at : (lines : List (List ℕ)) (i : ℕ) (line : List ℕ) → AllByRecursion IsLine lines → slice_get lines i ≡ Some line → IsLine line
+line_at [] i line all at = absurd cc
+line_at (l ∷ ls) zero line all at = subst IsLine (same_Some l line at) all.0
+line_at (l ∷ ls) (suc i) line all at = line_at ls i line all.1 at
+
 -- what stands for a bye was read as one
 pub bye_read : (read : Result Call LineFault) → call_read read ≡ calls.Bye → read ≡ Ok calls.Bye
 bye_read (Ok call) is = ap Ok is
 bye_read (Err faults.Grammar) is = absurd cc
 bye_read (Err faults.Memory) is = absurd cc
-
--- a line that memory did not suffice to read
-pub unread_line : (held : Held) → Shows held calls.Unread held no_memory
-unread_line held = record { reply = no_memory; turned = (fine, (refl, refl, refl)); fits = refl }

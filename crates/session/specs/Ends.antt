@@ -1,13 +1,13 @@
--- What a session did to its link and to what is held.
+-- What a session did to its link and to the desk.
 use Rattle.std.specs.Prelude.{◌≡◌, ◌≤◌, ◌<◌, ℕ, List, [], ◌++◌, length, take, IsSome}
 use Rattle.std.specs.Io.KnownBytes.{Appends, Consumes, IsAtEnd}
-use Rattle.chains.specs.Held.{Held}
+use Rattle.desk.specs.Desks.{DeskState}
 use Rattle.report_line.specs.Cutting.{cut_of}
 use Rattle.session.specs.declared.kind.Kind.{Kind}
 use Rattle.session.specs.declared.kind.Kind.TheVariants as kinds
 use Rattle.session.specs.Links.{up, LinkState, IsSound, IsFault}
 use Rattle.session.specs.SessionText.{Exchange, NoBye, session_text, joined, most_reads, IsSession}
-use Rattle.session.specs.Turned.{Served}
+use Rattle.session.specs.Turned.{MakesTurns}
 use Rattle.session.specs.Headline.{EachLineIsRight}
 
 -- A read after so many others, which gave these bytes: by then each line that is complete was answered, and all of the
@@ -29,20 +29,20 @@ pub record IsReadAt {K : Type 0} (told : K → LinkState) (link : K) (reads : �
 abbrev pub IsPrompt : {K : Type 0} → (K → LinkState) → K → List (List ℕ) → List Exchange → Type 0
 IsPrompt told link pieces turned = (n : ℕ) → n < length pieces → IsReadAt told link n (joined (take n pieces)) turned
 
--- What each read gave, the session text of it, which was written, and the exchanges, which took turns; each LINE among them
--- is right.
-pub record Ended {K : Type 0} (told : K → LinkState) (link after_link : K) (held after : Held) (kind : Kind) (count : ℕ) : Type 0 where
+-- What each read gave, the session text of it, which was written, and the exchanges, which are the turns that were made; each
+-- LINE among them is right.
+pub record Ended {D K : Type 0} (keeps : D → Type 0) (told : K → LinkState) (link after_link : K) (desk after : DeskState D) (kind : Kind) (count : ℕ) : Type 0 where
   pub pieces : List (List ℕ)
   pub turned : List Exchange
   pub text : List ℕ
-  pub session : IsSession pieces kind turned text count
-  pub served : Served held turned after
+  pub session : IsSession (length desk.turns) pieces kind turned text count
+  pub turns : MakesTurns keeps desk turned after
   pub consumed : Consumes (told link).left (told after_link).left (joined pieces)
   pub written : Appends (told link).held (told after_link).held text
   pub reads : (told after_link).reads ≡ up (length pieces) (told link).reads
   pub few : length pieces ≤ most_reads
   pub prompt : IsPrompt told link pieces turned
-  pub lines : EachLineIsRight held turned
+  pub lines : EachLineIsRight desk.held turned
 
 -- What a link tells where a session ends so: a read failed, or a write or a hand-on; or none did, and nothing waits.
 abbrev pub Leaves : Kind → LinkState → LinkState → Type 0

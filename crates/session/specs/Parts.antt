@@ -1,9 +1,10 @@
 -- Working definitions: the parts of a session.
-use Rattle.std.specs.Prelude.{◌≡◌, ℕ, ◌+◌, ◌<◌, ◌⊎◌, List, [], ◌++◌, length, Option, Some, None, IsSome, IsNone, Result, Ok, Err, codes, ⊤}
+use Rattle.std.specs.Prelude.{◌≡◌, ◌≢◌, ℕ, ◌+◌, ◌<◌, ◌⊎◌, List, [], ◌∷◌, ◌++◌, length, Option, Some, None, IsSome, IsNone, Result, Ok, Err, codes, ⊤}
 use Rattle.std.specs.Io.KnownBytes.{Appends, Consumes, IsAtEnd}
-use Rattle.id_tree.specs.IdTree.{IdTree}
-use Rattle.id_tree.specs.Spelling.{spelling}
-use Rattle.chains.specs.Held.{Held}
+use Rattle.desk.specs.Desks.{DeskState}
+use Rattle.desk.specs.Lawful.{turn_limit}
+use Rattle.desk.specs.declared.turn.TurnFault.{TurnFault}
+use Rattle.desk.specs.declared.turn.TurnFault.TheVariants as refusals
 use Rattle.report_line.specs.declared.call.Call.{Call}
 use Rattle.report_line.specs.declared.call.Call.TheVariants as calls
 use Rattle.report_line.specs.declared.fault.LineFault.{LineFault}
@@ -13,8 +14,8 @@ use Rattle.report_line.specs.Cutting.{Stand, cut_from, cut_of}
 use Rattle.session.specs.declared.kind.Kind.{Kind}
 use Rattle.session.specs.declared.kind.Kind.TheVariants as kinds
 use Rattle.session.specs.Links.{up, LinkState, IsSound, IsFault}
-use Rattle.session.specs.SessionText.{Exchange, Mean, NoBye, LastSaysBye, IsQuestion, StartsWithQuestion, session_text, ending_line, ending_count, IsCutShort, IsCutInReply, joined, Gave}
-use Rattle.session.specs.Turned.{Shows, Served}
+use Rattle.session.specs.SessionText.{Exchange, Mean, NoBye, LastSaysBye, IsQuestion, StartsWithQuestion, IsWorn, session_text, ending_line, ending_count, IsCutShort, IsCutInReply, joined, Gave}
+use Rattle.session.specs.Turned.{MakesTurns}
 use Rattle.session.specs.Ends.{IsPrompt}
 
 -- ---- a turn
@@ -25,15 +26,15 @@ call_read (Ok call) = call
 call_read (Err faults.Grammar) = calls.Bad 1
 call_read (Err faults.Memory) = calls.Unread
 
--- the call took its turn; or it is a question, and for want of memory took none
-abbrev pub MakesTurn : {E : Type 0} → Held → Call → Held → Result Reply E → Type 0
-MakesTurn held call after (Ok shown) = Shows held call after shown
-MakesTurn held call after (Err e) = (after ≡ held) × IsQuestion call
+-- why a call took no turn: all were made; or it is a question, and memory was wanting
+abbrev pub TakesNone : ℕ → Call → TurnFault → Type 0
+TakesNone made call refusals.Worn = made ≡ turn_limit
+TakesNone made call refusals.Memory = (made ≢ turn_limit) × IsQuestion call
 
--- the text of a registered id, `0` for none
-abbrev pub id_text : Option IdTree → List ℕ
-id_text (Some id) = spelling id
-id_text None = codes "0"
+-- the call took its turn, and this is shown; or it took none
+abbrev pub MakesTurn : {D : Type 0} → (D → Type 0) → DeskState D → Call → DeskState D → Result Reply TurnFault → Type 0
+MakesTurn keeps desk call after (Ok shown) = (reply : Reply) × MakesTurns keeps desk (record { call = call; reply = reply; shown = shown } ∷ []) after
+MakesTurn keeps desk call after (Err fault) = (after ≡ desk) × TakesNone (length desk.turns) call fault
 
 -- ---- lines
 
@@ -41,13 +42,14 @@ id_text None = codes "0"
 abbrev pub IsSaid : List Exchange → List ℕ → ℕ → Type 0
 IsSaid turned text count = (text ≡ session_text turned) × (count ≡ length turned)
 
--- How far lines were answered, where serving them ends so; None where all of them were.
-abbrev pub HowFar : Option Kind → List (List ℕ) → List Exchange → List ℕ → ℕ → Type 0
-HowFar None later turned text count = NoBye turned × (later ≡ []) × IsSaid turned text count
-HowFar (Some kinds.Bye) later turned text count = LastSaysBye turned × IsSaid turned text count
-HowFar (Some kinds.Memory) later turned text count = NoBye turned × StartsWithQuestion later × IsSaid turned text count
-HowFar (Some kinds.WriteFailed) later turned text count = IsCutInReply turned text count
-HowFar _ later turned text count = ⊥
+-- How far lines were answered, where serving them ends so, with so many turns made before; None where all of them were.
+abbrev pub HowFar : Option Kind → ℕ → List (List ℕ) → List Exchange → List ℕ → ℕ → Type 0
+HowFar None made later turned text count = NoBye turned × (later ≡ []) × IsSaid turned text count
+HowFar (Some kinds.Bye) made later turned text count = LastSaysBye turned × IsSaid turned text count
+HowFar (Some kinds.Worn) made later turned text count = NoBye turned × ((later ≢ []) × IsWorn made turned) × IsSaid turned text count
+HowFar (Some kinds.Memory) made later turned text count = NoBye turned × (StartsWithQuestion later × ¬ IsWorn made turned) × IsSaid turned text count
+HowFar (Some kinds.WriteFailed) made later turned text count = IsCutInReply turned text count
+HowFar _ made later turned text count = ⊥
 
 -- the calls that failed, where it ends so
 abbrev pub FaultsAt : Option Kind → LinkState → LinkState → Type 0
@@ -56,15 +58,15 @@ FaultsAt (Some kinds.WriteFailed) old new = IsFault old new
 FaultsAt _ old new = IsSound old new
 
 -- lines were served: so many replies were written whole
-pub record Serves (old new : LinkState) (lines : List (List ℕ)) (held after : Held) (end : Option Kind) (count : ℕ) : Type 0 where
+pub record Serves {D : Type 0} (keeps : D → Type 0) (old new : LinkState) (lines : List (List ℕ)) (desk after : DeskState D) (end : Option Kind) (count : ℕ) : Type 0 where
   pub front : List (List ℕ)
   pub later : List (List ℕ)
   pub turned : List Exchange
   pub text : List ℕ
   pub lines_are : lines ≡ front ++ later
   pub mean : Mean front turned
-  pub served : Served held turned after
-  pub how : HowFar end later turned text count
+  pub turns : MakesTurns keeps desk turned after
+  pub how : HowFar end (length desk.turns) later turned text count
   pub written : Appends old.held new.held text
   pub faults : FaultsAt end old new
   pub left : new.left ≡ old.left
@@ -83,14 +85,17 @@ abbrev pub Follows : Option Kind → Stand → Option Kind → Type 0
 Follows None stand end = (IsSome stand × (end ≡ None)) ⊎ (IsNone stand × (end ≡ Some kinds.TooLong))
 Follows (Some kind) stand end = end ≡ Some kind
 
--- How far the lines that a read completes were answered, where the session ends so; None where it goes on.
-abbrev pub StepsTo : Option Kind → Stand → List (List ℕ) → List (List ℕ) → List Exchange → List ℕ → ℕ → Type 0
-StepsTo (Some kinds.Bye) stand front later turned text count = LastSaysBye turned × IsSaid turned text count
-StepsTo (Some kinds.Memory) stand front later turned text count = NoBye turned × ((front ≡ []) ⊎ StartsWithQuestion later) × IsSaid turned text count
-StepsTo (Some kinds.TooLong) stand front later turned text count = NoBye turned × (later ≡ []) × IsNone stand × IsSaid turned text count
-StepsTo (Some kinds.WriteFailed) stand front later turned text count = IsCutInReply turned text count
-StepsTo (Some kinds.Endless) stand front later turned text count = ⊥
-StepsTo _ stand front later turned text count = NoBye turned × (later ≡ []) × IsSome stand × IsSaid turned text count
+-- How far the lines that a read completes were answered, where the session ends so, with so many turns made before; None where
+-- it goes on.
+abbrev pub StepsTo : Option Kind → ℕ → Stand → List (List ℕ) → List (List ℕ) → List Exchange → List ℕ → ℕ → Type 0
+StepsTo (Some kinds.Bye) made stand front later turned text count = LastSaysBye turned × IsSaid turned text count
+StepsTo (Some kinds.Worn) made stand front later turned text count = NoBye turned × ((later ≢ []) × IsWorn made turned) × IsSaid turned text count
+StepsTo (Some kinds.Memory) made stand front later turned text count =
+    NoBye turned × ((front ≡ []) ⊎ (StartsWithQuestion later × ¬ IsWorn made turned)) × IsSaid turned text count
+StepsTo (Some kinds.TooLong) made stand front later turned text count = NoBye turned × (later ≡ []) × IsNone stand × IsSaid turned text count
+StepsTo (Some kinds.WriteFailed) made stand front later turned text count = IsCutInReply turned text count
+StepsTo (Some kinds.Endless) made stand front later turned text count = ⊥
+StepsTo _ made stand front later turned text count = NoBye turned × (later ≡ []) × IsSome stand × IsSaid turned text count
 
 -- where nothing was written behind the last hand-on, nothing more waits; and the end is the reader's
 abbrev pub IsQuiet : Option Kind → LinkState → LinkState → Type 0
@@ -105,7 +110,7 @@ GaveBy (Some kinds.ReadFailed) piece = piece ≡ []
 GaveBy _ piece = 0 < length piece
 
 -- one read, and the lines that it completes from where the stream stands
-pub record Steps (old new : LinkState) (stand stand_after : Stand) (held after : Held) (end : Option Kind) (count : ℕ) : Type 0 where
+pub record Steps {D : Type 0} (keeps : D → Type 0) (old new : LinkState) (stand stand_after : Stand) (desk after : DeskState D) (end : Option Kind) (count : ℕ) : Type 0 where
   pub piece : List ℕ
   pub front : List (List ℕ)
   pub later : List (List ℕ)
@@ -113,8 +118,8 @@ pub record Steps (old new : LinkState) (stand stand_after : Stand) (held after :
   pub text : List ℕ
   pub lines_are : (cut_from stand piece).0 ≡ front ++ later
   pub mean : Mean front turned
-  pub served : Served held turned after
-  pub how : StepsTo end (cut_from stand piece).1 front later turned text count
+  pub turns : MakesTurns keeps desk turned after
+  pub how : StepsTo end (length desk.turns) (cut_from stand piece).1 front later turned text count
   pub stands : end ≡ None → (cut_from stand piece).1 ≡ stand_after
   pub consumed : Consumes old.left new.left piece
   pub written : Appends old.held new.held text
@@ -126,7 +131,7 @@ pub record Steps (old new : LinkState) (stand stand_after : Stand) (held after :
 -- ---- a session
 
 -- so many reads were made, and each line that they complete was answered
-pub record Going {K : Type 0} (told : K → LinkState) (link now : K) (stand : Stand) (held after : Held) (reads count : ℕ) : Type 0 where
+pub record Going {D K : Type 0} (keeps : D → Type 0) (told : K → LinkState) (link now : K) (stand : Stand) (desk after : DeskState D) (reads count : ℕ) : Type 0 where
   pub pieces : List (List ℕ)
   pub turned : List Exchange
   pub made : length pieces ≡ reads
@@ -135,7 +140,7 @@ pub record Going {K : Type 0} (told : K → LinkState) (link now : K) (stand : S
   pub is_open : IsSome stand
   pub no_bye : NoBye turned
   pub gave : Gave pieces
-  pub served : Served held turned after
+  pub turns : MakesTurns keeps desk turned after
   pub consumed : Consumes (told link).left (told now).left (joined pieces)
   pub written : Appends (told link).held (told now).held (session_text turned)
   pub count_is : count ≡ length turned

@@ -1,5 +1,5 @@
 -- What a session writes: the reply to each line that it reads, and how it ends. No accepted list is spoken of here.
-use Rattle.std.specs.Prelude.{◌≡◌, ◌⊎◌, ℕ, ◌+◌, ◌<◌, List, [], ◌∷◌, ◌++◌, length, IsSome, IsNone, codes, ⊤}
+use Rattle.std.specs.Prelude.{◌≡◌, ◌≢◌, ◌⊎◌, ℕ, ◌+◌, ◌<◌, List, [], ◌∷◌, ◌++◌, length, IsSome, IsNone, codes, ⊤}
 use Rattle.std.specs.List.{flat_map, AllByRecursion}
 use Rattle.report_line.specs.declared.call.Call.{Call}
 use Rattle.report_line.specs.declared.call.Call.TheVariants as calls
@@ -7,6 +7,7 @@ use Rattle.report_line.specs.declared.reply.Reply.{Reply}
 use Rattle.report_line.specs.Cutting.{Stand, ended, cut_of}
 use Rattle.report_line.specs.Reading.{Spells}
 use Rattle.report_line.specs.Replies.{reply_text}
+use Rattle.desk.specs.Lawful.{turn_limit}
 use Rattle.session.specs.declared.kind.Kind.{Kind}
 use Rattle.session.specs.declared.kind.Kind.TheVariants as kinds
 
@@ -16,9 +17,10 @@ use Rattle.session.specs.declared.kind.Kind.TheVariants as kinds
 abbrev pub Means : List ℕ → Call → Type 0
 Means line call = Spells call line ⊎ ((call ≡ calls.Bad 1) × ((c : Call) → ¬ Spells c line)) ⊎ (call ≡ calls.Unread)
 
--- a call that took a turn, and the reply that is shown for it
+-- a call that took a turn, the turn's reply, and the reply that is shown for it
 pub record Exchange : Type 0 where
   pub call : Call
+  pub reply : Reply
   pub shown : Reply
 
 -- each line is read as the call of its exchange
@@ -70,12 +72,14 @@ session_text exchanges = flat_map exchange_line exchanges
 -- the ending line of a session, which is no reply to a line; most ends have none
 abbrev pub ending_line : Kind → List ℕ
 ending_line kinds.TooLong = ended (codes "BAD 2")
+ending_line kinds.Worn = ended (codes "NO 17 - 65536")
 ending_line kinds.Memory = ended (codes "NO 16 - -")
 ending_line _ = []
 
 -- how many ending lines were written whole
 abbrev pub ending_count : Kind → ℕ
 ending_count kinds.TooLong = 1
+ending_count kinds.Worn = 1
 ending_count kinds.Memory = 1
 ending_count _ = 0
 
@@ -120,25 +124,31 @@ abbrev pub IsLastPieceRefused : List (List ℕ) → List (List ℕ) → Type 0
 IsLastPieceRefused pieces front =
     (before : List (List ℕ)) × (last : List ℕ) × (pieces ≡ before ++ last ∷ []) × (front ≡ (cut_of (joined before)).0)
 
--- Which lines got a turn where a session ends so, other than by a write: of what these reads gave, behind whose lines the
--- stream stands so, the front lines did, with these exchanges, and the later ones did not.
-abbrev pub Reached : Kind → List (List ℕ) → Stand → List (List ℕ) → List (List ℕ) → List Exchange → Type 0
-Reached kinds.Bye pieces stand front later turned = LastSaysBye turned
-Reached kinds.Memory pieces stand front later turned = NoBye turned × (IsLastPieceRefused pieces front ⊎ StartsWithQuestion later)
-Reached kinds.TooLong pieces stand front later turned = NoBye turned × (later ≡ []) × IsNone stand
-Reached kinds.Endless pieces stand front later turned = NoBye turned × (later ≡ []) × IsSome stand × (length pieces ≡ most_reads)
-Reached kinds.WriteFailed pieces stand front later turned = ⊥
-Reached _ pieces stand front later turned = NoBye turned × (later ≡ []) × IsSome stand
+-- all turns that a desk makes were made, some of them before the session
+abbrev pub IsWorn : ℕ → List Exchange → Type 0
+IsWorn made turned = made + length turned ≡ turn_limit
+
+-- Which lines got a turn where a session ends so, other than by a write, that begins with so many turns made: of what these
+-- reads gave, behind whose lines the stream stands so, the front lines did, with these exchanges, and the later ones did not.
+abbrev pub Reached : Kind → ℕ → List (List ℕ) → Stand → List (List ℕ) → List (List ℕ) → List Exchange → Type 0
+Reached kinds.Bye made pieces stand front later turned = LastSaysBye turned
+Reached kinds.Worn made pieces stand front later turned = NoBye turned × (later ≢ []) × IsWorn made turned
+Reached kinds.Memory made pieces stand front later turned =
+    NoBye turned × (IsLastPieceRefused pieces front ⊎ (StartsWithQuestion later × ¬ IsWorn made turned))
+Reached kinds.TooLong made pieces stand front later turned = NoBye turned × (later ≡ []) × IsNone stand
+Reached kinds.Endless made pieces stand front later turned = NoBye turned × (later ≡ []) × IsSome stand × (length pieces ≡ most_reads)
+Reached kinds.WriteFailed made pieces stand front later turned = ⊥
+Reached _ made pieces stand front later turned = NoBye turned × (later ≡ []) × IsSome stand
 
 -- a failed write cuts the text, in a reply or in the ending line; or all was written, and could not be handed on
-abbrev pub IsCutOff : List (List ℕ) → Stand → List (List ℕ) → List (List ℕ) → List Exchange → List ℕ → ℕ → Type 0
-IsCutOff pieces stand front later turned text count =
+abbrev pub IsCutOff : ℕ → List (List ℕ) → Stand → List (List ℕ) → List (List ℕ) → List Exchange → List ℕ → ℕ → Type 0
+IsCutOff made pieces stand front later turned text count =
     IsCutInReply turned text count
-    ⊎ ((kind : Kind) × Reached kind pieces stand front later turned × (IsCutInEnding kind turned text count ⊎ IsWhole kind turned text count))
+    ⊎ ((kind : Kind) × Reached kind made pieces stand front later turned × (IsCutInEnding kind turned text count ⊎ IsWhole kind turned text count))
 
-abbrev pub Ends : Kind → List (List ℕ) → Stand → List (List ℕ) → List (List ℕ) → List Exchange → List ℕ → ℕ → Type 0
-Ends kinds.WriteFailed pieces stand front later turned text count = IsCutOff pieces stand front later turned text count
-Ends kind pieces stand front later turned text count = Reached kind pieces stand front later turned × IsWhole kind turned text count
+abbrev pub Ends : Kind → ℕ → List (List ℕ) → Stand → List (List ℕ) → List (List ℕ) → List Exchange → List ℕ → ℕ → Type 0
+Ends kinds.WriteFailed made pieces stand front later turned text count = IsCutOff made pieces stand front later turned text count
+Ends kind made pieces stand front later turned text count = Reached kind made pieces stand front later turned × IsWhole kind turned text count
 
 -- each of these reads gave bytes
 abbrev pub Gave : List (List ℕ) → Type 0
@@ -150,12 +160,12 @@ GaveAll kinds.End pieces = (before : List (List ℕ)) × (pieces ≡ before ++ [
 GaveAll kinds.ReadFailed pieces = (before : List (List ℕ)) × (pieces ≡ before ++ [] ∷ []) × Gave before
 GaveAll _ pieces = Gave pieces
 
--- A session whose reads gave these pieces ended so: with the exchanges that took turns, the one whose reply was cut
--- included, with this text, and so many lines of it whole.
-pub record IsSession (pieces : List (List ℕ)) (kind : Kind) (turned : List Exchange) (text : List ℕ) (count : ℕ) : Type 0 where
+-- A session that begins with so many turns made and whose reads gave these pieces ended so: with the exchanges that took
+-- turns, the one whose reply was cut included, with this text, and so many lines of it whole.
+pub record IsSession (made : ℕ) (pieces : List (List ℕ)) (kind : Kind) (turned : List Exchange) (text : List ℕ) (count : ℕ) : Type 0 where
   pub front : List (List ℕ)
   pub later : List (List ℕ)
   pub lines_are : (cut_of (joined pieces)).0 ≡ front ++ later
   pub gave : GaveAll kind pieces
   pub mean : Mean front turned
-  pub ends : Ends kind pieces (cut_of (joined pieces)).1 front later turned text count
+  pub ends : Ends kind made pieces (cut_of (joined pieces)).1 front later turned text count

@@ -1,5 +1,5 @@
 -- Exchanges as turns over what is held, one after the other.
-use Rattle.std.specs.Prelude.{◌≡◌, List, [], ◌∷◌}
+use Rattle.std.specs.Prelude.{◌≡◌, ◌↔◌, ℕ, ◌+◌, List, [], ◌∷◌, ◌++◌, length}
 use Rattle.report_line.specs.declared.call.Call.{Call}
 use Rattle.report_line.specs.declared.call.Call.TheVariants as calls
 use Rattle.report_line.specs.declared.reply.Outcome.{Outcome}
@@ -9,35 +9,50 @@ use Rattle.chains.specs.Held.{Held}
 use Rattle.chains.specs.Admission.{held_after}
 use Rattle.chains.specs.Turns.{IsTurn}
 use Rattle.reasons.specs.Shown.{IsShown}
+use Rattle.desk.specs.Desks.{DeskState}
+use Rattle.desk.specs.declared.turn.Turn.{Turn}
 use Rattle.session.specs.SessionText.{Exchange}
 
--- the call takes a turn, and this reply is shown for it
-pub record Shows (held : Held) (call : Call) (after : Held) (shown : Reply) : Type 0 where
-  pub reply : Reply
-  pub turned : IsTurn held call reply after
-  pub fits : IsShown held call reply shown
+-- the call takes its turn with this reply, and what is shown is shown for it
+pub record IsExchange (held : Held) (exchange : Exchange) (after : Held) : Type 0 where
+  pub turned : IsTurn held exchange.call exchange.reply after
+  pub fits : IsShown held exchange.call exchange.reply exchange.shown
 
 -- from what is held the exchanges are turns, one after the other, and this is held then
 abbrev pub Served : Held → List Exchange → Held → Type 0
 Served held [] after = after ≡ held
-Served held (exchange ∷ exchanges) after =
-    (between : Held) × Shows held exchange.call between exchange.shown × Served between exchanges after
+Served held (exchange ∷ exchanges) after = (between : Held) × IsExchange held exchange between × Served between exchanges after
 
 -- what is shown tells that a device failed, or that the store was stopped by then
 abbrev pub ShowsFailure : Exchange → Type 0
 ShowsFailure exchange = (outcome : Outcome) × (exchange.shown ≡ Fail outcome)
 
--- what is held behind a call for which this is shown: only a report changes it
+-- what is held behind a call with this reply: only a report changes it
 abbrev pub after_call : Held → Call → Reply → Held
-after_call held (calls.Report r) shown = held_after held r shown
-after_call held (calls.Line names) shown = held
-after_call held calls.Garbage shown = held
-after_call held (calls.State p) shown = held
-after_call held calls.Bye shown = held
-after_call held (calls.Bad n) shown = held
-after_call held calls.Unread shown = held
+after_call held (calls.Report r) reply = held_after held r reply
+after_call held (calls.Line names) reply = held
+after_call held calls.Garbage reply = held
+after_call held (calls.State p) reply = held
+after_call held calls.Bye reply = held
+after_call held (calls.Bad n) reply = held
+after_call held calls.Unread reply = held
 
 -- what is held behind these exchanges
 abbrev pub held_by : Held → List Exchange → Held
 held_by held [] = held
-held_by held (e ∷ es) = held_by (after_call held e.call e.shown) es
+held_by held (e ∷ es) = held_by (after_call held e.call e.reply) es
+
+-- ---- over a desk
+
+-- the turns of these exchanges, where so many were made before
+abbrev pub turns_of : ℕ → List Exchange → List Turn
+turns_of made [] = []
+turns_of made (e ∷ es) = record { call = e.call; receipt = record { turn = made + 1; reply = e.reply } } ∷ turns_of (made + 1) es
+
+-- The turns that a desk made are just those of these exchanges, in their order.
+pub record MakesTurns {D : Type 0} (keeps : D → Type 0) (desk : DeskState D) (exchanges : List Exchange) (after : DeskState D) : Type 0 where
+  pub served : Served desk.held exchanges after.held
+  pub turns : after.turns ≡ desk.turns ++ turns_of (length desk.turns) exchanges
+  pub opening : after.opening ≡ desk.opening
+  -- what is premised of the disk stays so
+  pub premise : keeps after.disk ↔ keeps desk.disk

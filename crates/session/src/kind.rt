@@ -9,6 +9,8 @@ pub enum Kind {
     Bye,
     /// More than 8,192 bytes came without LF. The lines before them were answered.
     TooLong,
+    /// All 65,536 turns since the desk was opened were made. The next line and what followed it was not handled.
+    Worn,
     /// Memory was wanting for the lines of the bytes that were read, or for the reply to a question for a state. That line
     /// and what followed it was not handled.
     Memory,

@@ -18,5 +18,5 @@ pub use laws::{
     exchanges_keep_lists_reachable, exchanges_tell_what_is_accepted, served_without_a_device,
 };
 pub use link::{Link, LinkFault, put, put_all};
-pub use session::run_lines;
+pub use session::run;
 pub use streams::Streams;

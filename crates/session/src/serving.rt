@@ -1,15 +1,17 @@
 //! Lines, a turn each.
 
+ghost use Rattle.std.specs.List.{AllByRecursion};
 ghost use Rattle.std.specs.Prelude.{◌≡◌, ◌≤◌, ◌↔◌, [], ◌∷◌, Ok, Some, IsTrue, length};
+ghost use Rattle.report_line.specs.Cutting.{IsLine};
 ghost use Rattle.report_line.specs.declared.call.Call.TheVariants as calls;
-ghost use Rattle.chains.specs.Held.{held_of};
 ghost use Rattle.session.specs.Parts.{Serves, one_reply};
 
 use crate::kind::Kind;
 use crate::link::Link;
 use crate::reply_line::put_reply;
 use crate::turns::make_turn;
-use chains::Chains;
+use desk::{Desk, TurnFault};
+use line_disk::Disk;
 use report_line::{Call, LineFault, Lines, read_line};
 
 /// Whether the client says that it is done.
@@ -20,14 +22,16 @@ fn is_bye(read: &Result<Call, LineFault>) -> bool
 }
 
 /// One line: its turn is made, and then its reply is written. Answers why the session ends, if it does.
-fn serve_line<K: Link>(chains: &mut Chains, link: &mut K, line: &[u8]) -> Option<Kind>
-    ensures { Serves (K.told link.old) (K.told link.new) (line.now ∷ []) (held_of chains.old) (held_of chains.new) result (one_reply result) }
+fn serve_line<D: Disk, K: Link>(desk: &mut Desk<D>, link: &mut K, line: &[u8]) -> Option<Kind>
+    requires { IsLine line.now }
+    ensures { Serves D.keeps (K.told link.old) (K.told link.new) (line.now ∷ []) desk.old desk.new result (one_reply result) }
 {
-    let read = read_line(chains.alloc(), line);
+    let read = read_line(desk.chains().alloc(), line);
     let last = is_bye(&read);
     // By reference: to move the reply takes as long as to write it.
-    match &make_turn(chains, read) {
-        Err(_) => Some(Kind::Memory),
+    match &make_turn(desk, read) {
+        Err(TurnFault::Worn) => Some(Kind::Worn),
+        Err(TurnFault::Memory) => Some(Kind::Memory),
         Ok(shown) => match put_reply(link, shown) {
             Ok(()) if last => Some(Kind::Bye),
             Ok(()) => None,
@@ -45,6 +49,7 @@ fn replies_at(kind: Kind) -> u64
         Kind::Bye => 1,
         Kind::End
         | Kind::TooLong
+        | Kind::Worn
         | Kind::Memory
         | Kind::ReadFailed
         | Kind::WriteFailed
@@ -53,17 +58,18 @@ fn replies_at(kind: Kind) -> u64
 }
 
 /// Lines, one after the other. Answers why the session ends, if it does, and how many replies were written whole.
-pub(crate) fn serve_lines<K: Link>(
-    chains: &mut Chains,
+pub(crate) fn serve_lines<D: Disk, K: Link>(
+    desk: &mut Desk<D>,
     link: &mut K,
     lines: &Lines,
 ) -> (Option<Kind>, u64)
-    ensures served { Serves (K.told link.old) (K.told link.new) lines.now (held_of chains.old) (held_of chains.new) result.0 result.1 }
+    requires { AllByRecursion IsLine lines.now }
+    ensures served { Serves D.keeps (K.told link.old) (K.told link.new) lines.now desk.old desk.new result.0 result.1 }
     ensures few { result.1 ≤ length lines.now }
 {
     let mut replies = 0u64;
     for i in 0..lines.len() {
-        match serve_line(chains, link, lines.line(i)) {
+        match serve_line(desk, link, lines.line(i)) {
             None => replies += 1,
             Some(kind) => return (Some(kind), replies + replies_at(kind)),
         }

@@ -1,7 +1,6 @@
 //! One client: lines in, replies out.
 
 ghost use Rattle.std.specs.Prelude.{◌≡◌, ◌≢◌, ◌≤◌, ◌<◌, ◌^◌, ℕ, None};
-ghost use Rattle.chains.specs.Held.{held_of};
 ghost use Rattle.session.specs.SessionText.{ending_line, ending_count};
 ghost use Rattle.session.specs.Ends.{Ended, Leaves};
 ghost use Rattle.session.specs.Parts.{Follows, Steps, Closing, Closes};
@@ -9,7 +8,8 @@ ghost use Rattle.session.specs.Parts.{Follows, Steps, Closing, Closes};
 use crate::kind::{Kind, SessionEnd};
 use crate::link::{Link, put};
 use crate::serving::serve_lines;
-use chains::Chains;
+use desk::Desk;
+use line_disk::Disk;
 use report_line::Feed;
 
 /// How many reads a session makes at most.
@@ -21,6 +21,7 @@ fn line_of_end(kind: Kind) -> &'static [u8]
 {
     match kind {
         Kind::TooLong => b"BAD 2\n".as_slice(),
+        Kind::Worn => b"NO 17 - 65536\n".as_slice(),
         Kind::Memory => b"NO 16 - -\n".as_slice(),
         Kind::End | Kind::Bye | Kind::ReadFailed | Kind::WriteFailed | Kind::Endless =>
             b"".as_slice(),
@@ -32,7 +33,7 @@ fn lines_of_end(kind: Kind) -> u64
     ensures { result ≡ ending_count kind }
 {
     match kind {
-        Kind::TooLong | Kind::Memory => 1,
+        Kind::TooLong | Kind::Worn | Kind::Memory => 1,
         Kind::End | Kind::Bye | Kind::ReadFailed | Kind::WriteFailed | Kind::Endless => 0,
     }
 }
@@ -65,7 +66,7 @@ fn close<K: Link>(link: &mut K, kind: Kind, replies: u64) -> SessionEnd
 {
     match kind {
         Kind::End | Kind::ReadFailed | Kind::WriteFailed => SessionEnd { kind, replies },
-        Kind::Bye | Kind::TooLong | Kind::Memory | Kind::Endless => {
+        Kind::Bye | Kind::TooLong | Kind::Worn | Kind::Memory | Kind::Endless => {
             close_by(link, kind, replies)
         }
     }
@@ -87,9 +88,9 @@ fn kind_after(end: Option<Kind>, feed: &Feed) -> Option<Kind>
 
 /// One read: the lines that it completes are answered. Answers why the session ends, if it does, and how many replies
 /// were written whole.
-fn step<K: Link>(chains: &mut Chains, feed: &mut Feed, link: &mut K) -> (Option<Kind>, u64)
+fn step<D: Disk, K: Link>(desk: &mut Desk<D>, feed: &mut Feed, link: &mut K) -> (Option<Kind>, u64)
     requires { feed.old ≢ None }
-    ensures steps { Steps (K.told link.old) (K.told link.new) feed.old feed.new (held_of chains.old) (held_of chains.new) result.0 result.1 }
+    ensures steps { Steps D.keeps (K.told link.old) (K.told link.new) feed.old feed.new desk.old desk.new result.0 result.1 }
     ensures few { result.1 ≤ 8192 }
 {
     let mut buf = [0u8; 8192];
@@ -102,20 +103,20 @@ fn step<K: Link>(chains: &mut Chains, feed: &mut Feed, link: &mut K) -> (Option<
     let Ok(lines) = feed.push(&buf[..n]) else {
         return (Some(Kind::Memory), 0);
     };
-    let (end, replies) = serve_lines(chains, link, &lines);
+    let (end, replies) = serve_lines(desk, link, &lines);
     (kind_after(end, feed), replies)
 }
 
-/// Serves one client: after each read it answers the lines that are complete, and writes each reply before the next
-/// line's turn is made; before each read and at the end it hands on what it wrote. What is written is the session text of
-/// what was read, and each `LINE` in it is the greatest closed cut of every lawful history that agrees at its place
-/// (`specs/Headline.antt`). What chains hold is never stopped, so in no turn of it a device failed (`served_without_a_device`).
-pub fn run_lines<K: Link>(chains: &mut Chains, link: &mut K) -> SessionEnd
-    ensures session { Ended K.told link.old link.new (held_of chains.old) (held_of chains.new) result.kind result.replies }
+/// Serves one client over a desk: after each read it answers the lines that are complete, and writes each reply before the
+/// next line's turn is made; before each read and at the end it hands on what it wrote. What is written is the session text of
+/// what was read, its exchanges are just the turns that the desk made, and each `LINE` in it is the greatest closed cut of every
+/// lawful history that agrees at its place (`specs/Headline.antt`). What a crash leaves then says `Desk::lawful`.
+pub fn run<D: Disk, K: Link>(desk: &mut Desk<D>, link: &mut K) -> SessionEnd
+    ensures session { Ended D.keeps K.told link.old link.new desk.old desk.new result.kind result.replies }
     ensures leaves { Leaves result.kind (K.told link.old) (K.told link.new) }
 {
-    chains.lawful();
-    let mut feed = Feed::new(chains.alloc());
+    desk.lawful();
+    let mut feed = Feed::new(desk.chains().alloc());
     let mut replies = 0u64;
     for _ in 0..MOST_READS {
         let Ok(()) = link.hand_on() else {
@@ -124,7 +125,7 @@ pub fn run_lines<K: Link>(chains: &mut Chains, link: &mut K) -> SessionEnd
                 replies,
             };
         };
-        let (end, more) = step(chains, &mut feed, link);
+        let (end, more) = step(desk, &mut feed, link);
         replies += more;
         if let Some(kind) = end {
             return close(link, kind, replies);

@@ -5,7 +5,7 @@
 //! - event trees: `events E`, `leq E E`, `exceeds_on E E I`, `join E E`, `after_event I E`;
 //! - stamps: `first`, `stamp S`, `event S`, `peek S`, `fork S`, `receive S E`, `absorb S S`;
 //! - lines: `line TEXT` (a report as it is written again, `call` for another call); any line of a client gets its reply, over
-//!   the chains of the bench; `new` begins with fresh chains, `keep` keeps a copy of them, and `back` takes that again;
+//!   the desk of the bench; `new` begins with a fresh desk, `keep` keeps a copy of its chains, and `kept CALL` makes a call on these;
 //! - replies: `refusal CAUSE` (the refusal for this cause that names nothing);
 //! - places, a position being a number or `retired`: `knows NAME POSITION NAME POSITION`, `need NAME POSITION NAME`,
 //!   `last_known NAME POSITION NAME FROM TO`;
@@ -24,6 +24,8 @@ mod processes;
 mod replies;
 mod stamps;
 
+pub(crate) use bench::new_desk;
+
 use anyhow::Result;
 use bench::Bench;
 use std::io::{BufWriter, Read, Write};
@@ -34,7 +36,7 @@ pub fn answer_all(rt: &HostRuntime) -> Result<()> {
     let mut input = Vec::new(alloc);
     rt.reader().read_to_end(&mut input)?;
     let mut out = BufWriter::new(alloc, rt.stdout())?;
-    let mut bench = Bench::new(alloc);
+    let mut bench = Bench::new(alloc)?;
     for line in input.split_inclusive(|b| *b == b'\n') {
         let line = match line.strip_suffix(b"\n") {
             Some(line) => line,

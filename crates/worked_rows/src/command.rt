@@ -1,7 +1,7 @@
 //! The command `run`, over streams that fail.
 
-use chains::Chains;
-use recline::run_over;
+use line_disk::NullDisk;
+use recline::run_on;
 use session::Streams;
 use std::alloc::Global;
 use std::io::{self, BufWriter, Empty, ErrorKind, Read, Write};
@@ -61,11 +61,10 @@ impl Write for FailsOnce {
 /// A failed read ends the run: what came before it is answered, and there is no read behind it.
 #[test]
 fn a_failed_read_ends_a_run(rt: HostRuntime) -> Result<(), Fail> {
-    let mut chains = Chains::new(rt.alloc());
     let written = BufWriter::new(rt.alloc(), Vec::new(rt.alloc()))?;
     let mut client = Streams::new(Broken { reads: 0 }, written);
     let mut faults = sink_of(rt.alloc(), Vec::new(rt.alloc()))?;
-    assert_eq!(rt; run_over(&mut chains, &mut client, &mut faults), 3);
+    assert_eq!(rt; run_on(rt.alloc(), NullDisk::new(), &mut client, &mut faults), 3);
     let (reader, written) = client.into_inner();
     assert_eq!(rt; reader.reads, 2);
     assert_eq!(rt; written.get_ref().as_slice(), b"OK 1\n".as_slice());
@@ -78,7 +77,6 @@ fn a_failed_read_ends_a_run(rt: HostRuntime) -> Result<(), Fail> {
 #[test]
 fn a_failed_hand_on_ends_a_run(rt: HostRuntime) -> Result<(), Fail> {
     for (fail_write, writes, fail_flush, left) in [(0u8, 0u8, 1u8, 8usize), (1, 1, 0, 0)] {
-        let mut chains = Chains::new(rt.alloc());
         let writer = FailsOnce {
             fail_write,
             writes: 0,
@@ -88,7 +86,7 @@ fn a_failed_hand_on_ends_a_run(rt: HostRuntime) -> Result<(), Fail> {
         let written = BufWriter::new(rt.alloc(), writer)?;
         let mut client = Streams::new(b"BEGIN a\n".as_slice(), written);
         let mut faults = sink_of(rt.alloc(), Vec::new(rt.alloc()))?;
-        assert_eq!(rt; run_over(&mut chains, &mut client, &mut faults), 3);
+        assert_eq!(rt; run_on(rt.alloc(), NullDisk::new(), &mut client, &mut faults), 3);
         let (rest, written) = client.into_inner();
         assert_eq!(rt; rest.len(), left);
         assert_eq!(rt; written.get_ref().writes, writes);

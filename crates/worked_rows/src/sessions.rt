@@ -3,9 +3,10 @@
 ghost use Rattle.std.specs.Prelude.{◌<◌, [], Some};
 ghost use Rattle.session.specs.Links.{LinkState};
 
-use chains::Chains;
-use session::{Kind, Link, LinkFault, SessionEnd, run_lines};
-use std::alloc::Global;
+use desk::Desk;
+use line_disk::NullDisk;
+use session::{Kind, Link, LinkFault, SessionEnd, run};
+use std::alloc::{AllocError, Global};
 use std::test::Fail;
 
 /// Input in pieces of one size, and output that takes some bytes at a time and hands them on at once. One read fails, and
@@ -78,6 +79,14 @@ fn pieces_of(alloc: Global, rest: &[u8], size: usize, fail_read: u64, fail_write
     }
 }
 
+/// A desk of which nothing is kept on a disk.
+fn new_desk(alloc: Global) -> Result<Desk<NullDisk>, AllocError> {
+    match Desk::open(alloc, NullDisk::new()) {
+        Ok(desk) => Ok(desk),
+        Err(_) => Err(AllocError),
+    }
+}
+
 /// Which read and which write fail (0 and 999: none), how the session ends, what was written, and how many lines whole.
 #[test]
 fn sessions_end(rt: HostRuntime) -> Result<(), Fail> {
@@ -97,9 +106,9 @@ fn sessions_end(rt: HostRuntime) -> Result<(), Fail> {
         (8, 0, 4, Kind::WriteFailed, "OK 1\nOLD", 1),
         (8, 3, 4, Kind::WriteFailed, "OK 1\nOLD", 1),
     ] {
-        let mut chains = Chains::new(rt.alloc());
+        let mut desk = new_desk(rt.alloc())?;
         let mut client = pieces_of(rt.alloc(), input, size, fail_read, fail_write);
-        let end = run_lines(&mut chains, &mut client);
+        let end = run(&mut desk, &mut client);
         assert_eq!(rt; end, SessionEnd { kind, replies });
         assert_eq!(rt; client.written.as_slice(), output.as_bytes());
     }
@@ -111,9 +120,9 @@ fn sessions_end(rt: HostRuntime) -> Result<(), Fail> {
 fn bye_ends_a_session(rt: HostRuntime) -> Result<(), Fail> {
     let input = "BEGIN a\nSTATE a\nBYE\nBEGIN b\n".as_bytes();
     for (size, left) in [(1usize, 8usize), (20, 8), (21, 7), (999, 0)] {
-        let mut chains = Chains::new(rt.alloc());
+        let mut desk = new_desk(rt.alloc())?;
         let mut client = pieces_of(rt.alloc(), input, size, 0, 999);
-        let end = run_lines(&mut chains, &mut client);
+        let end = run(&mut desk, &mut client);
         assert_eq!(rt;
             end,
             SessionEnd {
@@ -125,7 +134,7 @@ fn bye_ends_a_session(rt: HostRuntime) -> Result<(), Fail> {
             client.written.as_slice(),
             "OK 1\nSTATE a 0 1 live 1\nBYE\n".as_bytes()
         );
-        assert_eq!(rt; chains.front(), 1);
+        assert_eq!(rt; desk.front(), 1);
         assert_eq!(rt; client.rest.len(), left);
     }
     Ok(())
@@ -136,9 +145,9 @@ fn bye_ends_a_session(rt: HostRuntime) -> Result<(), Fail> {
 fn line_out_of_bytes(rt: HostRuntime) -> Result<(), Fail> {
     let input =
         "BEGIN a\nFORK a 1 1;1 (1,0) b (0,1)\nCHECK a 2 (1,0);(1,1,0)\nCHECK a 3 (1,0);(2,2,0)\nCHECK b 1 (0,1);(5,0,1)\nLINE a\n".as_bytes();
-    let mut chains = Chains::new(rt.alloc());
+    let mut desk = new_desk(rt.alloc())?;
     let mut client = pieces_of(rt.alloc(), input, 1, 0, 999);
-    let _end = run_lines(&mut chains, &mut client);
+    let _end = run(&mut desk, &mut client);
     assert_eq!(rt;
         client.written.as_slice(),
         "OK 1\nOK 2\nOK 3\nOK 4\nOK 5\nLINE {\"failed\":[\"a\"],\"front\":5,\"line\":[[\"a\",2],[\"b\",1]],\"reasons\":[[[\"a\",3],[\"b\",2],[\"a\",3]],[[\"a\",3],[\"b\",2]]]}\n".as_bytes()

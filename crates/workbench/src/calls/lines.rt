@@ -1,9 +1,10 @@
 //! Lines as a client sends them.
 
 use super::fault::Fault;
-use chains::Chains;
+use desk::Desk;
+use line_disk::NullDisk;
 use report_line::{Call, LineFault, read_line, write_line};
-use session::{Streams, run_lines};
+use session::{Streams, run};
 use std::alloc::{AllocError, Global};
 use std::io::BufWriter;
 
@@ -20,10 +21,11 @@ pub fn put_call(alloc: Global, line: &str, out: &mut Vec<u8>) -> Result<bool, Fa
 }
 
 // Writes the reply of a session that has this line alone, without its LF.
-fn put_reply(chains: &mut Chains, line: &[u8], out: &mut Vec<u8>) -> Result<(), Fault> {
-    let written = BufWriter::new(chains.alloc(), Vec::new(chains.alloc()))?;
+fn put_reply(desk: &mut Desk<NullDisk>, line: &[u8], out: &mut Vec<u8>) -> Result<(), Fault> {
+    let alloc = desk.chains().alloc();
+    let written = BufWriter::new(alloc, Vec::new(alloc))?;
     let mut client = Streams::new(line, written);
-    let _end = run_lines(chains, &mut client);
+    let _end = run(desk, &mut client);
     let (_rest, written) = client.into_inner();
     let reply: &[u8] = written.get_ref().as_slice();
     match reply.strip_suffix(b"\n") {
@@ -34,13 +36,17 @@ fn put_reply(chains: &mut Chains, line: &[u8], out: &mut Vec<u8>) -> Result<(), 
 }
 
 /// Answers a line that is a call of a client by its reply; whether it is one.
-pub fn answer(chains: &mut Chains, line: &str, out: &mut Vec<u8>) -> Result<bool, Fault> {
-    let alloc = chains.alloc();
+pub fn answer(
+    desk: &mut Desk<NullDisk>,
+    line: &str,
+    out: &mut Vec<u8>,
+) -> Result<bool, Fault> {
+    let alloc = desk.chains().alloc();
     if read_line(alloc, line.as_bytes()).is_err() {
         return Ok(false);
     }
     let mut input = Vec::from_slice(alloc, line.as_bytes())?;
     input.push(b'\n')?;
-    put_reply(chains, &input, out)?;
+    put_reply(desk, &input, out)?;
     Ok(true)
 }

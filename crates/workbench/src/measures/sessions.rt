@@ -2,9 +2,11 @@
 //! then many, whose memory is handed back to the system behind each; and many with memory that was used before.
 
 use anyhow::Result;
-use chains::Chains;
+use crate::calls::new_desk;
+use desk::Desk;
+use line_disk::NullDisk;
 use report_line::{Call, PackedReport, Shared, read_line};
-use session::{Streams, run_lines};
+use session::{Streams, run};
 use std::alloc::{AllocError, Global};
 use std::io::BufWriter;
 use std::rt::Clock;
@@ -59,29 +61,29 @@ fn time_plain_loop(rt: &HostRuntime, input: &[u8]) -> Result<u64> {
 }
 
 /// A session that serves the lines; how many replies it wrote.
-fn serve(chains: &mut Chains, client: &mut Streams<&[u8], Vec<u8>>) -> u64 {
-    run_lines(chains, client).replies
+fn serve(desk: &mut Desk<NullDisk>, client: &mut Streams<&[u8], Vec<u8>>) -> u64 {
+    run(desk, client).replies
 }
 
 /// How long a session takes, in microseconds.
 fn time_serving(
     rt: &HostRuntime,
-    chains: &mut Chains,
+    desk: &mut Desk<NullDisk>,
     client: &mut Streams<&[u8], Vec<u8>>,
 ) -> Result<u64> {
     let start = Instant::now(rt)?;
-    let replies = serve(chains, client);
+    let replies = serve(desk, client);
     let took = start.elapsed(rt)?.as_micros();
     anyhow::ensure!(replies == 16_384, "{replies} replies");
     Ok(u64::try_from(took)?)
 }
 
-/// How long a session takes that serves the lines, in microseconds. Making the chains and dropping them is not counted.
+/// How long a session takes that serves the lines, in microseconds. Making the desk and dropping it is not counted.
 fn time_session(rt: &HostRuntime, input: &[u8]) -> Result<u64> {
-    let mut chains = Chains::new(rt.alloc());
+    let mut desk = new_desk(rt.alloc())?;
     let output = BufWriter::new(rt.alloc(), Vec::new(rt.alloc()))?;
     let mut client = Streams::new(input, output);
-    time_serving(rt, &mut chains, &mut client)
+    time_serving(rt, &mut desk, &mut client)
 }
 
 /// How long both take in turn, in microseconds for all runs: the plain loop, and the sessions.

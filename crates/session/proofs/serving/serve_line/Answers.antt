@@ -1,24 +1,34 @@
-use Rattle.std.proofs.Common.{ap, sym, ◌∙◌}
+use Rattle.std.proofs.Common.{ap, sym, subst, ◌∙◌, length}
 use Rattle.std.proofs.lemmas.Bool.{false≢true}
-use Rattle.session.specs.Parts.{call_read}
-use Rattle.session.proofs.TurnSteps.{means_read, bye_read}
-use Rattle.session.proofs.ServeSteps.{said_on, said_bye, said_part, unsaid}
+use Rattle.session.specs.Parts.{TakesNone, call_read}
+use Rattle.session.proofs.TurnSteps.{means_read, short_read, bye_read}
+use Rattle.session.proofs.ServeSteps.{said_on, said_bye, said_part, unsaid, worn_out}
 use Rattle.session.proofs.serving.serve_line.Goals as goal
 
-pub returns-in-Err : goal.returns-in-Err
-returns-in-Err g c =
-    let made = rw c.in-Err.is at c.make_turn.ensures in
-    unsaid _ c.args.line.now _ _ (call_read c.read_line-read.result) (means_read _ _ c.read_line-read.ensures.exact) made.1 made.0
+pub make_turn-requires : goal.make_turn-requires
+make_turn-requires g c = short_read c.args.line.now c.read_line-read.result c.requires.short c.read_line-read.ensures.exact
+
+pub returns-in-Err-Memory : goal.returns-in-Err-Memory
+returns-in-Err-Memory g c =
+    let made = rw c.in-Err-Memory.is at c.make_turn.ensures in
+    let none = subst (TakesNone (length c.args.desk.now.turns) (call_read c.read_line-read.result)) c.in-Err-Memory.field-0-is made.1 in
+    unsaid g.D.Disk.keeps _ c.args.line.now _ _ (call_read c.read_line-read.result) (means_read _ _ c.read_line-read.ensures.exact) made.0 none
+
+pub returns-in-Err-Worn : goal.returns-in-Err-Worn
+returns-in-Err-Worn g c =
+    let made = rw c.in-Err-Worn.is at c.make_turn.ensures in
+    let none = subst (TakesNone (length c.args.desk.now.turns) (call_read c.read_line-read.result)) c.in-Err-Worn.field-0-is made.1 in
+    worn_out g.D.Disk.keeps _ c.args.line.now _ _ (call_read c.read_line-read.result) made.0 none
 
 pub returns-in-Ok-put_reply : goal.returns-in-Ok-put_reply
 returns-in-Ok-put_reply g c =
-    said_bye _ _ c.args.line.now _ _ (call_read c.read_line-read.result) c.in-Ok.shown _ (means_read _ _ c.read_line-read.ensures.exact) (rw c.in-Ok.is at c.make_turn.ensures) c.in-Ok-put_reply.ensures (ap call_read (c.is_bye-last.ensures.0 c.if-last.true))
+    said_bye g.D.Disk.keeps _ _ c.args.line.now _ _ (call_read c.read_line-read.result) c.in-Ok.shown _ (means_read _ _ c.read_line-read.ensures.exact) (rw c.in-Ok.is at c.make_turn.ensures) c.in-Ok-put_reply.ensures (ap call_read (c.is_bye-last.ensures.0 c.if-last.true))
 
 pub returns-in-Ok-2 : goal.returns-in-Ok-2
 returns-in-Ok-2 g c =
-    said_on _ _ c.args.line.now _ _ (call_read c.read_line-read.result) c.in-Ok.shown _ (means_read _ _ c.read_line-read.ensures.exact) (rw c.in-Ok.is at c.make_turn.ensures) c.in-Ok-2.ensures
+    said_on g.D.Disk.keeps _ _ c.args.line.now _ _ (call_read c.read_line-read.result) c.in-Ok.shown _ (means_read _ _ c.read_line-read.ensures.exact) (rw c.in-Ok.is at c.make_turn.ensures) c.in-Ok-2.ensures
     (λ says. false≢true (sym c.if-last.false ∙ c.is_bye-last.ensures.1 (bye_read _ says)))
 
 pub returns : goal.returns
 returns g c =
-    said_part _ _ c.args.line.now _ _ (call_read c.read_line-read.result) c.in-Ok.shown c.in-Err-put_reply.field-0 (means_read _ _ c.read_line-read.ensures.exact) (rw c.in-Ok.is at c.make_turn.ensures) c.in-Err-put_reply.ensures
+    said_part g.D.Disk.keeps _ _ c.args.line.now _ _ (call_read c.read_line-read.result) c.in-Ok.shown c.in-Err.field-0 (means_read _ _ c.read_line-read.ensures.exact) (rw c.in-Ok.is at c.make_turn.ensures) c.in-Err.ensures

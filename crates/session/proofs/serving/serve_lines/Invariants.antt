@@ -1,10 +1,9 @@
 use Rattle.std.proofs.Common.{◌≤◌, take, None}
-use Rattle.chains.specs.Held.{held_of}
 use Rattle.session.specs.Parts.{Serves}
 use Rattle.session.proofs.serving.serve_lines.Given as goal
 
 abbrev pub invariant-loop-i : goal.invariant-loop-i
 invariant-loop-i g l = record {
-  served : Serves (g.K.Link.told l.fn.link) (g.K.Link.told l.link) (take l.i l.fn.lines) (held_of l.fn.chains) (held_of l.chains) None l.replies;
+  served : Serves g.D.Disk.keeps (g.K.Link.told l.fn.link) (g.K.Link.told l.link) (take l.i l.fn.lines) l.fn.desk l.desk None l.replies;
   few : l.replies ≤ l.i;
 }

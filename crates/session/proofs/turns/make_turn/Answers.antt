@@ -1,9 +1,19 @@
-use Rattle.std.proofs.Common.{refl}
-use Rattle.session.proofs.TurnSteps.{bad_line, bye_said}
+use Rattle.std.proofs.Common.{sym, ap, subst, ◌∙◌}
+use Rattle.std.specs.Prelude.{option_copied}
+use Rattle.chains.specs.Held.{held_of}
+use Rattle.desk.specs.declared.turn.Turn.{Turn}
+use Rattle.reasons.specs.Shown.{IsShown}
+use Rattle.session.proofs.TurnSteps.{last_turn, makes_turn}
 use Rattle.session.proofs.turns.make_turn.Goals as goal
 
-pub returns-in-Ok-Bye : goal.returns-in-Ok-Bye
-returns-in-Ok-Bye c = rw (c.in-Ok-Bye.is, c.in-Ok-Bye.field-0-is) (bye_said _)
-
-pub returns-in-Ok-Bad : goal.returns-in-Ok-Bad
-returns-in-Ok-Bad c = rw (c.in-Ok-Bad.is, c.in-Ok-Bad.field-0-is) (bad_line _ _ _ refl)
+pub returns-in-Some : goal.returns-in-Some
+returns-in-Some g c =
+    let receipt = c.in_ok-receipt.receipt in
+    let made = c.in_ok-receipt.ensures in
+    let same = last_turn c.turns.result.now c.args.desk.now.turns (record { call = c.call_of.result; receipt = receipt }) c.in-Some.turn.now (c.turns.ensures ∙ made.turns) (ap option_copied (sym c.in-Some.is) ∙ c.last.ensures.value) in
+    let fits = subst (λ (t : Turn). IsShown (held_of c.chains.result.now) t.call receipt.reply c.shown_for.result) same c.shown_for.ensures in
+    rw (sym c.call_of.ensures) (
+      receipt.reply,
+      makes_turn g.D.Disk.keeps c.args.desk.now c.turn.new.self c.chains.result.now c.call_of.result receipt.reply c.shown_for.result receipt.turn made.step made.turns made.number made.opening made.premise c.chains.ensures.accepted
+          c.chains.ensures.front fits,
+    )

@@ -4,6 +4,7 @@ use Rattle.std.specs.List.{slice_get}
 use Rattle.std.proofs.lemmas.Option.{slice_get_within, get_or_from_slice_get}
 use Rattle.std.proofs.lemmas.List.{take-append-drop, drop_more, take_more}
 use Rattle.desk.specs.Desks.{DeskState}
+use Rattle.desk.specs.declared.turn.TurnFault.{TurnFault}
 use Rattle.desk.specs.declared.turn.TurnFault.TheVariants as refusals
 use Rattle.report_line.specs.declared.call.Call.{Call}
 use Rattle.report_line.specs.declared.call.Call.TheVariants as calls
@@ -15,7 +16,7 @@ use Rattle.session.specs.declared.kind.Kind.TheVariants as kinds
 use Rattle.session.specs.Links.{LinkState, IsSound, Puts}
 use Rattle.session.specs.SessionText.{Exchange, Means, exchange_line, session_text}
 use Rattle.session.specs.Turned.{MakesTurns}
-use Rattle.session.specs.Parts.{FaultsAt, TakesNone, HowFar, Serves}
+use Rattle.session.specs.Parts.{FaultsAt, TakesNone, ended_by, one_reply, HowFar, Serves}
 use Rattle.session.proofs.Sent.{appends_none, appends_then, sound_none, sound_then, fault_then}
 use Rattle.session.proofs.Served.{no_turns, makes_then, made_then, mean_then, far_then}
 
@@ -99,7 +100,7 @@ said_part keeps old new line desk after call shown fault means turned puts =
     }
 
 -- a line without a turn: a question without memory, or behind the last turn
-pub unsaid : {D : Type 0} (keeps : D → Type 0) (s : LinkState) (line : List ℕ) (desk after : DeskState D) (call : Call) → Means line call → after ≡ desk → TakesNone (length desk.turns) call refusals.Memory
+unsaid : {D : Type 0} (keeps : D → Type 0) (s : LinkState) (line : List ℕ) (desk after : DeskState D) (call : Call) → Means line call → after ≡ desk → TakesNone (length desk.turns) call refusals.Memory
     → Serves keeps s s (line ∷ []) desk after (Some kinds.Memory) 0
 unsaid keeps s line desk after call means same none =
     record {
@@ -117,7 +118,7 @@ unsaid keeps s line desk after call means same none =
       reads = refl;
     }
 
-pub worn_out : {D : Type 0} (keeps : D → Type 0) (s : LinkState) (line : List ℕ) (desk after : DeskState D) (call : Call) → after ≡ desk → TakesNone (length desk.turns) call refusals.Worn
+worn_out : {D : Type 0} (keeps : D → Type 0) (s : LinkState) (line : List ℕ) (desk after : DeskState D) (call : Call) → after ≡ desk → TakesNone (length desk.turns) call refusals.Worn
     → Serves keeps s s (line ∷ []) desk after (Some kinds.Worn) 0
 worn_out keeps s line desk after call same none =
     record {
@@ -134,6 +135,11 @@ worn_out keeps s line desk after call same none =
       left = refl;
       reads = refl;
     }
+
+pub none_said : {D : Type 0} (keeps : D → Type 0) (s : LinkState) (line : List ℕ) (desk after : DeskState D) (call : Call) (fault : TurnFault) → Means line call → after ≡ desk → TakesNone (length desk.turns) call fault
+    → Serves keeps s s (line ∷ []) desk after (Some (ended_by fault)) (one_reply (Some (ended_by fault)))
+none_said keeps s line desk after call refusals.Worn means same none = worn_out keeps s line desk after call same none
+none_said keeps s line desk after call refusals.Memory means same none = unsaid keeps s line desk after call means same none
 
 -- ---- a loop over lines
 

@@ -31,6 +31,11 @@ abbrev pub TakesNone : ℕ → Call → TurnFault → Type 0
 TakesNone made call refusals.Worn = made ≡ turn_limit
 TakesNone made call refusals.Memory = (made ≢ turn_limit) × IsQuestion call
 
+-- why the session ends then
+abbrev pub ended_by : TurnFault → Kind
+ended_by refusals.Worn = kinds.Worn
+ended_by refusals.Memory = kinds.Memory
+
 -- the call took its turn, and this is shown; or it took none
 abbrev pub MakesTurn : {D : Type 0} → (D → Type 0) → DeskState D → Call → DeskState D → Result Reply TurnFault → Type 0
 MakesTurn keeps desk call after (Ok shown) = (reply : Reply) × MakesTurns keeps desk (record { call = call; reply = reply; shown = shown } ∷ []) after

@@ -4,7 +4,7 @@ ghost use Rattle.std.specs.List.{AllByRecursion};
 ghost use Rattle.std.specs.Prelude.{◌≡◌, ◌≤◌, ◌↔◌, [], ◌∷◌, Ok, Some, IsTrue, length};
 ghost use Rattle.report_line.specs.Cutting.{IsLine};
 ghost use Rattle.report_line.specs.declared.call.Call.TheVariants as calls;
-ghost use Rattle.session.specs.Parts.{Serves, one_reply};
+ghost use Rattle.session.specs.Parts.{Serves, ended_by, one_reply};
 
 use crate::kind::Kind;
 use crate::link::Link;
@@ -21,6 +21,16 @@ fn is_bye(read: &Result<Call, LineFault>) -> bool
     matches!(read, Ok(Call::Bye))
 }
 
+/// Why the session ends where a call got no turn.
+fn kind_of(fault: TurnFault) -> Kind
+    ensures { result ≡ ended_by fault }
+{
+    match fault {
+        TurnFault::Worn => Kind::Worn,
+        TurnFault::Memory => Kind::Memory,
+    }
+}
+
 /// One line: its turn is made, and then its reply is written. Answers why the session ends, if it does.
 fn serve_line<D: Disk, K: Link>(desk: &mut Desk<D>, link: &mut K, line: &[u8]) -> Option<Kind>
     requires { IsLine line.now }
@@ -30,8 +40,7 @@ fn serve_line<D: Disk, K: Link>(desk: &mut Desk<D>, link: &mut K, line: &[u8]) -
     let last = is_bye(&read);
     // By reference: to move the reply takes as long as to write it.
     match &make_turn(desk, read) {
-        Err(TurnFault::Worn) => Some(Kind::Worn),
-        Err(TurnFault::Memory) => Some(Kind::Memory),
+        Err(fault) => Some(kind_of(*fault)),
         Ok(shown) => match put_reply(link, shown) {
             Ok(()) if last => Some(Kind::Bye),
             Ok(()) => None,

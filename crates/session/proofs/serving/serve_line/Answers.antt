@@ -1,24 +1,17 @@
-use Rattle.std.proofs.Common.{ap, sym, subst, ◌∙◌, length}
+use Rattle.std.proofs.Common.{ap, sym, ◌∙◌}
 use Rattle.std.proofs.lemmas.Bool.{false≢true}
-use Rattle.session.specs.Parts.{TakesNone, call_read}
+use Rattle.session.specs.Parts.{call_read}
 use Rattle.session.proofs.TurnSteps.{means_read, short_read, bye_read}
-use Rattle.session.proofs.ServeSteps.{said_on, said_bye, said_part, unsaid, worn_out}
+use Rattle.session.proofs.ServeSteps.{said_on, said_bye, said_part, none_said}
 use Rattle.session.proofs.serving.serve_line.Goals as goal
 
 pub make_turn-requires : goal.make_turn-requires
 make_turn-requires g c = short_read c.args.line.now c.read_line-read.result c.requires.short c.read_line-read.ensures.exact
 
-pub returns-in-Err-Memory : goal.returns-in-Err-Memory
-returns-in-Err-Memory g c =
-    let made = rw c.in-Err-Memory.is at c.make_turn.ensures in
-    let none = subst (TakesNone (length c.args.desk.now.turns) (call_read c.read_line-read.result)) c.in-Err-Memory.field-0-is made.1 in
-    unsaid g.D.Disk.keeps _ c.args.line.now _ _ (call_read c.read_line-read.result) (means_read _ _ c.read_line-read.ensures.exact) made.0 none
-
-pub returns-in-Err-Worn : goal.returns-in-Err-Worn
-returns-in-Err-Worn g c =
-    let made = rw c.in-Err-Worn.is at c.make_turn.ensures in
-    let none = subst (TakesNone (length c.args.desk.now.turns) (call_read c.read_line-read.result)) c.in-Err-Worn.field-0-is made.1 in
-    worn_out g.D.Disk.keeps _ c.args.line.now _ _ (call_read c.read_line-read.result) made.0 none
+pub returns-in-Err : goal.returns-in-Err
+returns-in-Err g c =
+    let made = rw c.in-Err.is at c.make_turn.ensures in
+    rw c.kind_of.ensures (none_said g.D.Disk.keeps _ c.args.line.now _ _ (call_read c.read_line-read.result) c.in-Err.fault (means_read _ _ c.read_line-read.ensures.exact) made.0 made.1)
 
 pub returns-in-Ok-put_reply : goal.returns-in-Ok-put_reply
 returns-in-Ok-put_reply g c =
@@ -31,4 +24,4 @@ returns-in-Ok-2 g c =
 
 pub returns : goal.returns
 returns g c =
-    said_part g.D.Disk.keeps _ _ c.args.line.now _ _ (call_read c.read_line-read.result) c.in-Ok.shown c.in-Err.field-0 (means_read _ _ c.read_line-read.ensures.exact) (rw c.in-Ok.is at c.make_turn.ensures) c.in-Err.ensures
+    said_part g.D.Disk.keeps _ _ c.args.line.now _ _ (call_read c.read_line-read.result) c.in-Ok.shown c.in-Err-put_reply.field-0 (means_read _ _ c.read_line-read.ensures.exact) (rw c.in-Ok.is at c.make_turn.ensures) c.in-Err-put_reply.ensures

@@ -65,8 +65,7 @@ pub record Runs {D K F : Type 0} (keeps : D → Type 0) (client_told : K → Lin
 pub record IsOpened {D : Type 0} (keeps : D → Type 0) (view : D → View) (disk : D) (desk : DeskState D) : Type 0 where
   pub records : keeps disk → StandsFor desk.held.accepted (view disk).seen
   pub any_moment : keeps disk → IsSynced (KeepsFile (view disk).seen) (view disk) (view desk.disk)
-  pub goes : desk.held.stopped ≡ false
-  pub no_turns : desk.turns ≡ []
+  pub fresh : (desk.held ≡ desk.opening) × (desk.turns ≡ []) × (desk.held.stopped ≡ false)
   pub premise : keeps desk.disk ↔ keeps disk
 
 -- The file on this disk was opened, and a session with the client ended over the desk of it. What a crash leaves then is told by

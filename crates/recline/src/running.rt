@@ -1,6 +1,7 @@
 //! The command `run`.
 
 ghost use Rattle.std.specs.Prelude.{◌≡◌};
+ghost use Rattle.desk.specs.declared.fault.DeskFault.TheVariants as opening;
 ghost use Rattle.recline.specs.Outcome.{Runs, RunsOn, Tells, fault_line, status_of, open_fault_line};
 
 use crate::driving::tell_all;
@@ -46,11 +47,7 @@ fn fault_for(kind: Kind) -> &'static [u8]
 }
 
 /// Serves one client over a desk, tells how it ended where that was a fault, and answers the status of the process.
-pub fn run_over<D: Disk, K: Link, F: Link>(
-    desk: &mut Desk<D>,
-    client: &mut K,
-    faults: &mut F,
-) -> u8
+pub fn run_over<D: Disk, K: Link, F: Link>(desk: &mut Desk<D>, client: &mut K, faults: &mut F) -> u8
     ensures { Runs D.keeps K.told F.told client.old client.new faults.old faults.new desk.old desk.new result }
 {
     let end = run(desk, client);
@@ -58,40 +55,63 @@ pub fn run_over<D: Disk, K: Link, F: Link>(
     status_for(end.kind, desk.stopped())
 }
 
+/// Tells that behind the open gate of the record of this number no whole record lies in the file.
+fn tell_damaged<F: Link>(faults: &mut F, number: usize)
+    ensures { Tells (F.told faults.old) (F.told faults.new) (open_fault_line (opening.Damaged number)) }
+{
+    let mut digits = Buffer::new();
+    tell_all(
+        faults,
+        &[
+            b"recline: damaged ".as_slice(),
+            digits.format(number).as_bytes(),
+            b"\n".as_slice(),
+        ],
+    )
+}
+
+/// Tells that the record of this number is not the line of a report.
+fn tell_line<F: Link>(faults: &mut F, number: usize)
+    ensures { Tells (F.told faults.old) (F.told faults.new) (open_fault_line (opening.Line number)) }
+{
+    let mut digits = Buffer::new();
+    tell_all(
+        faults,
+        &[
+            b"recline: line ".as_slice(),
+            digits.format(number).as_bytes(),
+            b"\n".as_slice(),
+        ],
+    )
+}
+
+/// Tells that the report of the record of this number is refused by this code.
+fn tell_refused<F: Link>(faults: &mut F, number: usize, code: u8)
+    ensures { Tells (F.told faults.old) (F.told faults.new) (open_fault_line (opening.Refused number code)) }
+{
+    let mut of_number = Buffer::new();
+    let mut of_code = Buffer::new();
+    tell_all(
+        faults,
+        &[
+            b"recline: refused ".as_slice(),
+            of_number.format(number).as_bytes(),
+            b" ".as_slice(),
+            of_code.format(code).as_bytes(),
+            b"\n".as_slice(),
+        ],
+    )
+}
+
 /// Tells why a record file was not opened.
-pub(crate) fn tell_refusal<F: Link>(faults: &mut F, fault: DeskFault)
+pub(crate) fn tell_unopened<F: Link>(faults: &mut F, fault: DeskFault)
     ensures { Tells (F.told faults.old) (F.told faults.new) (open_fault_line fault) }
 {
-    let mut of_record = Buffer::new();
-    let mut of_code = Buffer::new();
     match fault {
         DeskFault::Foreign => tell(faults, b"recline: foreign\n"),
-        DeskFault::Damaged(record) => tell_all(
-            faults,
-            &[
-                b"recline: damaged ".as_slice(),
-                of_record.format(record).as_bytes(),
-                b"\n".as_slice(),
-            ],
-        ),
-        DeskFault::Line(record) => tell_all(
-            faults,
-            &[
-                b"recline: line ".as_slice(),
-                of_record.format(record).as_bytes(),
-                b"\n".as_slice(),
-            ],
-        ),
-        DeskFault::Refused(record, code) => tell_all(
-            faults,
-            &[
-                b"recline: refused ".as_slice(),
-                of_record.format(record).as_bytes(),
-                b" ".as_slice(),
-                of_code.format(code).as_bytes(),
-                b"\n".as_slice(),
-            ],
-        ),
+        DeskFault::Damaged(number) => tell_damaged(faults, number),
+        DeskFault::Line(number) => tell_line(faults, number),
+        DeskFault::Refused(number, code) => tell_refused(faults, number, code),
         DeskFault::Device => tell(faults, b"recline: device\n"),
         DeskFault::Memory => tell(faults, b"recline: memory\n"),
     }
@@ -99,7 +119,7 @@ pub(crate) fn tell_refusal<F: Link>(faults: &mut F, fault: DeskFault)
 
 /// The command `run`: opens the record file on a disk, serves one client over the desk of it, and answers the status of the process.
 /// The disk is dropped then.
-pub fn run_on<D: Disk, K: Link, F: Link>(
+pub fn run_on<D: Disk + Drop, K: Link, F: Link>(
     alloc: Global,
     disk: D,
     client: &mut K,
@@ -114,7 +134,7 @@ pub fn run_on<D: Disk, K: Link, F: Link>(
             status
         }
         Err((fault, _disk)) => {
-            tell_refusal(faults, fault);
+            tell_unopened(faults, fault);
             3
         }
     }

@@ -1,5 +1,5 @@
 -- Turns of the reports of lawful histories.
-use Rattle.std.proofs.Common.{◌≡◌, ◌+◌, ℕ, List, [], ◌∷◌, false, map, refl, subst}
+use Rattle.std.proofs.Common.{◌≡◌, ◌+◌, ℕ, List, [], ◌∷◌, false, map, subst}
 use Rattle.report_line.specs.declared.report.Report.{Report}
 use Rattle.report_line.specs.declared.call.Call.{Call}
 use Rattle.report_line.specs.declared.call.Call.TheVariants as calls
@@ -13,8 +13,8 @@ use Rattle.desk.specs.OfHistories.{IsTurnOfHistories, AreTurnsOfHistories}
 use Rattle.desk.specs.declared.turn.Turn.{Turn}
 
 pub turn_of_histories : (held after : Held) (call : Call) (reply : Reply) → IsTurn held call reply after → IsTurnOfHistories held call reply after
-turn_of_histories held after (calls.Report r) reply (fate, turn) root h w following running =
-    accepted_or_refused held after r reply fate (turns_refuse_for_room_alone root h held after r reply fate w following running turn)
+turn_of_histories held after (calls.Report r) reply (fate, turn) =
+    λ root h w following running. accepted_or_refused held after r reply fate (turns_refuse_for_room_alone root h held after r reply fate w following running turn)
 turn_of_histories held after (calls.Line names) reply turn = tt
 turn_of_histories held after calls.Garbage reply turn = tt
 turn_of_histories held after (calls.State p) reply turn = tt

@@ -8,3 +8,4 @@ pub mod OneAnswer
 pub mod OwnFile
 pub mod Deciding
 pub mod Turning
+pub mod LawfulTurns

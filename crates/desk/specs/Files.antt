@@ -1,5 +1,5 @@
 -- What a record file says of reports.
-use Rattle.std.specs.Prelude.{◌≡◌, ◌⊎◌, ℕ, ◌≤◌, List, [], ◌∷◌, ◌++◌, map, length, All, Contains, ⊤}
+use Rattle.std.specs.Prelude.{◌≡◌, ◌⊎◌, ℕ, ◌≤◌, List, [], ◌∷◌, ◌++◌, map, length, All, Contains, false, ⊤}
 use Rattle.line_disk.specs.Disk.{one_more}
 use Rattle.record_file.specs.File.{Stands}
 use Rattle.report_line.specs.Spelling.{spelling, HasSpelling}
@@ -9,7 +9,8 @@ use Rattle.report_line.specs.declared.call.Call.TheVariants as calls
 use Rattle.report_line.specs.declared.reply.Outcome.TheVariants.{Before, Unknown}
 use Rattle.report_line.specs.declared.reply.Reply.{Reply}
 use Rattle.report_line.specs.declared.reply.Reply.TheVariants.{Accepted, Fail}
-use Rattle.chains.specs.Held.{counting}
+use Rattle.chains.specs.Held.{Held, counting}
+use Rattle.chains.specs.Processes.{IsKnown}
 use Rattle.chains.specs.Admission.{Passes}
 use Rattle.desk.specs.declared.turn.Turn.{Turn}
 
@@ -30,10 +31,11 @@ abbrev pub IsShort : Call → Type 0
 IsShort (calls.Report r) = length (line_of r) ≤ 8192
 IsShort _ = ⊤
 
--- a question for the state of a process
-abbrev pub AsksState : Call → Type 0
-AsksState (calls.State p) = ⊤
-AsksState _ = ⊥
+-- The calls of which memory may be wanting without a turn: a question for the state of a process that is known, over a store that
+-- is not stopped. No other question is answered by a text that takes memory, and a report's want of memory is a reply.
+abbrev pub MayWantMemory : Held → Call → Type 0
+MayWantMemory held (calls.State p) = (held.stopped ≡ false) × IsKnown held.accepted p
+MayWantMemory held _ = ⊥
 
 -- a turn of this report was answered FAIL unknown: it may be in the file
 abbrev pub IsPending : List Turn → Report → Type 0

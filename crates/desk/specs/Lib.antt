@@ -4,6 +4,7 @@ pub mod Files
 pub mod Lawful
 pub mod Openings
 pub mod OneList
+pub mod OfHistories
 pub mod Codes
 pub mod Faults
 pub mod Reading

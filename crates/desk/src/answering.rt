@@ -9,8 +9,9 @@ ghost use Rattle.report_line.specs.declared.report.Report.{Report as AnyReport};
 ghost use Rattle.report_line.specs.declared.reply.Outcome.TheVariants.{Unknown};
 ghost use Rattle.report_line.specs.declared.reply.Reply.TheVariants.{Fail};
 ghost use Rattle.chains.specs.Held.{held_of};
+ghost use Rattle.chains.specs.Processes.{IsKnown};
 ghost use Rattle.chains.specs.Turns.{fine, IsGarbageReply, IsLineReply, IsStateReply, IsQuestionTurn, IsTurn};
-ghost use Rattle.desk.specs.Files.{line_of, AreSpelled, IsShort, AsksState, UsesDevice, CountsReply};
+ghost use Rattle.desk.specs.Files.{line_of, AreSpelled, IsShort, MayWantMemory, UsesDevice, CountsReply};
 ghost use Rattle.desk.specs.Parts.{held_with, StandsBy, MayBeLeftBy};
 
 use crate::placing::report_placed;
@@ -44,7 +45,7 @@ fn garbage_asked(chains: &Chains, stopped: bool) -> Twice
 /// The turn of a question for the state of a process, if memory suffices for it.
 fn state_asked(chains: &Chains, stopped: bool, name: &Name) -> Result<Twice, TurnFault>
     ensures given { IfOk result (λ twice. IsQuestionTurn stopped fine (held_with chains.now stopped) (IsStateReply chains.now.accepted name.now) twice (held_with chains.now stopped)) }
-    ensures err { IfErr result (λ fault. fault ≡ TurnFault.Memory) }
+    ensures err { IfErr result (λ fault. (fault ≡ TurnFault.Memory) × (stopped ≡ false) × IsKnown chains.now.accepted name.now) }
 {
     if stopped {
         return Ok(failed(Outcome::Stopped));
@@ -66,7 +67,7 @@ pub(crate) fn answered<D: Disk>(
     ensures turn { IfOk result (λ reply. IsTurn (held_with chains.old (is_stopped store.old)) call.now reply (held_with chains.new (is_stopped store.new))) }
     ensures spelled { AreSpelled chains.old.accepted → AreSpelled chains.new.accepted }
     ensures pending { IfOk result (λ reply. (r : AnyReport) → call.now ≡ calls.Report r → reply ≡ Fail Unknown → HasSpelling (calls.Report r)) }
-    ensures err { IfErr result (λ fault. (fault ≡ TurnFault.Memory) × AsksState call.now × (held_of chains.new ≡ held_of chains.old) × (store.new ≡ store.old)) }
+    ensures err { IfErr result (λ fault. (fault ≡ TurnFault.Memory) × MayWantMemory (held_with chains.old (is_stopped store.old)) call.now × (held_of chains.new ≡ held_of chains.old) × (store.new ≡ store.old)) }
     ensures rest { is_stopped store.new ≡ false → D.keeps (disk_of store.old) → HasLines D.view store.new (map line_of chains.new.accepted) }
     ensures left { is_stopped store.old ≡ false → D.keeps (disk_of store.old) → (c : List ℕ) → Leaves (D.view (disk_of store.new)) c
         → IfOk result (λ reply. MayBeLeftBy reply chains.new.accepted call.now c) }

@@ -92,8 +92,9 @@ impl<D: Disk> Desk<D> {
     ghost use Rattle.record_file.specs.Opening.{KeepsFile, IsSynced};
     ghost use Rattle.chains.specs.Admission.{IsReached};
     ghost use Rattle.chains.specs.Turns.{IsTurn};
-    ghost use Rattle.desk.specs.Files.{StandsFor, MayStandFor, StandsWhile, IsShort, AsksState, UsesDevice, CountsReply};
+    ghost use Rattle.desk.specs.Files.{StandsFor, MayStandFor, StandsWhile, IsShort, MayWantMemory, UsesDevice, CountsReply};
     ghost use Rattle.desk.specs.Lawful.{IsLawful};
+    ghost use Rattle.desk.specs.OfHistories.{IsTurnOfHistories, AreTurnsOfHistories};
     ghost use Rattle.desk.specs.Openings.{RefusesFile, CountsDeskFault, LeavesFile, IsNotOfTheFile, IsReopened};
 
     /// Opens the record file on a disk, and admits its records in order. It takes the memory for all turns. A fault hands the
@@ -134,6 +135,8 @@ impl<D: Disk> Desk<D> {
         ensures lawful { IsLawful D.keeps D.view self.now }
         ensures reached { IsReached self.now.held }
         ensures opening { IsReached self.now.opening }
+        // The reports of a lawful history, handed over in order, are accepted up to the first refusal.
+        ensures of_histories { AreTurnsOfHistories self.now.opening self.now.turns self.now.held }
     {
         self.chains.lawful();
         self.opening.lawful();
@@ -231,7 +234,9 @@ impl<D: Disk> Desk<D> {
         ensures worn { length self.old.turns ≡ turn_limit → result ≡ Err TurnFault.Worn }
         ensures err { IfErr result (λ fault. self.new ≡ self.old) }
         ensures cause_err { result ≡ Err TurnFault.Worn → length self.old.turns ≡ turn_limit }
-        ensures memory { result ≡ Err TurnFault.Memory → AsksState call }
+        ensures memory { result ≡ Err TurnFault.Memory → MayWantMemory self.old.held call }
+        // The report that comes next of a lawful history is refused for want of room or of memory alone, where no device fails.
+        ensures of_histories { IfOk result (λ receipt. IsTurnOfHistories self.old.held call receipt.reply self.new.held) }
 
         // What a crash may leave at any moment of the call; what it leaves behind it says `lawful`.
         ensures any_moment { D.keeps self.old.disk → LeavesAlways (StandsWhile self.old.held.accepted self.old.turns call) (D.view self.old.disk) (D.view self.new.disk) }

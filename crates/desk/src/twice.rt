@@ -1,8 +1,9 @@
 //! Replies, each once for the caller and once for the list of turns.
 
-ghost use Rattle.std.specs.Prelude.{◌≡◌, ◌⊎◌, IfOk, None, option_copied, is_some};
+ghost use Rattle.std.specs.Prelude.{◌≡◌, ◌⊎◌, IfOk, IfErr, None, option_copied, is_some};
 ghost use Rattle.chains.specs.Admission.{TakesMemory};
 ghost use Rattle.chains.specs.Held.{held_of};
+ghost use Rattle.chains.specs.Processes.{IsKnown};
 ghost use Rattle.chains.specs.Turns.{no_memory, IsGarbageReply, IsLineReply, IsStateReply};
 ghost use Rattle.desk.specs.Parts.{id_text};
 
@@ -217,7 +218,8 @@ fn told(name: &Name, state: &State<'_>, id: Text) -> Reply
 
 /// The reply to a question for the state of a process, if memory suffices for it.
 pub(crate) fn state_told(chains: &Chains, name: &Name) -> Result<Twice, AllocError>
-    ensures { IfOk result (λ twice. IsStateReply chains.now.accepted name.now twice) }
+    ensures told { IfOk result (λ twice. IsStateReply chains.now.accepted name.now twice) }
+    ensures known { IfErr result (λ _. IsKnown chains.now.accepted name.now) }
 {
     if chains.is_empty() {
         return Ok(refused(Code::NothingBegun));

@@ -1,11 +1,11 @@
 -- What turns reply to the reports of a lawful history, handed over in order.
-use Rattle.std.proofs.Common.{◌≡◌, ◌+◌, ◌⊎◌, Bool, false, List, [], ◌∷◌, ◌++◌, length, All, refl, sym, ◌∙◌, ap, subst, inl, inr, append-nil, append_assoc, arith}
+use Rattle.std.proofs.Common.{◌≡◌, ◌+◌, ◌⊎◌, Bool, false, List, [], ◌∷◌, ◌++◌, length, All, sym, ◌∙◌, ap, subst, inl, inr, append-nil, append_assoc, arith}
 use Rattle.std.proofs.lemmas.List.Elements.{All-head, All-tail}
 use Rattle.report_line.specs.declared.report.Report.{Report}
 use Rattle.report_line.specs.declared.reply.Reply.{Reply}
 use Rattle.report_line.specs.declared.reply.Reply.TheVariants.{Accepted}
 use Rattle.report_line.specs.History.{Name, History}
-use Rattle.chains.specs.Held.{Held, counting, with_report}
+use Rattle.chains.specs.Held.{Held, with_report}
 use Rattle.chains.specs.Admission.{FitsOrNot, held_after}
 use Rattle.chains.specs.Turns.{Fate, fine, memory, before, unknown, IsReportTurn, IsReported}
 use Rattle.lawful_reports.specs.HandedOver.{handed_over, IsReportable}
@@ -35,7 +35,7 @@ turns_refuse_for_room_alone root h held after r reply fate w following running t
 
 -- ---- one turn behind the other
 
-accepted_or_refused : (held between : Held) (r : Report) (reply : Reply) (fate : Fate) → IsRoomTurn fate held r reply between
+pub accepted_or_refused : (held between : Held) (r : Report) (reply : Reply) (fate : Fate) → IsRoomTurn fate held r reply between
     → ((reply ≡ Accepted (held.front + 1)) × (between ≡ with_report held r)) ⊎ IsRefusalForRoom held r reply
 accepted_or_refused held between r reply fine (inl w) = inl (w.1, w.2)
 accepted_or_refused held between r reply fine (inr w) = inr (inl (w.0, w.1))
@@ -59,8 +59,7 @@ up_to_refusal root h held (r ∷ rs) rest (reply ∷ replies) after w running pa
     ]
 
 pub all_are_accepted_in_order : AllAreAcceptedInOrder
-all_are_accepted_in_order root h replies after w turns =
-    up_to_refusal root h (counting []) (handed_over root h) [] replies after w refl (sym (append-nil (handed_over root h))) turns
+all_are_accepted_in_order root h held after reports rest replies w running parts turns = up_to_refusal root h held reports rest replies after w running parts turns
 
 -- ---- where none is refused
 

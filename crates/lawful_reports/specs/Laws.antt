@@ -1,10 +1,10 @@
 -- The reports of a lawful history are accepted.
-use Rattle.std.specs.Prelude.{◌≡◌, ◌↔◌, false, List, []}
+use Rattle.std.specs.Prelude.{◌≡◌, ◌↔◌, ◌++◌, false, List}
 use Rattle.report_line.specs.declared.report.Report.{Report}
 use Rattle.report_line.specs.declared.call.Call.TheVariants as calls
 use Rattle.report_line.specs.declared.reply.Reply.{Reply}
 use Rattle.report_line.specs.History.{Name, History}
-use Rattle.chains.specs.Held.{Held, counting}
+use Rattle.chains.specs.Held.{Held}
 use Rattle.chains.specs.Admission.{IsAdmission, FitsOrNot}
 use Rattle.chains.specs.Turns.{Fate, IsTurnWith}
 use Rattle.lawful_reports.specs.HandedOver.{handed_over, IsNext, IsReportable}
@@ -23,9 +23,10 @@ TurnsRefuseForRoomAlone =
     → IsReportable root h → IsNext root h held.accepted r → held.stopped ≡ false
     → IsTurnWith fate held (calls.Report r) reply after → IsRoomTurn fate held r reply after
 
--- And so BEGIN and all reports, handed over one by one in order, are accepted up to the first refusal, which is for room.
+-- And so BEGIN and all reports, or those that come next behind the accepted ones, handed over one by one in order, are accepted up
+-- to the first refusal, which is for room.
 abbrev pub AllAreAcceptedInOrder : Type 0
 AllAreAcceptedInOrder =
-    (root : Name) (h : History) (replies : List Reply) (after : Held)
-    → IsReportable root h → AreTurns (counting []) (handed_over root h) replies after
-    → AreAcceptedUpToRefusal (counting []) (handed_over root h) replies after
+    (root : Name) (h : History) (held after : Held) (reports rest : List Report) (replies : List Reply)
+    → IsReportable root h → held.stopped ≡ false → handed_over root h ≡ held.accepted ++ (reports ++ rest)
+    → AreTurns held reports replies after → AreAcceptedUpToRefusal held reports replies after

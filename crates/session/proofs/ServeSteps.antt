@@ -3,7 +3,9 @@ use Rattle.std.proofs.Common.{◌≡◌, ℕ, ◌+◌, get_or, take, drop, List,
 use Rattle.std.specs.List.{slice_get}
 use Rattle.std.proofs.lemmas.Option.{slice_get_within, get_or_from_slice_get}
 use Rattle.std.proofs.lemmas.List.{take-append-drop, drop_more, take_more}
+use Rattle.chains.specs.Held.{Held}
 use Rattle.desk.specs.Desks.{DeskState}
+use Rattle.desk.specs.Files.{MayWantMemory}
 use Rattle.desk.specs.declared.turn.TurnFault.{TurnFault}
 use Rattle.desk.specs.declared.turn.TurnFault.TheVariants as refusals
 use Rattle.report_line.specs.declared.call.Call.{Call}
@@ -14,7 +16,7 @@ use Rattle.report_line.specs.Replies.{reply_text}
 use Rattle.session.specs.declared.kind.Kind.{Kind}
 use Rattle.session.specs.declared.kind.Kind.TheVariants as kinds
 use Rattle.session.specs.Links.{LinkState, IsSound, Puts}
-use Rattle.session.specs.SessionText.{Exchange, Means, exchange_line, session_text}
+use Rattle.session.specs.SessionText.{Exchange, Means, IsQuestion, exchange_line, session_text}
 use Rattle.session.specs.Turned.{MakesTurns}
 use Rattle.session.specs.Parts.{FaultsAt, TakesNone, ended_by, one_reply, HowFar, Serves}
 use Rattle.session.proofs.Sent.{appends_none, appends_then, sound_none, sound_then, fault_then}
@@ -99,8 +101,18 @@ said_part keeps old new line desk after call shown fault means turned puts =
       reads = puts.reads;
     }
 
+-- a call of which memory may be wanting asks for a state
+asks_state : (held : Held) (call : Call) → MayWantMemory held call → IsQuestion call
+asks_state held (calls.State p) may = tt
+asks_state held (calls.Report r) may = absurd may
+asks_state held (calls.Line names) may = absurd may
+asks_state held calls.Garbage may = absurd may
+asks_state held calls.Bye may = absurd may
+asks_state held (calls.Bad n) may = absurd may
+asks_state held calls.Unread may = absurd may
+
 -- a line without a turn: a question without memory, or behind the last turn
-unsaid : {D : Type 0} (keeps : D → Type 0) (s : LinkState) (line : List ℕ) (desk after : DeskState D) (call : Call) → Means line call → after ≡ desk → TakesNone (length desk.turns) call refusals.Memory
+unsaid : {D : Type 0} (keeps : D → Type 0) (s : LinkState) (line : List ℕ) (desk after : DeskState D) (call : Call) → Means line call → after ≡ desk → TakesNone desk call refusals.Memory
     → Serves keeps s s (line ∷ []) desk after (Some kinds.Memory) 0
 unsaid keeps s line desk after call means same none =
     record {
@@ -111,14 +123,14 @@ unsaid keeps s line desk after call means same none =
       lines_are = refl;
       mean = tt;
       turns = subst (MakesTurns keeps desk []) (sym same) (no_turns keeps desk);
-      how = (tt, (record { line = line; later = []; call = call; lines_are = refl; means = means; question = none.1 }, λ worn. none.0 (omega (arith, worn))), (refl, refl));
+      how = (tt, (record { line = line; later = []; call = call; lines_are = refl; means = means; question = asks_state desk.held call none.1 }, λ worn. none.0 (omega (arith, worn))), (refl, refl));
       written = appends_none s.held;
       faults = sound_none s;
       left = refl;
       reads = refl;
     }
 
-worn_out : {D : Type 0} (keeps : D → Type 0) (s : LinkState) (line : List ℕ) (desk after : DeskState D) (call : Call) → after ≡ desk → TakesNone (length desk.turns) call refusals.Worn
+worn_out : {D : Type 0} (keeps : D → Type 0) (s : LinkState) (line : List ℕ) (desk after : DeskState D) (call : Call) → after ≡ desk → TakesNone desk call refusals.Worn
     → Serves keeps s s (line ∷ []) desk after (Some kinds.Worn) 0
 worn_out keeps s line desk after call same none =
     record {
@@ -136,7 +148,7 @@ worn_out keeps s line desk after call same none =
       reads = refl;
     }
 
-pub none_said : {D : Type 0} (keeps : D → Type 0) (s : LinkState) (line : List ℕ) (desk after : DeskState D) (call : Call) (fault : TurnFault) → Means line call → after ≡ desk → TakesNone (length desk.turns) call fault
+pub none_said : {D : Type 0} (keeps : D → Type 0) (s : LinkState) (line : List ℕ) (desk after : DeskState D) (call : Call) (fault : TurnFault) → Means line call → after ≡ desk → TakesNone desk call fault
     → Serves keeps s s (line ∷ []) desk after (Some (ended_by fault)) (one_reply (Some (ended_by fault)))
 none_said keeps s line desk after call refusals.Worn means same none = worn_out keeps s line desk after call same none
 none_said keeps s line desk after call refusals.Memory means same none = unsaid keeps s line desk after call means same none

@@ -2,6 +2,7 @@
 use Rattle.std.specs.Prelude.{◌≡◌, ◌≢◌, ℕ, ◌+◌, ◌<◌, ◌⊎◌, List, [], ◌∷◌, ◌++◌, length, Option, Some, None, IsSome, IsNone, Result, Ok, Err, codes, ⊤}
 use Rattle.std.specs.Io.KnownBytes.{Appends, Consumes, IsAtEnd}
 use Rattle.desk.specs.Desks.{DeskState}
+use Rattle.desk.specs.Files.{MayWantMemory}
 use Rattle.desk.specs.Lawful.{turn_limit}
 use Rattle.desk.specs.declared.turn.TurnFault.{TurnFault}
 use Rattle.desk.specs.declared.turn.TurnFault.TheVariants as refusals
@@ -14,7 +15,7 @@ use Rattle.report_line.specs.Cutting.{Stand, cut_from, cut_of}
 use Rattle.session.specs.declared.kind.Kind.{Kind}
 use Rattle.session.specs.declared.kind.Kind.TheVariants as kinds
 use Rattle.session.specs.Links.{up, LinkState, IsSound, IsFault}
-use Rattle.session.specs.SessionText.{Exchange, Mean, NoBye, LastSaysBye, IsQuestion, StartsWithQuestion, IsWorn, session_text, ending_line, ending_count, IsCutShort, IsCutInReply, joined, Gave}
+use Rattle.session.specs.SessionText.{Exchange, Mean, NoBye, LastSaysBye, StartsWithQuestion, IsWorn, session_text, ending_line, ending_count, IsCutShort, IsCutInReply, joined, Gave}
 use Rattle.session.specs.Turned.{MakesTurns}
 use Rattle.session.specs.Ends.{IsPrompt}
 
@@ -26,10 +27,10 @@ call_read (Ok call) = call
 call_read (Err faults.Grammar) = calls.Bad 1
 call_read (Err faults.Memory) = calls.Unread
 
--- why a call took no turn: all were made; or it is a question, and memory was wanting
-abbrev pub TakesNone : ℕ → Call → TurnFault → Type 0
-TakesNone made call refusals.Worn = made ≡ turn_limit
-TakesNone made call refusals.Memory = (made ≢ turn_limit) × IsQuestion call
+-- why a call took no turn: all were made; or it is a question that takes memory, which was wanting
+abbrev pub TakesNone : {D : Type 0} → DeskState D → Call → TurnFault → Type 0
+TakesNone desk call refusals.Worn = length desk.turns ≡ turn_limit
+TakesNone desk call refusals.Memory = (length desk.turns ≢ turn_limit) × MayWantMemory desk.held call
 
 -- why the session ends then
 abbrev pub ended_by : TurnFault → Kind
@@ -39,7 +40,7 @@ ended_by refusals.Memory = kinds.Memory
 -- the call took its turn, and this is shown; or it took none
 abbrev pub MakesTurn : {D : Type 0} → (D → Type 0) → DeskState D → Call → DeskState D → Result Reply TurnFault → Type 0
 MakesTurn keeps desk call after (Ok shown) = (reply : Reply) × MakesTurns keeps desk (record { call = call; reply = reply; shown = shown } ∷ []) after
-MakesTurn keeps desk call after (Err fault) = (after ≡ desk) × TakesNone (length desk.turns) call fault
+MakesTurn keeps desk call after (Err fault) = (after ≡ desk) × TakesNone desk call fault
 
 -- ---- lines
 

@@ -1,0 +1,2 @@
+echo BEGIN a
+yes 'STATE a' | head -65536

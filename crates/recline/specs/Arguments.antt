@@ -1,8 +1,10 @@
 -- What the words of a command line ask for, in the terms of `clap`. The first word is the one that the program was called
 -- by.
-use Rattle.std.specs.Prelude.{◌≡◌, true, List, [], Some, codes, option_map}
+use Rattle.std.specs.Prelude.{◌≡◌, true, false, List, [], Some, codes, option_map}
 use Rattle.clap.specs.Words.{App, Kinds, Row, Rule, Text, fault_of, first_of, new_app, new_rule, subcommand_of, with_rule, with_subcommand}
 use Rattle.clap.specs.Simple.{on_top}
+use Rattle.clap.specs.declared.builder.command.Command.{Command as Made}
+use Rattle.clap.specs.declared.builder.command.Command.TheViews.{out-Command}
 use Rattle.recline.specs.declared.args.Command.{Command}
 use Rattle.recline.specs.declared.args.Command.TheVariants as commands
 
@@ -50,3 +52,7 @@ AsksFor words (commands.Drive script) =
 AsksFor words (commands.Draw script failed) =
     (rows : List Row) × Selects words (codes "draw") rows × (first_of (codes "SCRIPT") rows ≡ Some script.now)
     × (first_of (codes "failed") rows ≡ option_map (λ s. s.now) failed)
+
+-- none of the command's arguments is one of its subcommands, too
+abbrev pub IsLocal : Made → Type 0
+IsLocal made = (out-Command made).has_globals ≡ false

@@ -1,8 +1,8 @@
 //! The words of the command line.
 
-ghost use Rattle.std.specs.Prelude.{◌≡◌, IfOk, map};
+ghost use Rattle.std.specs.Prelude.{◌≡◌, IfOk, false, map};
 ghost use Rattle.clap.specs.Words.{FailsBy, app_of, rule_of};
-ghost use Rattle.recline.specs.Arguments.{AsksFor, draw, drive, program, refusals, script_rule};
+ghost use Rattle.recline.specs.Arguments.{AsksFor, IsLocal, draw, drive, program, refusals, script_rule};
 
 use clap::{Arg, Command as Program, Error};
 use std::alloc::{AllocError, Global};
@@ -26,7 +26,8 @@ pub enum Command<'a> {
 
 /// The argument that is the path of a script.
 fn script_argument<'a>(alloc: Global) -> Arg<'a>
-    ensures { rule_of result ≡ script_rule }
+    ensures rule { rule_of result ≡ script_rule }
+    ensures local { result.global ≡ false }
 {
     Arg::new(alloc, "SCRIPT").required(true).help(
         "A file of steps, one a line, of which the first is 'root NAME'",
@@ -35,7 +36,8 @@ fn script_argument<'a>(alloc: Global) -> Arg<'a>
 
 /// The command `drive`.
 fn drive_command<'a>(alloc: Global) -> Result<Program<'a>, AllocError>
-    ensures { IfOk result (λ made. app_of made ≡ drive) }
+    ensures app { IfOk result (λ made. app_of made ≡ drive) }
+    ensures local { IfOk result (λ made. IsLocal made) }
 {
     Program::new(alloc, "drive")
         .about("Stamps the steps of a script and prints the lines that report them")
@@ -44,7 +46,8 @@ fn drive_command<'a>(alloc: Global) -> Result<Program<'a>, AllocError>
 
 /// The command `draw`.
 fn draw_command<'a>(alloc: Global) -> Result<Program<'a>, AllocError>
-    ensures { IfOk result (λ made. app_of made ≡ draw) }
+    ensures app { IfOk result (λ made. app_of made ≡ draw) }
+    ensures local { IfOk result (λ made. IsLocal made) }
 {
     let failed = Arg::new(alloc, "failed")
         .long("failed")

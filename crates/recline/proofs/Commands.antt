@@ -1,10 +1,8 @@
 -- The commands that take a script, as they are built.
-use Rattle.std.proofs.Common.{◌≡◌, Bool, true, false, List, [], refl, codes}
+use Rattle.std.proofs.Common.{◌≡◌, Bool, true, false, refl, codes}
 use Rattle.std.specs.Prelude.{slice_get, unwrap_or}
-use Rattle.clap.specs.Walk.{Row}
 use Rattle.clap.specs.Simple.{Shape, built, help_shape}
 use Rattle.clap.specs.Takes.{is_given}
-use Rattle.clap.specs.Faults.{check_fault}
 use Rattle.recline.specs.Arguments.{program}
 use Rattle.recline.proofs.Given.{WantsScript, has_other_flags}
 

@@ -1,4 +1,4 @@
-use Rattle.std.proofs.Common.{◌≡◌, map, refl, sym, true≢false, codes}
+use Rattle.std.proofs.Common.{map, refl, sym, true≢false, codes}
 use Rattle.recline.proofs.Asked.{IsOf, asks_for_draw, asks_for_drive, asks_for_run, some_script, taken, tells}
 use Rattle.recline.proofs.args.read_args.Goals as goal
 

@@ -53,6 +53,6 @@ AsksFor words (commands.Draw script failed) =
     (rows : List Row) × Selects words (codes "draw") rows × (first_of (codes "SCRIPT") rows ≡ Some script.now)
     × (first_of (codes "failed") rows ≡ option_map (λ s. s.now) failed)
 
--- none of the command's arguments is one of its subcommands, too
+-- no argument of the command counts for its subcommands, too
 abbrev pub IsLocal : Made → Type 0
 IsLocal made = (out-Command made).has_globals ≡ false

@@ -1,5 +1,7 @@
 //! The command `draw`.
 
+ghost use Rattle.std.specs.Prelude.{◌<◌, IfSome, length};
+
 use crate::driving::{Unread, read_all, tell_all, tell_refusal, write_all};
 use crate::running::tell;
 use itoa::Buffer;
@@ -14,6 +16,14 @@ enum Unnamed<'a> {
     /// This part of it is no name.
     Part(&'a [u8]),
     Memory,
+}
+
+/// What stands in front of the first comma, and what behind it.
+fn cut_part(list: &[u8]) -> Option<(&[u8], &[u8])>
+    ensures { IfSome result (λ parts. length parts.1.now < length list.now) }
+{
+    let at = memchr(b',', list)?;
+    Some((&list[..at], &list[at + 1..]))
 }
 
 /// Adds the name that a part of a list is.
@@ -34,9 +44,9 @@ fn read_names<'a>(alloc: Global, list: &'a [u8]) -> Result<Vec<Name>, Unnamed<'a
         return Ok(names);
     }
     let mut rest = list;
-    while let Some(at) = memchr(b',', rest) {
-        add_name(&mut names, &rest[..at])?;
-        rest = &rest[at + 1..];
+    while let Some((part, behind)) = cut_part(rest) {
+        add_name(&mut names, part)?;
+        rest = behind;
     }
     add_name(&mut names, rest)?;
     Ok(names)

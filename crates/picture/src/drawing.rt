@@ -12,6 +12,7 @@ use crate::scene::Scene;
 use crate::shapes::{close_text, open_text};
 use crate::words::{write_failed, write_lines};
 use chains::{Chains, Failed, FailedFault};
+use garbage_line::garbage;
 use propagate::certificate;
 use reasons::Certificate;
 use report_line::Name;
@@ -128,7 +129,7 @@ fn picture(
 fn picture_of(alloc: Global, followed: &Followed, failed: &Failed) -> Result<Vec<u8>, AllocError> {
     let chains: &Chains = &followed.chains;
     let line = certificate(chains, failed)?;
-    let obsolete = certificate(chains, &Failed::all(chains)?)?;
+    let obsolete = garbage(chains)?;
     picture(alloc, &followed.scene, &line, &obsolete)
 }
 

@@ -20,7 +20,8 @@ use Rattle.std.specs.Box.{box_value}
 use Rattle.std.specs.Borrow.{Bor}
 use Rattle.recline.specs.declared.args.Command.TheVariants as commands
 use Rattle.recline.specs.Arguments.{AsksFor, Selects, program, refusals}
-use Rattle.recline.proofs.Given.{driving, script_given}
+use Rattle.recline.proofs.Commands.{drawing, drawing_flags, drawing_wants, driving, driving_flags, driving_wants}
+use Rattle.recline.proofs.Given.{WantsScript, has_other_flags, script_given}
 
 none_first : (a b : Kinds) → or_else a b ≡ [] → a ≡ []
 none_first [] b e = refl
@@ -124,43 +125,58 @@ wanted : (rows : List Row) (has : Bool) → check_fault (built program).top rows
 wanted rows true none = refl
 wanted rows false none = cc
 
--- and but for `help` there is one of the two; the words behind `drive` have the rows of its walk, and faults of their own
-abbrev EntersDrive : Option (Text × List Text) → Type 0
-EntersDrive stop =
-    (given : List Text) × (entered (built program) stop ≡ Some (codes "drive", rows_after driving.rules [] given))
-    × (entered_fault (built program) stop ≡ level_fault driving [] nothing_held given false [])
+-- and but for `help` there is one of the three; the words behind one that takes a script have the rows of its walk, and faults of
+-- their own
+abbrev Enters : Shape → Text → Option (Text × List Text) → Type 0
+Enters s name stop =
+    (given : List Text) × (entered (built program) stop ≡ Some (name, rows_after s.rules [] given)) × (entered_fault (built program) stop ≡ level_fault s [] nothing_held given false [])
 
 abbrev EntersRun : Option (Text × List Text) → Type 0
 EntersRun stop = (rows : List Row) × (entered (built program) stop ≡ Some (codes "run", rows))
 
-one_entered : (stop : Option (Text × List Text)) → is_help stop ≡ false → is_some (entered (built program) stop) ≡ true → EntersRun stop ⊎ EntersDrive stop
+abbrev EntersOne : Option (Text × List Text) → Type 0
+EntersOne stop = EntersRun stop ⊎ (Enters driving (codes "drive") stop ⊎ Enters drawing (codes "draw") stop)
+
+one_entered : (stop : Option (Text × List Text)) → is_help stop ≡ false → is_some (entered (built program) stop) ≡ true → EntersOne stop
 one_entered None other some = absurd (true≢false (sym some))
-one_entered (Some p) other some = go (bytes_eq (codes "run") p.0) (bytes_eq (codes "drive") p.0) (bytes_eq (codes "help") p.0) refl refl refl
+one_entered (Some p) other some = go (bytes_eq (codes "run") p.0) (bytes_eq (codes "drive") p.0) (bytes_eq (codes "draw") p.0) (bytes_eq (codes "help") p.0) refl refl refl refl
   where
     ran : bytes_eq (codes "run") p.0 ≡ true → EntersRun (Some p)
     ran r = rw r (_, refl)
 
-    drove : bytes_eq (codes "run") p.0 ≡ false → bytes_eq (codes "drive") p.0 ≡ true → EntersDrive (Some p)
+    drove : bytes_eq (codes "run") p.0 ≡ false → bytes_eq (codes "drive") p.0 ≡ true → Enters driving (codes "drive") (Some p)
     drove r d = rw (r, d) (p.1, refl, refl)
 
-    go : (run drive help : Bool) → bytes_eq (codes "run") p.0 ≡ run → bytes_eq (codes "drive") p.0 ≡ drive → bytes_eq (codes "help") p.0 ≡ help → EntersRun (Some p) ⊎ EntersDrive (Some p)
-    go true drive help r d h = inl (ran r)
-    go false true help r d h = inr (drove r d)
-    go false false true r d h = let same = (bytes_eq-Decides (codes "help") p.0).0 h in absurd (true≢false (rw (← same) at other))
-    go false false false r d h = absurd (true≢false (sym (rw (r, d, h) at some)))
+    drew : bytes_eq (codes "run") p.0 ≡ false → bytes_eq (codes "drive") p.0 ≡ false → bytes_eq (codes "draw") p.0 ≡ true → Enters drawing (codes "draw") (Some p)
+    drew r d w = rw (r, d, w) (p.1, refl, refl)
+
+    go : (run drive draw help : Bool) → bytes_eq (codes "run") p.0 ≡ run → bytes_eq (codes "drive") p.0 ≡ drive → bytes_eq (codes "draw") p.0 ≡ draw → bytes_eq (codes "help") p.0 ≡ help
+        → EntersOne (Some p)
+    go true drive draw help r d w h = inl (ran r)
+    go false true draw help r d w h = inr (inl (drove r d))
+    go false false true help r d w h = inr (inr (drew r d w))
+    go false false false true r d w h = let same = (bytes_eq-Decides (codes "help") p.0).0 h in absurd (true≢false (rw (← same) at other))
+    go false false false false r d w h = absurd (true≢false (sym (rw (r, d, w, h) at some)))
 
 -- what was parsed as `program` was refused for nothing
 pub taken : (made : App) (words : List Text) → made ≡ program → (is_simple_and_free made ≡ true → fault_of made words ≡ []) → refusals words ≡ []
 taken made words same parsed = subst (λ (a : App). is_simple_and_free a ≡ true → fault_of a words ≡ []) same parsed refl
 
--- the words name `run`, or `drive` and a script
+-- the words name `run`, or another command and a script
 abbrev pub AsksForRun : List Text → Type 0
 AsksForRun words = (rows : List Row) × Selects words (codes "run") rows
 
-abbrev pub AsksForDrive : List Text → Type 0
-AsksForDrive words = (script : Text) × (rows : List Row) × Selects words (codes "drive") rows × (first_of (codes "SCRIPT") rows ≡ Some script)
+abbrev pub NamesScript : List Text → Text → Type 0
+NamesScript words name = (script : Text) × (rows : List Row) × Selects words name rows × (first_of (codes "SCRIPT") rows ≡ Some script)
 
-pub asks_for_one : (words : List Text) → refusals words ≡ [] → AsksForRun words ⊎ AsksForDrive words
+script_behind : (words : List Text) (s : Shape) (name : Text) (stop : Option (Text × List Text)) → refusals words ≡ [] → subcommand_of program words ≡ entered (built program) stop
+    → has_other_flags (codes "SCRIPT") s.rules ≡ true → WantsScript s → Enters s name stop → entered_fault (built program) stop ≡ [] → NamesScript words name
+script_behind words s name stop none is flags wants enters passed =
+    let below = level_passes s [] nothing_held enters.0 false [] (sym enters.2 ∙ passed) in
+    let script = script_given s enters.0 flags wants below.2 in
+    (script.0, rows_after s.rules [] enters.0, (none, is ∙ enters.1), script.1)
+
+pub asks_for_one : (words : List Text) → refusals words ≡ [] → AsksForRun words ⊎ (NamesScript words (codes "drive") ⊎ NamesScript words (codes "draw"))
 asks_for_one words none =
     let made = built program in
     let given = argument_words program words in
@@ -169,10 +185,8 @@ asks_for_one words none =
     let passes = level_passes made.top (names_of made) nothing_held given has (entered_fault made end.stopped) none in
     elim (one_entered end.stopped (walk_stops made.top (names_of made) (walk_from nothing_held) given refl passes.0 refl) (wanted (finished made.top.rules end.held) _ passes.2)) [
       | inl run ↦ inl (run.0, (none, run.1))
-      | inr drive ↦
-          (let below = level_passes driving [] nothing_held drive.0 false [] (sym drive.2 ∙ passes.1) in
-          let script = script_given drive.0 below.2 in
-          inr (script.0, rows_after driving.rules [] drive.0, (none, drive.1), script.1))
+      | inr (inl drive) ↦ inr (inl (script_behind words driving (codes "drive") end.stopped none refl driving_flags driving_wants drive passes.1))
+      | inr (inr draw) ↦ inr (inr (script_behind words drawing (codes "draw") end.stopped none refl drawing_flags drawing_wants draw passes.1))
     ]
 
 -- ---- what a parse tells of them
@@ -195,33 +209,53 @@ name_in_rows m = name_in (out-ArgMatches m).subcommand
 named : (words : List Text) (m : ArgMatches) (name : Text) (rows : List Row) → Tells words m → Selects words name rows → subcommand_name_of m ≡ Some name
 named words m name rows told selects = name_in_rows m ∙ ap (option_map (λ p. p.0)) (told ∙ selects.1)
 
-pub asks_for_run : (words : List Text) (m : ArgMatches) → refusals words ≡ [] → Tells words m → subcommand_name_of m ≢ Some (codes "drive") → AsksForRun words
-asks_for_run words m none told other =
+pub asks_for_run : (words : List Text) (m : ArgMatches) → refusals words ≡ [] → Tells words m → subcommand_name_of m ≢ Some (codes "drive") → subcommand_name_of m ≢ Some (codes "draw")
+    → AsksForRun words
+asks_for_run words m none told not_drive not_draw =
     elim (asks_for_one words none) [
       | inl run ↦ run
-      | inr drive ↦ absurd (other (named words m (codes "drive") drive.1 told drive.2))
+      | inr (inl drive) ↦ absurd (not_drive (named words m (codes "drive") drive.1 told drive.2))
+      | inr (inr draw) ↦ absurd (not_draw (named words m (codes "draw") draw.1 told draw.2))
     ]
 
-two_names : Some (codes "run") ≡ Some (codes "drive") → ⊥
-two_names e = (let same : codes "run" ≡ codes "drive" = cc in true≢false (ap (λ (l : Text). bytes_eq l (codes "run")) same))
+same_name : (x y : Text) → Some x ≡ Some y → x ≡ y
+same_name x y e = cc
+
+-- a command that is not `run`
+abbrev IsNotRun : Text → Type 0
+IsNotRun name = bytes_eq (codes "run") name ≡ false
+
+never_run : (name : Text) → IsNotRun name → Some (codes "run") ≡ Some name → ⊥
+never_run name other e = true≢false (subst (λ (t : Text). bytes_eq (codes "run") t ≡ false) (sym (same_name (codes "run") name e)) other)
+
+behind : (words : List Text) (m : ArgMatches) (name : Text) → IsNotRun name → refusals words ≡ [] → Tells words m → subcommand_name_of m ≡ Some name → NamesScript words name
+behind words m name other none told is =
+    elim (asks_for_one words none) [
+      | inl run ↦ absurd (never_run name other (sym (named words m (codes "run") run.0 told run.1) ∙ is))
+      | inr (inl drive) ↦ subst (λ (t : Text). NamesScript words t) (same_name _ name (sym (named words m (codes "drive") drive.1 told drive.2) ∙ is)) drive
+      | inr (inr draw) ↦ subst (λ (t : Text). NamesScript words t) (same_name _ name (sym (named words m (codes "draw") draw.1 told draw.2) ∙ is)) draw
+    ]
 
 same_rows : (xs ys : List Row) → Some xs ≡ Some ys → xs ≡ ys
 same_rows xs ys e = cc
 
--- the rows of `drive` have a script
-pub script_named : (words : List Text) (m d : ArgMatches) → refusals words ≡ [] → Tells words m → subcommand_name_of m ≡ Some (codes "drive")
-    → option_map (λ p. p.1) (subcommand_rows_of m) ≡ Some (rows_of (found_of d))
-    → (script : Text) × Selects words (codes "drive") (rows_of (found_of d)) × (first_value (found_of d) (codes "SCRIPT") ≡ Some script)
-script_named words m d none told name has =
-    elim (asks_for_one words none) [
-      | inl run ↦ absurd (two_names (sym (named words m (codes "run") run.0 told run.1) ∙ name))
-      | inr drive ↦
-          (let same : drive.1 ≡ rows_of (found_of d) = same_rows drive.1 (rows_of (found_of d)) (sym (ap (option_map (λ p. p.1)) (told ∙ drive.2.1)) ∙ has) in (
-            drive.0,
-            subst (λ (rows : List Row). Selects words (codes "drive") rows) same drive.2,
-            first_value-rows (found_of d) (codes "SCRIPT") ∙ subst (λ (rows : List Row). first_of (codes "SCRIPT") rows ≡ Some drive.0) same drive.3,
-          ))
-    ]
+-- the rows of such a command, which d has, have a script
+pub record IsOf (words : List Text) (m d : ArgMatches) (name : Text) : Type 0 where
+  pub other : IsNotRun name
+  pub none : refusals words ≡ []
+  pub told : Tells words m
+  pub name_is : subcommand_name_of m ≡ Some name
+  pub rows_are : option_map (λ p. p.1) (subcommand_rows_of m) ≡ Some (rows_of (found_of d))
+
+script_named : (words : List Text) (m d : ArgMatches) (name : Text) → IsOf words m d name
+    → (script : Text) × Selects words name (rows_of (found_of d)) × (first_value (found_of d) (codes "SCRIPT") ≡ Some script)
+script_named words m d name h =
+    let one = behind words m name h.other h.none h.told h.name_is in
+    let same : one.1 ≡ rows_of (found_of d) = same_rows one.1 (rows_of (found_of d)) (sym (ap (option_map (λ p. p.1)) (h.told ∙ one.2.1)) ∙ h.rows_are) in (
+      one.0,
+      subst (λ (rows : List Row). Selects words name rows) same one.2,
+      first_value-rows (found_of d) (codes "SCRIPT") ∙ subst (λ (rows : List Row). first_of (codes "SCRIPT") rows ≡ Some one.0) same one.3,
+    )
 
 no_script : (o : Option (Bor Text)) (v : Option Text) (script : Text) → option_map (λ s. s.now) o ≡ v → v ≡ Some script → o ≢ None
 no_script None v script is some none = absurd (script_is (is ∙ some))
@@ -230,12 +264,22 @@ no_script None v script is some none = absurd (script_is (is ∙ some))
     script_is e = cc
 no_script (Some s) v script is some none = cc
 
-pub some_script : (words : List Text) (m d : ArgMatches) (o : Option (Bor Text)) → refusals words ≡ [] → Tells words m → subcommand_name_of m ≡ Some (codes "drive")
-    → option_map (λ p. p.1) (subcommand_rows_of m) ≡ Some (rows_of (found_of d)) → option_map (λ s. s.now) o ≡ first_value (found_of d) (codes "SCRIPT") → o ≢ None
-some_script words m d o none told name has is = (let w = script_named words m d none told name has in no_script o _ w.0 is w.2)
+pub some_script : (words : List Text) (m d : ArgMatches) (name : Text) (o : Option (Bor Text)) → IsOf words m d name → option_map (λ s. s.now) o ≡ first_value (found_of d) (codes "SCRIPT")
+    → o ≢ None
+some_script words m d name o h is = (let w = script_named words m d name h in no_script o _ w.0 is w.2)
 
-pub asks_for_drive : (words : List Text) (m d : ArgMatches) (script : Bor Text) → refusals words ≡ [] → Tells words m → subcommand_name_of m ≡ Some (codes "drive")
-    → option_map (λ p. p.1) (subcommand_rows_of m) ≡ Some (rows_of (found_of d)) → Some script.now ≡ first_value (found_of d) (codes "SCRIPT") → AsksFor words (commands.Drive script)
-asks_for_drive words m d script none told name has is =
-    let w = script_named words m d none told name has in
+pub asks_for_drive : (words : List Text) (m d : ArgMatches) (script : Bor Text) → IsOf words m d (codes "drive") → Some script.now ≡ first_value (found_of d) (codes "SCRIPT")
+    → AsksFor words (commands.Drive script)
+asks_for_drive words m d script h is =
+    let w = script_named words m d (codes "drive") h in
     (rows_of (found_of d), w.1, sym (first_value-rows (found_of d) (codes "SCRIPT")) ∙ sym is)
+
+pub asks_for_draw : (words : List Text) (m d : ArgMatches) (script : Bor Text) (failed : Option (Bor Text)) → IsOf words m d (codes "draw")
+    → Some script.now ≡ first_value (found_of d) (codes "SCRIPT") → option_map (λ s. s.now) failed ≡ first_value (found_of d) (codes "failed") → AsksFor words (commands.Draw script failed)
+asks_for_draw words m d script failed h is failed_is =
+    let w = script_named words m d (codes "draw") h in (
+      rows_of (found_of d),
+      w.1,
+      sym (first_value-rows (found_of d) (codes "SCRIPT")) ∙ sym is,
+      sym (first_value-rows (found_of d) (codes "failed")) ∙ sym failed_is,
+    )

@@ -1,8 +1,10 @@
 -- What the words of a command line ask for, in the terms of `clap`. The first word is the one that the program was called
 -- by.
-use Rattle.std.specs.Prelude.{◌≡◌, true, List, [], Some, codes}
-use Rattle.clap.specs.Words.{App, Kinds, Row, Text, fault_of, first_of, new_app, new_rule, subcommand_of, with_rule, with_subcommand}
+use Rattle.std.specs.Prelude.{◌≡◌, true, false, List, [], Some, codes, option_map}
+use Rattle.clap.specs.Words.{App, Kinds, Row, Rule, Text, fault_of, first_of, new_app, new_rule, subcommand_of, with_rule, with_subcommand}
 use Rattle.clap.specs.Simple.{on_top}
+use Rattle.clap.specs.declared.builder.command.Command.{Command as Made}
+use Rattle.clap.specs.declared.builder.command.Command.TheViews.{out-Command}
 use Rattle.recline.specs.declared.args.Command.{Command}
 use Rattle.recline.specs.declared.args.Command.TheVariants as commands
 
@@ -10,9 +12,21 @@ use Rattle.recline.specs.declared.args.Command.TheVariants as commands
 abbrev pub run : App
 run = new_app (codes "run")
 
+-- the path of a script, which is wanted
+abbrev pub script_rule : Rule
+script_rule = record (new_rule (codes "SCRIPT")) { required = true }
+
 -- the command `drive`, which takes the path of a script
 abbrev pub drive : App
-drive = with_rule (new_app (codes "drive")) (record (new_rule (codes "SCRIPT")) { required = true })
+drive = with_rule (new_app (codes "drive")) script_rule
+
+-- the option `--failed`, with the names of the processes that failed
+abbrev pub failed_rule : Rule
+failed_rule = record (new_rule (codes "failed")) { long = Some (codes "failed"); value_names = 1 }
+
+-- the command `draw`, which takes the path of a script, and may be given names
+abbrev pub draw : App
+draw = with_rule (with_rule (new_app (codes "draw")) script_rule) failed_rule
 
 -- the program by itself: it has a version, and one of its commands is wanted
 abbrev pub alone : App
@@ -20,7 +34,7 @@ alone = on_top (λ s. record s { has_version = true; subcommand_required = true 
 
 -- the program with its commands
 abbrev pub program : App
-program = with_subcommand (with_subcommand alone run.top) drive.top
+program = with_subcommand (with_subcommand (with_subcommand alone run.top) drive.top) draw.top
 
 -- the kinds of refusal that the words may get, none where they are taken; help and the version are refusals, too
 abbrev pub refusals : List Text → Kinds
@@ -35,3 +49,10 @@ abbrev pub AsksFor : List Text → Command → Type 0
 AsksFor words commands.Run = (rows : List Row) × Selects words (codes "run") rows
 AsksFor words (commands.Drive script) =
     (rows : List Row) × Selects words (codes "drive") rows × (first_of (codes "SCRIPT") rows ≡ Some script.now)
+AsksFor words (commands.Draw script failed) =
+    (rows : List Row) × Selects words (codes "draw") rows × (first_of (codes "SCRIPT") rows ≡ Some script.now)
+    × (first_of (codes "failed") rows ≡ option_map (λ s. s.now) failed)
+
+-- no argument of the command counts for its subcommands, too
+abbrev pub IsLocal : Made → Type 0
+IsLocal made = (out-Command made).has_globals ≡ false

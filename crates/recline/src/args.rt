@@ -1,8 +1,8 @@
 //! The words of the command line.
 
-ghost use Rattle.std.specs.Prelude.{◌≡◌, IfOk, map};
-ghost use Rattle.clap.specs.Words.{FailsBy, app_of};
-ghost use Rattle.recline.specs.Arguments.{AsksFor, program, refusals};
+ghost use Rattle.std.specs.Prelude.{◌≡◌, IfOk, false, map};
+ghost use Rattle.clap.specs.Words.{FailsBy, app_of, rule_of};
+ghost use Rattle.recline.specs.Arguments.{AsksFor, IsLocal, draw, drive, program, refusals, script_rule};
 
 use clap::{Arg, Command as Program, Error};
 use std::alloc::{AllocError, Global};
@@ -14,7 +14,49 @@ pub enum Command<'a> {
     /// Answers the lines of standard input.
     Run,
     /// Drives a world by the script of this path.
-    Drive { script: &'a str },
+    Drive {
+        script: &'a str,
+    },
+    /// Draws the script of this path, where the processes of this list failed.
+    Draw {
+        script: &'a str,
+        failed: Option<&'a str>,
+    },
+}
+
+/// The argument that is the path of a script.
+fn script_argument<'a>(alloc: Global) -> Arg<'a>
+    ensures rule { rule_of result ≡ script_rule }
+    ensures local { result.global ≡ false }
+{
+    Arg::new(alloc, "SCRIPT").required(true).help(
+        "A file of steps, one a line, of which the first is 'root NAME'",
+    )
+}
+
+/// The command `drive`.
+fn drive_command<'a>(alloc: Global) -> Result<Program<'a>, AllocError>
+    ensures app { IfOk result (λ made. app_of made ≡ drive) }
+    ensures local { IfOk result (λ made. IsLocal made) }
+{
+    Program::new(alloc, "drive")
+        .about("Stamps the steps of a script and prints the lines that report them")
+        .arg(script_argument(alloc))
+}
+
+/// The command `draw`.
+fn draw_command<'a>(alloc: Global) -> Result<Program<'a>, AllocError>
+    ensures app { IfOk result (λ made. app_of made ≡ draw) }
+    ensures local { IfOk result (λ made. IsLocal made) }
+{
+    let failed = Arg::new(alloc, "failed")
+        .long("failed")
+        .value_name("NAMES")
+        .help("The processes that failed, parted by commas, or '-' for none");
+    Program::new(alloc, "draw")
+        .about("Draws the history of a script with its recovery line as SVG")
+        .arg(script_argument(alloc))?
+        .arg(failed)
 }
 
 /// The command line, with the texts of its help.
@@ -24,19 +66,14 @@ fn command_line<'a>(alloc: Global) -> Result<Program<'a>, AllocError>
     let run = Program::new(alloc, "run").about(
         "Answers each line of standard input on standard output",
     );
-    let script = Arg::new(alloc, "SCRIPT").required(true).help(
-        "A file of steps, one a line, of which the first is 'root NAME'",
-    );
-    let drive = Program::new(alloc, "drive")
-        .about("Stamps the steps of a script and prints the lines that report them")
-        .arg(script)?;
     Program::new(alloc, "recline")
         .bin_name("recline")?
         .version("0.1.0")
         .about("Says where processes that failed have to recover from")
         .subcommand_required(true)
         .subcommand(run)?
-        .subcommand(drive)
+        .subcommand(drive_command(alloc)?)?
+        .subcommand(draw_command(alloc)?)
 }
 
 /// The command that the words ask for, after the word that the program was called by. Help and the version are errors,
@@ -48,11 +85,18 @@ pub fn read_args<'a, S: AsStr>(alloc: Global, words: &'a [S]) -> Result<Command<
 {
     let program = command_line(alloc)?;
     let matches = program.try_get_matches_from(words)?;
-    let Some(driving) = matches.subcommand_matches("drive") else {
+    if let Some(driving) = matches.subcommand_matches("drive") {
+        return match driving.get_str("SCRIPT") {
+            Some(script) => Ok(Command::Drive { script }),
+            None => unreachable!(),
+        };
+    }
+    let Some(drawing) = matches.subcommand_matches("draw") else {
         return Ok(Command::Run);
     };
-    match driving.get_str("SCRIPT") {
-        Some(script) => Ok(Command::Drive { script }),
+    let failed = drawing.get_str("failed");
+    match drawing.get_str("SCRIPT") {
+        Some(script) => Ok(Command::Draw { script, failed }),
         None => unreachable!(),
     }
 }

@@ -15,7 +15,7 @@ use std::alloc::Global;
 const MOST_READS: u64 = 1_048_576;
 
 /// Why a script was not read.
-enum Unread {
+pub(crate) enum Unread {
     /// Memory did not suffice for it.
     Memory,
     /// A read failed, or the script has no end.
@@ -23,7 +23,7 @@ enum Unread {
 }
 
 /// All that the link gives to read.
-fn read_all<K: Link>(alloc: Global, link: &mut K) -> Result<Vec<u8>, Unread>
+pub(crate) fn read_all<K: Link>(alloc: Global, link: &mut K) -> Result<Vec<u8>, Unread>
     ensures { MatchResult result (λ bytes. ReadsAll (K.told link.old) (K.told link.new) bytes.items) (λ why. ReadsSome (K.told link.old) (K.told link.new) why) }
 {
     let mut bytes = Vec::new(alloc);
@@ -43,7 +43,7 @@ fn read_all<K: Link>(alloc: Global, link: &mut K) -> Result<Vec<u8>, Unread>
 }
 
 /// Writes all of the text and hands it on.
-fn write_all<K: Link>(link: &mut K, text: &[u8]) -> Result<(), LinkFault>
+pub(crate) fn write_all<K: Link>(link: &mut K, text: &[u8]) -> Result<(), LinkFault>
     ensures writes { Writes (K.told link.old) (K.told link.new) result text.now }
     ensures left { (K.told link.new).left ≡ (K.told link.old).left }
     ensures reads { (K.told link.new).reads ≡ (K.told link.old).reads }
@@ -87,7 +87,7 @@ pub(crate) fn tell_all<F: Link>(faults: &mut F, pieces: &[&[u8]])
 }
 
 /// Tells that the step of this line was refused.
-fn tell_refusal<F: Link>(faults: &mut F, step: u64, cause: Cause)
+pub(crate) fn tell_refusal<F: Link>(faults: &mut F, step: u64, cause: Cause)
     ensures { Tells (F.told faults.old) (F.told faults.new) (script_fault (Ok (End.Refused step cause))) }
 {
     let mut digits = Buffer::new();

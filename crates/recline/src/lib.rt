@@ -1,11 +1,13 @@
-//! The command line, the command `run`, which is one session with a client, and the command `drive`, which stamps the steps of a
-//! script.
+//! The command line, the command `run`, which is one session with a client, and the commands `drive` and `draw`, which stamp the
+//! steps of a script and draw them.
 #![tactic(auto)]
 
 mod args;
+mod drawing;
 mod driving;
 mod running;
 
 pub use args::{Command, read_args};
+pub use drawing::draw_on;
 pub use driving::drive_on;
 pub use running::{run_on, run_over};

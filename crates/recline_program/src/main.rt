@@ -4,7 +4,7 @@
 use clap::Error;
 use clap::error::ErrorKind;
 use line_disk::NullDisk;
-use recline::{Command, drive_on, read_args, run_on};
+use recline::{Command, draw_on, drive_on, read_args, run_on};
 use session::Streams;
 use std::env;
 use std::fs::File;
@@ -63,6 +63,7 @@ fn act<R: Read + Drop>(rt: &HostRuntime, command: Command<'_>, input: R) -> u8 {
     let status = match command {
         Command::Run => run_on(rt.alloc(), NullDisk::new(), &mut client, &mut faults),
         Command::Drive { .. } => drive_on(rt.alloc(), &mut client, &mut faults),
+        Command::Draw { failed, .. } => draw_on(rt.alloc(), &mut client, &mut faults, failed),
     };
     let (_input, output) = client.into_inner();
     // What could not be handed on is not tried once more, as it would be where the buffer is dropped.
@@ -86,6 +87,9 @@ fn main(rt: HostRuntime) -> ExitCode {
         Ok(words) => match read_args(rt.alloc(), &words) {
             Ok(Command::Run) => act(&rt, Command::Run, rt.reader()),
             Ok(Command::Drive { script }) => act_on(&rt, Command::Drive { script }, script),
+            Ok(Command::Draw { script, failed }) => {
+                act_on(&rt, Command::Draw { script, failed }, script)
+            }
             Err(error) => show(&rt, &error),
         },
         Err(error) => unread(&rt, &error),

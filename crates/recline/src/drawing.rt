@@ -1,0 +1,131 @@
+//! The command `draw`.
+
+ghost use Rattle.std.specs.Prelude.{◌<◌, IfSome, length};
+
+use crate::driving::{Unread, read_all, tell_all, tell_refusal, write_all};
+use crate::running::tell;
+use itoa::Buffer;
+use memchr::memchr;
+use picture::{Ending, draw};
+use report_line::Name;
+use session::Link;
+use std::alloc::Global;
+
+/// Why a list of names is not taken.
+enum Unnamed<'a> {
+    /// This part of it is no name.
+    Part(&'a [u8]),
+    Memory,
+}
+
+/// What stands in front of the first comma, and what behind it.
+fn cut_part(list: &[u8]) -> Option<(&[u8], &[u8])>
+    ensures { IfSome result (λ parts. length parts.1.now < length list.now) }
+{
+    let at = memchr(b',', list)?;
+    Some((&list[..at], &list[at + 1..]))
+}
+
+/// Adds the name that a part of a list is.
+fn add_name<'a>(names: &mut Vec<Name>, part: &'a [u8]) -> Result<(), Unnamed<'a>> {
+    let Some(name) = Name::from_bytes(part) else {
+        return Err(Unnamed::Part(part));
+    };
+    match names.push(name) {
+        Ok(()) => Ok(()),
+        Err(_) => Err(Unnamed::Memory),
+    }
+}
+
+/// The names of a list, which are parted by commas; `-` has none.
+fn read_names<'a>(alloc: Global, list: &'a [u8]) -> Result<Vec<Name>, Unnamed<'a>> {
+    let mut names = Vec::new(alloc);
+    if list == b"-".as_slice() {
+        return Ok(names);
+    }
+    let mut rest = list;
+    while let Some((part, behind)) = cut_part(rest) {
+        add_name(&mut names, part)?;
+        rest = behind;
+    }
+    add_name(&mut names, rest)?;
+    Ok(names)
+}
+
+/// Tells that no process has this name, and answers the status.
+fn tell_unknown<F: Link>(faults: &mut F, name: &[u8]) -> u8 {
+    tell_all(
+        faults,
+        &[b"recline: unknown ".as_slice(), name, b"\n".as_slice()],
+    );
+    2
+}
+
+/// Tells that the report of the step of this line is more than are accepted, and answers the status.
+fn tell_full<F: Link>(faults: &mut F, step: u64) -> u8 {
+    let mut digits = Buffer::new();
+    tell_all(
+        faults,
+        &[
+            b"recline: step ".as_slice(),
+            digits.format(step).as_bytes(),
+            b" full\n".as_slice(),
+        ],
+    );
+    2
+}
+
+/// Tells that memory or a device failed, and answers the status.
+fn tell_failure<F: Link>(faults: &mut F, line: &[u8]) -> u8 {
+    tell(faults, line);
+    3
+}
+
+/// Tells how the drawing ended, where not all steps are in the picture, and answers the status.
+fn tell_ending<F: Link>(faults: &mut F, ending: &Ending) -> u8 {
+    match ending {
+        Ending::Done => 0,
+        Ending::Refused { step, cause } => {
+            tell_refusal(faults, *step, *cause);
+            2
+        }
+        Ending::Full { step } => tell_full(faults, *step),
+        Ending::Unknown(name) => tell_unknown(faults, name.as_bytes()),
+        Ending::Memory => tell_failure(faults, b"recline: memory\n"),
+    }
+}
+
+/// Draws the script that the client gives, where the processes of these names failed.
+fn draw_over<K: Link, F: Link>(
+    alloc: Global,
+    client: &mut K,
+    faults: &mut F,
+    failed: &[Name],
+) -> u8 {
+    let script = match read_all(alloc, client) {
+        Ok(script) => script,
+        Err(Unread::Memory) => return tell_failure(faults, b"recline: memory\n"),
+        Err(Unread::Device) => return tell_failure(faults, b"recline: device\n"),
+    };
+    let (svg, ending) = draw(alloc, &script, failed);
+    match write_all(client, &svg) {
+        Ok(()) => tell_ending(faults, &ending),
+        Err(_) => tell_failure(faults, b"recline: device\n"),
+    }
+}
+
+/// The command `draw`: writes the picture of the script that the client gives to the client, where the processes of this list
+/// failed, or none without a list; tells why it is not whole, and answers the status of the process. A list with a part that
+/// is no name is told before the script is read.
+pub fn draw_on<K: Link, F: Link>(
+    alloc: Global,
+    client: &mut K,
+    faults: &mut F,
+    failed: Option<&str>,
+) -> u8 {
+    match read_names(alloc, failed.unwrap_or("-").as_bytes()) {
+        Ok(names) => draw_over(alloc, client, faults, &names),
+        Err(Unnamed::Part(part)) => tell_unknown(faults, part),
+        Err(Unnamed::Memory) => tell_failure(faults, b"recline: memory\n"),
+    }
+}

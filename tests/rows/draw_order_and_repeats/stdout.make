@@ -1,0 +1,1 @@
+"$program" draw "$rows/../../examples/ping_pong.script" --failed ping,pong

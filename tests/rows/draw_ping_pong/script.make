@@ -1,0 +1,1 @@
+cat "$rows/../../examples/ping_pong.script"

@@ -15,4 +15,4 @@ returns c =
     makes_fork _ _ _ _ c.args.child.now c.copy-4.result c.in_ok-alive.alive c.in-Ok.halves.0 c.in_ok-own.own c.in-Ok.halves.1 c.in_ok-given.given c.in_ok-id.id c.in_ok-events.events
     c.in_ok-action.action c.in-Ok.halves.0.id c.in-Ok.halves.1.id c.args.child.now c.in_ok-number.number c.told.result
     c.in_ok-alive.ensures (c.is_born.ensures.0 c.if-is_born.false) c.in-Ok.ensures c.in_ok-own.ensures c.in_ok-number.ensures.ok
-    refl c.copy-4.ensures refl c.in_ok-given.ensures c.in_ok-id.ensures c.in_ok-events.ensures refl refl c.in_ok-action.ensures (rw c.born-other.ensures at c.told.ensures)
+    refl c.copy-4.ensures refl c.in_ok-given.ensures.copy c.in_ok-id.ensures.copy c.in_ok-events.ensures.copy refl refl c.in_ok-action.ensures (rw c.born-other.ensures at c.told.ensures)

@@ -183,7 +183,7 @@ impl Id {
     }
 
     /// The id that the bytes spell, all of the bytes. The stack that it takes does not grow with how deeply brackets are
-    /// nested beyond the depth limit.
+    /// nested; the memory that it takes is a byte for each node and leaf, and one for each open bracket.
     pub fn parse(alloc: Global, bytes: &[u8]) -> Result<Id, IdFault>
         ensures ok { IfOk result (λ id. bytes.now ≡ spelling id) }
         ensures err { IfErr result (λ fault. IsFaultOf fault bytes.now) }
@@ -237,7 +237,7 @@ pub fn an_id_has_one_text()
     ensures { (i j : IdTree) → spelling i ≡ spelling j → i ≡ j }
 {}
 
-/// Each byte of a text is one of `(`, `)`, `,`, `0` and `1`: no space, no semicolon, no line feed.
+/// Each byte of a text is `(`, `)`, `,` or a digit: no space, no semicolon, no line feed.
 pub fn texts_of_ids_are_plain()
     ensures { (i : IdTree) → IsTrue (list_all is_tree_byte (spelling i)) }
 {}

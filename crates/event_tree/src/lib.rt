@@ -100,7 +100,7 @@ impl Events {
         ensures pointwise { IsTrue result ↔ IsAtOrBelow self.now other.now }
         ensures exceeding { (result ≡ false) ↔ ((p : Point) × (value_at other.now p < value_at self.now p)) }
     {
-        order::is_below_from(0, &self.node.view(), 0, &other.node.view())
+        order::is_below_from(0, self.node.view(), 0, other.node.view())
     }
 
     /// Whether this tree is greater than the other at some point that the id owns. It takes no memory.
@@ -108,7 +108,7 @@ impl Events {
     pub fn exceeds_on(&self, other: &Events, id: &Id) -> bool
         ensures { IsTrue result ↔ ExceedsOn id.now self.now other.now }
     {
-        order::exceeds_from(id.view(), 0, &self.node.view(), 0, &other.node.view())
+        order::exceeds_from(id.view(), 0, self.node.view(), 0, other.node.view())
     }
 
     /// At each point the greater value of the two.

@@ -1,4 +1,5 @@
 use Rattle.std.proofs.Common.{refl}
+use Rattle.std.proofs.lemmas.Result.{err_from_is_err_and}
 use Rattle.driver.proofs.Owners.{owner}
 use Rattle.driver.proofs.Made.{makes_fork}
 use Rattle.driver.proofs.Verdicts.{fork_fault}
@@ -9,6 +10,11 @@ halves-requires c = owner c.args.tables.now c.args.process.now c.in_ok-alive.ali
 
 pub returns-in-Err : goal.returns-in-Err
 returns-in-Err c = fork_fault _ _ _ _ c.in_ok-alive.alive c.in-Err.fault c.in_ok-alive.ensures (c.is_born.ensures.0 c.if-is_born.false) c.in-Err.ensures
+
+pub returns-in_err-own : goal.returns-in_err-own
+returns-in_err-own c =
+    let p = err_from_is_err_and c.from_residual-in_err-own.result c.from_residual-in_err-own.ensures.1 in
+    rw (p.1, p.2) (λ other. absurd (other refl))
 
 pub returns : goal.returns
 returns c =

@@ -1,4 +1,7 @@
 pub mod Trees
+pub mod Preorder
+pub mod Closed
+pub mod Measures
 pub mod Orders
 pub mod Numerals
 pub mod Texts
@@ -12,3 +15,4 @@ pub mod Fills
 pub mod Growth
 pub mod Costs
 pub mod Steps
+pub mod Filling

@@ -1,11 +1,12 @@
 -- What the walks of two trees answer.
-use Rattle.std.proofs.Common.{◌≡◌, ℕ, ◌+◌, ◌≤◌, ◌<◌, true, false, [], ◌∷◌, refl, inl, inr, ◌↔◌, IsTrue, arith, leb-true, leb-false}
-use Rattle.std.proofs.lemmas.Bool.{both_ways, and_parts, and_cases, or_cases, or_parts, not-true, not-false, cases_Bool}
+use Rattle.std.proofs.Common.{◌≡◌, ℕ, ◌+◌, ◌≤◌, ◌<◌, true, false, [], ◌∷◌, max, refl, sym, ap, ◌∙◌, inl, inr, ◌↔◌, IsTrue, arith, leb-true, leb-false}
+use Rattle.std.specs.Prelude.{nat_le, ◌&&◌}
+use Rattle.std.proofs.lemmas.Bool.{both_ways, and_parts, and_cases, or_cases, or_parts, not-true, not-false, cases_Bool, le-leb, lt-leb}
 use Rattle.id_tree.specs.IdTree.{IdTree, Zero, One, Pair}
 use Rattle.id_tree.specs.Points.{Point, owns}
 use Rattle.event_tree.specs.EventTree.{EventTree, Leaf, Node}
 use Rattle.event_tree.specs.Values.{value_at, IsAtOrBelow, ExceedsOn}
-use Rattle.event_tree.specs.NormalForm.{least}
+use Rattle.event_tree.specs.NormalForm.{least, greatest}
 use Rattle.event_tree.specs.Halves.{root, left, right}
 use Rattle.event_tree.specs.Tests.{is_below_from, exceeds_from}
 use Rattle.event_tree.proofs.Trees.{value_at-nil, value_at-left, value_at-right, least_le, some_least}
@@ -68,3 +69,28 @@ exceeding_is_pointwise i e f = (
     | inr h ↦ absurd (omega (arith, q.2, exceeds_from-false i 0 e 0 f h q.0 q.1))
   ],
 )
+
+-- ---- a tree beside a leaf
+
+both_at_most : (m n k : ℕ) → (nat_le m k && nat_le n k) ≡ nat_le (max m n) k
+both_at_most m n k =
+    elim (cases_Bool (nat_le m k)) [
+      | inl h ↦ elim (cases_Bool (nat_le n k)) [
+        | inl g ↦ let all : nat_le (max m n) k ≡ true = le-leb (max m n) k (omega (arith, leb-true m k h, leb-true n k g)) in rw (h, g, all) refl
+        | inr g ↦ let some : nat_le (max m n) k ≡ false = lt-leb (max m n) k (omega (arith, leb-false n k g)) in rw (h, g, some) refl
+      ]
+      | inr h ↦ let some : nat_le (max m n) k ≡ false = lt-leb (max m n) k (omega (arith, leb-false m k h)) in rw (h, some) refl
+    ]
+
+pub greatest_at_most : (x m : ℕ) (a b : EventTree) (k : ℕ) → (nat_le (x + m + greatest a) k && nat_le (x + m + greatest b) k) ≡ nat_le (x + greatest (Node m a b)) k
+greatest_at_most x m a b k =
+    let is : max (x + m + greatest a) (x + m + greatest b) ≡ x + greatest (Node m a b) = omega arith in
+    both_at_most (x + m + greatest a) (x + m + greatest b) k ∙ ap (λ (g : ℕ). nat_le g k) is
+
+pub below_leaf : (x : ℕ) (e : EventTree) (y n : ℕ) → nat_le (x + greatest e) (y + n) ≡ is_below_from x e y (Leaf n)
+below_leaf x (Leaf m) y n = refl
+below_leaf x (Node m a b) y n =
+    let none : y + n + 0 ≡ y + n = omega arith in
+    let one : is_below_from (x + m) a (y + n) (Leaf 0) ≡ nat_le (x + m + greatest a) (y + n) = sym (below_leaf (x + m) a (y + n) 0) ∙ ap (nat_le (x + m + greatest a)) none in
+    let other : is_below_from (x + m) b (y + n) (Leaf 0) ≡ nat_le (x + m + greatest b) (y + n) = sym (below_leaf (x + m) b (y + n) 0) ∙ ap (nat_le (x + m + greatest b)) none in
+    rw (one, other) (sym (greatest_at_most x m a b (y + n)))

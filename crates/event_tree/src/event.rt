@@ -1,58 +1,54 @@
 //! The step of an event: fill where that changes the tree, and grow otherwise.
 
-ghost use Rattle.std.specs.Prelude.{◌≡◌, ◌≢◌, ◌+◌, ◌≤◌, ◌<◌, ◌^◌, max, IfOk, MatchOption};
+ghost use Rattle.std.specs.Prelude.{◌≡◌, ◌≢◌, ◌+◌, ◌≤◌, ◌<◌, ◌^◌, ◌++◌, true, false, max, IfOk, OnOk, MatchOption};
 ghost use Rattle.id_tree.specs.IdTree.{Zero};
 ghost use Rattle.id_tree.specs.NormalForm.{IsNormal as IsNormalId, depth as id_depth};
+ghost use Rattle.event_tree.specs.EventTree as trees;
 ghost use Rattle.event_tree.specs.NormalForm.{greatest, IsNormal};
+ghost use Rattle.event_tree.specs.Entries.{preorder};
 ghost use Rattle.event_tree.specs.Event as events;
 ghost use Rattle.event_tree.specs.Walks as walks;
-ghost use Rattle.event_tree.specs.Nodes.{tree_of, cost_of};
+ghost use Rattle.event_tree.specs.Walks.{cost_of};
 
+use crate::closing;
+use crate::entries::{self, Entries, Entry};
 use crate::node::Node;
+use crate::part::{EventPart, EventView};
 use id_tree::{IdPart, IdView};
+use smallvec::SmallVec;
 use std::alloc::{AllocError, Global};
 
-// The node of two halves that are filled; one that the id owns whole is raised to the least value of the other.
-#[tactic(auto, using(crate::proofs::Trees::least_le_greatest))]
-fn filled_node(
-    alloc: Global,
-    l: &IdView,
-    r: &IdView,
-    n: u32,
-    a: Node,
-    b: Node,
-) -> Result<Node, AllocError>
-    requires { n + max (greatest (tree_of a)) (greatest (tree_of b)) < 2 ^ 32 }
-    ensures { IfOk result (λ node. tree_of node ≡ walks.filled_node l.now r.now n (tree_of a) (tree_of b)) }
+// The greatest value.
+fn greatest(e: &EventView) -> u32
+    requires { greatest e.now < 2 ^ 32 }
+    ensures { result ≡ greatest e.now }
 {
-    match (l.part(), r.part()) {
-        (IdPart::Everything, _) => {
-            let value = a.greatest().max(b.least());
-            Node::normal(alloc, n, Node::Leaf(value), b)
-        }
-        (_, IdPart::Everything) => {
-            let value = b.greatest().max(a.least());
-            Node::normal(alloc, n, a, Node::Leaf(value))
-        }
-        _ => Node::normal(alloc, n, a, b),
+    match e.part() {
+        EventPart::Leaf(n) => n,
+        EventPart::Node(n, a, b) => n + greatest(&a).max(greatest(&b)),
     }
 }
 
-#[tactic(auto, using(crate::proofs::Fills::greatest_filled))]
-fn filled(alloc: Global, id: &IdView, e: &Node) -> Result<Node, AllocError>
+// Appends the tree, filled.
+fn filled_into(out: &mut Entries, id: &IdView, e: &EventView) -> Result<(), AllocError>
     requires normal { IsNormalId id.now }
-    requires fits { greatest (tree_of e.now) < 2 ^ 32 }
-    ensures { IfOk result (λ node. tree_of node ≡ walks.filled id.now (tree_of e.now)) }
+    requires tree_normal { IsNormal e.now }
+    requires fits { greatest e.now < 2 ^ 32 }
+    ensures { OnOk result (out.new.items ≡ out.old.items ++ preorder (walks.filled id.now e.now)) }
 {
     match id.part() {
-        IdPart::Nothing => e.copy(alloc),
-        IdPart::Everything => Ok(Node::Leaf(e.greatest())),
-        IdPart::Halves(l, r) => match e {
-            Node::Leaf(n) => Ok(Node::Leaf(*n)),
-            Node::Branch(n, p) => {
-                let left = filled(alloc, &l, &p.0)?;
-                let right = filled(alloc, &r, &p.1)?;
-                filled_node(alloc, &l, &r, *n, left, right)
+        IdPart::Nothing => e.append(out),
+        IdPart::Everything => entries::push_leaf(out, greatest(e)),
+        IdPart::Halves(l, r) => match e.part() {
+            EventPart::Leaf(n) => entries::push_leaf(out, n),
+            EventPart::Node(n, a, b) => {
+                let start = out.len();
+                out.push(Entry::default())?;
+                filled_into(out, &l, &a)?;
+                let middle = out.len();
+                filled_into(out, &r, &b)?;
+                closing::raise_owned(out, &l, &r, start, middle);
+                closing::close(out, n, start, middle)
             }
         },
     }
@@ -82,9 +78,9 @@ fn grows_left(l: &IdView, r: &IdView, c: GrowthCost, d: GrowthCost) -> bool
 }
 
 #[tactic(auto, using(crate::proofs::Growth::cost_within))]
-fn cost(id: &IdView, e: &Node) -> GrowthCost
+fn cost(id: &IdView, e: &EventView) -> GrowthCost
     requires { id_depth id.now < 2 ^ 32 }
-    ensures { cost_of result ≡ events.cost id.now (tree_of e.now) }
+    ensures { cost_of result ≡ events.cost id.now e.now }
 {
     match id.part() {
         IdPart::Nothing | IdPart::Everything => GrowthCost {
@@ -92,78 +88,99 @@ fn cost(id: &IdView, e: &Node) -> GrowthCost
             levels: 0,
         },
         IdPart::Halves(l, r) => {
-            let zero = Node::Leaf(0);
-            let (opened, a, b): (u32, &Node, &Node) = match e {
-                Node::Leaf(_) => (1, &zero, &zero),
-                Node::Branch(_, p) => (0, &p.0, &p.1),
-            };
-            let c = cost(&l, a);
-            let d = cost(&r, b);
+            let (_, a, b) = e.halves();
+            let c = cost(&l, &a);
+            let d = cost(&r, &b);
             let best = if grows_left(&l, &r, c, d) { c } else { d };
             GrowthCost {
-                opened: best.opened + opened,
+                opened: best.opened + e.opened(),
                 levels: best.levels + 1,
             }
         }
     }
 }
 
-// The tree above `base` grown at the least cost, or `None` where a value would pass the limit.
-#[tactic(auto, using(crate::proofs::Normal::greatest_lifted, crate::proofs::Normal::root_le_greatest))]
-fn grown(alloc: Global, id: &IdView, base: u32, e: &Node) -> Result<Option<Node>, AllocError>
+// Appends the tree above `base`, grown at the least cost; or says that a value would pass the limit.
+fn grown_into(out: &mut Entries, id: &IdView, base: u32, e: &EventView) -> Result<bool, AllocError>
     requires depth { id_depth id.now < 2 ^ 32 }
-    requires fits { base + greatest (tree_of e.now) < 2 ^ 32 }
-    ensures { IfOk result (λ o. MatchOption o (2 ^ 32 ≤ base + greatest (events.grow id.now (tree_of e.now))) (λ node. (tree_of node ≡ events.grow id.now (tree_of e.now)) × (base + greatest (events.grow id.now (tree_of e.now)) < 2 ^ 32))) }
+    requires fits { base + greatest e.now < 2 ^ 32 }
+    ensures grown { IfOk result (λ fits. fits ≡ true → out.new.items ≡ out.old.items ++ preorder (events.grow id.now e.now)) }
+    ensures within { IfOk result (λ fits. fits ≡ true → base + greatest (events.grow id.now e.now) < 2 ^ 32) }
+    ensures past { IfOk result (λ fits. fits ≡ false → 2 ^ 32 ≤ base + greatest (events.grow id.now e.now)) }
 {
     match id.part() {
-        IdPart::Nothing => Ok(Some(e.copy(alloc)?)),
+        IdPart::Nothing => {
+            e.append(out)?;
+            Ok(true)
+        }
         IdPart::Everything => {
-            if base + e.greatest() == u32::MAX {
-                Ok(None)
-            } else {
-                let mut tree = e.copy(alloc)?;
-                tree.lift();
-                Ok(Some(tree))
+            if base + greatest(e) == u32::MAX {
+                return Ok(false);
             }
+            e.append_lifted(out, 1)?;
+            Ok(true)
         }
         IdPart::Halves(l, r) => {
-            let zero = Node::Leaf(0);
-            let (n, a, b): (u32, &Node, &Node) = match e {
-                Node::Leaf(n) => (*n, &zero, &zero),
-                Node::Branch(n, p) => (*n, &p.0, &p.1),
-            };
-            if grows_left(&l, &r, cost(&l, a), cost(&r, b)) {
-                match grown(alloc, &l, base + n, a)? {
-                    None => Ok(None),
-                    Some(left) => {
-                        let right = b.copy(alloc)?;
-                        Ok(Some(Node::branch(alloc, n, left, right)?))
-                    }
+            let (n, a, b) = e.halves();
+            let start = out.len();
+            out.push(Entry::default())?;
+            if grows_left(&l, &r, cost(&l, &a), cost(&r, &b)) {
+                if !grown_into(out, &l, base + n, &a)? {
+                    return Ok(false);
                 }
+                b.append(out)?;
+                closing::seal(out, n, start)?;
+                Ok(true)
             } else {
-                match grown(alloc, &r, base + n, b)? {
-                    None => Ok(None),
-                    Some(right) => {
-                        let left = a.copy(alloc)?;
-                        Ok(Some(Node::branch(alloc, n, left, right)?))
-                    }
+                a.append(out)?;
+                if !grown_into(out, &r, base + n, &b)? {
+                    return Ok(false);
                 }
+                closing::seal(out, n, start)?;
+                Ok(true)
             }
         }
     }
 }
 
+// The tree grown at the least cost, or `None` where a value would pass the limit.
+fn grown(alloc: Global, id: &IdView, e: &EventView) -> Result<Option<Node>, AllocError>
+    requires depth { id_depth id.now < 2 ^ 32 }
+    requires fits { greatest e.now < 2 ^ 32 }
+    ensures { IfOk result (λ o. MatchOption o (2 ^ 32 ≤ greatest (events.grow id.now e.now)) (λ node. (node ≡ events.grow id.now e.now) × (greatest (events.grow id.now e.now) < 2 ^ 32))) }
+{
+    let mut out = SmallVec::with_capacity(alloc, e.entries().len())?;
+    if grown_into(&mut out, id, 0, e)? {
+        Ok(Some(Node::of(out)))
+    } else {
+        Ok(None)
+    }
+}
+
+// The tree, filled.
+fn filled(alloc: Global, id: &IdView, e: &EventView) -> Result<Node, AllocError>
+    requires normal { IsNormalId id.now }
+    requires tree_normal { IsNormal e.now }
+    requires fits { greatest e.now < 2 ^ 32 }
+    ensures { IfOk result (λ node. node ≡ walks.filled id.now e.now) }
+{
+    let mut out = SmallVec::with_capacity(alloc, e.entries().len())?;
+    filled_into(&mut out, id, e)?;
+    Ok(Node::of(out))
+}
+
 // What an event makes of the tree, or `None` where a value would pass the limit.
 pub fn event_step(alloc: Global, id: &IdView, e: &Node) -> Result<Option<Node>, AllocError>
     requires normal { IsNormalId id.now }
-    requires tree_normal { IsNormal (tree_of e.now) }
+    requires tree_normal { IsNormal e.now }
     requires depth { id_depth id.now < 2 ^ 32 }
-    requires fits { greatest (tree_of e.now) < 2 ^ 32 }
-    ensures { IfOk result (λ o. MatchOption o (events.PassesLimit id.now (tree_of e.now)) (λ node. events.IsEventStep id.now (tree_of e.now) (tree_of node) × (greatest (tree_of node) < 2 ^ 32))) }
+    requires fits { greatest e.now < 2 ^ 32 }
+    ensures { IfOk result (λ o. MatchOption o (events.PassesLimit id.now e.now) (λ node. events.IsEventStep id.now e.now node × (greatest node < 2 ^ 32))) }
 {
-    let tree = filled(alloc, id, e)?;
+    let view = e.view();
+    let tree = filled(alloc, id, &view)?;
     if tree.is_same(e) {
-        grown(alloc, id, 0, e)
+        grown(alloc, id, &view)
     } else {
         Ok(Some(tree))
     }

@@ -1,47 +1,79 @@
-//! The join of two event trees.
+//! The join of two event trees, in one pass over both into one list.
 
-ghost use Rattle.std.specs.Prelude.{◌≡◌, ◌+◌, ◌<◌, ◌^◌, IfOk};
-ghost use Rattle.event_tree.specs.NormalForm.{greatest};
+ghost use Rattle.std.specs.Prelude.{◌≡◌, ◌+◌, ◌<◌, ◌^◌, ◌++◌, IfOk, OnOk};
+ghost use Rattle.event_tree.specs.NormalForm.{greatest, IsNormal};
+ghost use Rattle.event_tree.specs.Entries.{preorder};
 ghost use Rattle.event_tree.specs.Walks as walks;
-ghost use Rattle.event_tree.specs.Nodes.{tree_of};
 
+use crate::closing;
+use crate::entries::{self, Entries, Entry};
 use crate::node::Node;
+use crate::part::{EventPart, EventView};
+use smallvec::SmallVec;
 use std::alloc::{AllocError, Global};
 
-// `f` above the base `y`, raised to `k` where it is less.
-#[tactic(auto, using(crate::proofs::Joins::greatest_raised))]
-fn raised(alloc: Global, k: u32, y: u32, f: &Node) -> Result<Node, AllocError>
-    requires { y + greatest (tree_of f.now) < 2 ^ 32 }
-    ensures { IfOk result (λ node. tree_of node ≡ walks.raised k y (tree_of f.now)) }
+// Appends `f` above the base `y`, raised to `k` where it is less.
+fn raised_into(out: &mut Entries, k: u32, y: u32, f: &EventView) -> Result<(), AllocError>
+    requires fits { y + greatest f.now < 2 ^ 32 }
+    requires normal { IsNormal f.now }
+    ensures { OnOk result (out.new.items ≡ out.old.items ++ preorder (walks.raised k y f.now)) }
 {
-    match f {
-        Node::Leaf(n) => Ok(Node::Leaf(k.max(y + *n))),
-        Node::Branch(n, q) => {
-            let left = raised(alloc, k, y + *n, &q.0)?;
-            let right = raised(alloc, k, y + *n, &q.1)?;
-            Node::normal(alloc, 0, left, right)
+    if k <= y + f.root() {
+        return f.append_lifted(out, y);
+    }
+    match f.part() {
+        EventPart::Leaf(_) => entries::push_leaf(out, k),
+        EventPart::Node(n, c, d) => {
+            let start = out.len();
+            out.push(Entry::default())?;
+            raised_into(out, k, y + n, &c)?;
+            let middle = out.len();
+            raised_into(out, k, y + n, &d)?;
+            closing::close(out, 0, start, middle)
         }
     }
 }
 
-// The greater of `e` above the base `x` and `f` above the base `y`, in normal form.
-#[tactic(auto, using(crate::proofs::Joins::greatest_join_from))]
-pub fn join_from(alloc: Global, x: u32, e: &Node, y: u32, f: &Node) -> Result<Node, AllocError>
-    requires e_fits { x + greatest (tree_of e.now) < 2 ^ 32 }
-    requires f_fits { y + greatest (tree_of f.now) < 2 ^ 32 }
-    ensures { IfOk result (λ node. tree_of node ≡ walks.join_from x (tree_of e.now) y (tree_of f.now)) }
+// Appends the greater of `e` above the base `x` and `f` above the base `y`, in normal form.
+fn join_into(
+    out: &mut Entries,
+    x: u32,
+    e: &EventView,
+    y: u32,
+    f: &EventView,
+) -> Result<(), AllocError>
+    requires e_fits { x + greatest e.now < 2 ^ 32 }
+    requires e_normal { IsNormal e.now }
+    requires f_fits { y + greatest f.now < 2 ^ 32 }
+    requires f_normal { IsNormal f.now }
+    ensures { OnOk result (out.new.items ≡ out.old.items ++ preorder (walks.join_from x e.now y f.now)) }
 {
-    match e {
-        Node::Leaf(m) => raised(alloc, x + *m, y, f),
-        Node::Branch(m, p) => {
-            let zero = Node::Leaf(0);
-            let (n, c, d): (u32, &Node, &Node) = match f {
-                Node::Leaf(n) => (*n, &zero, &zero),
-                Node::Branch(n, q) => (*n, &q.0, &q.1),
-            };
-            let left = join_from(alloc, x + *m, &p.0, y + n, c)?;
-            let right = join_from(alloc, x + *m, &p.1, y + n, d)?;
-            Node::normal(alloc, 0, left, right)
-        }
+    match e.part() {
+        EventPart::Leaf(m) => raised_into(out, x + m, y, f),
+        EventPart::Node(m, a, b) => match f.part() {
+            EventPart::Leaf(n) => raised_into(out, y + n, x, e),
+            EventPart::Node(n, c, d) => {
+                let start = out.len();
+                out.push(Entry::default())?;
+                join_into(out, x + m, &a, y + n, &c)?;
+                let middle = out.len();
+                join_into(out, x + m, &b, y + n, &d)?;
+                closing::close(out, 0, start, middle)
+            }
+        },
     }
+}
+
+// The greater of both, in normal form.
+pub fn join(alloc: Global, e: &EventView, f: &EventView) -> Result<Node, AllocError>
+    requires e_fits { greatest e.now < 2 ^ 32 }
+    requires e_normal { IsNormal e.now }
+    requires f_fits { greatest f.now < 2 ^ 32 }
+    requires f_normal { IsNormal f.now }
+    ensures { IfOk result (λ node. node ≡ walks.join_from 0 e.now 0 f.now) }
+{
+    let room = e.entries().len().max(f.entries().len());
+    let mut out = SmallVec::with_capacity(alloc, room)?;
+    join_into(&mut out, 0, e, 0, f)?;
+    Ok(Node::of(out))
 }

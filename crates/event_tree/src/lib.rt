@@ -4,7 +4,7 @@
 //! deep, with no value above 4,294,967,295, so that equal functions are equal trees with one text.
 #![tactic(auto)]
 
-ghost use Rattle.std.specs.Prelude.{◌≡◌, ◌↔◌, ◌++◌, ◌≤◌, ◌<◌, ◌+◌, ◌≢◌, ℕ, max, List, true, false, IsTrue, IfOk, IfErr, MatchResult, OnOk, OnErr, IsErr};
+ghost use Rattle.std.specs.Prelude.{◌≡◌, ◌↔◌, ◌++◌, ◌≤◌, ◌<◌, ◌+◌, ◌≢◌, ℕ, max, List, true, false, IsTrue, IsOk, IfOk, IfErr, MatchResult, OnOk, OnErr, IsErr};
 ghost use Rattle.std.specs.List.{list_all};
 ghost use Rattle.id_tree.specs.IdTree.{IdTree, Zero};
 ghost use Rattle.id_tree.specs.NormalForm.{depth_limit, depth as id_depth, IsNormal as IsNormalId};
@@ -13,6 +13,7 @@ ghost use Rattle.id_tree.specs.Spelling.{is_tree_byte};
 ghost use Rattle.event_tree.specs.EventTree.{EventTree, Leaf};
 ghost use Rattle.event_tree.specs.Values.{value_at, IsAtOrBelow, ExceedsOn};
 ghost use Rattle.event_tree.specs.NormalForm.{IsEvents, IsNormal, depth, least, greatest, value_limit};
+ghost use Rattle.event_tree.specs.Size.{size};
 ghost use Rattle.event_tree.specs.Spelling.{spelling, IsTextOf};
 ghost use Rattle.event_tree.specs.Faults.{IsFaultOf, IsEventFaultOf};
 ghost use Rattle.event_tree.specs.Join.{IsJoin};
@@ -21,12 +22,15 @@ ghost use Rattle.event_tree.specs.Norm.{norm};
 ghost use Rattle.event_tree.specs.Event.{IsEventStep, PassesLimit, fill, cost, grow};
 ghost use Rattle.event_tree.specs.Ways.{CanGrow, CostsNoMore, way, IsAtOrRightOf};
 
+mod closing;
+mod entries;
 mod event;
 mod fault;
 mod join;
 mod measured;
 mod node;
 mod order;
+mod part;
 mod reader;
 
 pub use fault::{EventFault, EventsFault};
@@ -45,24 +49,23 @@ pub struct Events {
 impl Model for Events {
     ghost use Rattle.event_tree.specs.EventTree.{EventTree, event_tree_code};
     ghost use Rattle.event_tree.specs.NormalForm.{IsEvents};
-    ghost use Rattle.event_tree.specs.Nodes.{tree_of};
 
     ghost Value = { EventTree };
 
     ghost coded = { event_tree_code };
 
-    ghost view = { λ a. tree_of a.node };
+    ghost view = { λ a. a.node };
 
-    ghost invariant = { λ a. IsEvents (tree_of a.node) };
+    ghost invariant = { λ a. IsEvents a.node };
 }
 
 impl Events {
     /// No events anywhere. It takes no memory.
-    pub fn zero(_alloc: Global) -> Events
+    pub fn zero(alloc: Global) -> Events
         ensures { result ≡ Leaf 0 }
     {
         Events {
-            node: Node::Leaf(0),
+            node: Node::leaf(alloc, 0),
         }
     }
 
@@ -80,12 +83,13 @@ impl Events {
     pub fn equal(&self, other: &Events) -> bool
         ensures { IsTrue result ↔ (self.now ≡ other.now) }
     {
-        self.node.is_equal_leaf(&other.node) || self.node.is_same(&other.node)
+        self.node.is_same(&other.node)
     }
 
-    /// The same event tree once more.
+    /// The same event tree once more. One of at most 8 nodes and leaves takes no memory.
     pub fn copy(&self, alloc: Global) -> Result<Events, AllocError>
-        ensures { IfOk result (λ e. e ≡ self.now) }
+        ensures copy { IfOk result (λ e. e ≡ self.now) }
+        ensures small { size self.now ≤ 8 → IsOk result }
     {
         let node = self.node.copy(alloc)?;
         Ok(Events { node })
@@ -96,7 +100,7 @@ impl Events {
         ensures pointwise { IsTrue result ↔ IsAtOrBelow self.now other.now }
         ensures exceeding { (result ≡ false) ↔ ((p : Point) × (value_at other.now p < value_at self.now p)) }
     {
-        order::is_below_from(0, &self.node, 0, &other.node)
+        order::is_below_from(0, self.node.view(), 0, other.node.view())
     }
 
     /// Whether this tree is greater than the other at some point that the id owns. It takes no memory.
@@ -104,14 +108,14 @@ impl Events {
     pub fn exceeds_on(&self, other: &Events, id: &Id) -> bool
         ensures { IsTrue result ↔ ExceedsOn id.now self.now other.now }
     {
-        order::exceeds_from(id.view(), 0, &self.node, 0, &other.node)
+        order::exceeds_from(id.view(), 0, self.node.view(), 0, other.node.view())
     }
 
     /// At each point the greater value of the two.
     pub fn join(&self, alloc: Global, other: &Events) -> Result<Events, AllocError>
         ensures { IfOk result (λ joined. IsJoin self.now other.now joined) }
     {
-        let node = join::join_from(alloc, 0, &self.node, 0, &other.node)?;
+        let node = join::join(alloc, &self.node.view(), &other.node.view())?;
         Ok(Events { node })
     }
 
@@ -146,7 +150,7 @@ impl Events {
     {
         match reader::read(alloc, bytes)? {
             Part::Normal(_, _, Some(tree)) => Ok(Events {
-                node: tree.into_node(),
+                node: tree.node(alloc)?,
             }),
             Part::Normal(_, depth, None) => {
                 if depth > 40 {

@@ -1,7 +1,13 @@
-pub mod Fronts
+pub mod Preorder
+pub mod Closing
 pub mod Points
-pub mod Runs
-pub mod Verdicts
-pub mod Texts
 pub mod Splits
 pub mod Sums
+pub mod Texts
+pub mod Apart
+pub mod Equal
+pub mod Shapes
+pub mod Fronts
+pub mod Runs
+pub mod Steps
+pub mod Forms

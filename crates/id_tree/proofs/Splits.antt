@@ -1,5 +1,5 @@
 -- The two parts of a split.
-use Rattle.std.proofs.Common.{◌≡◌, ◌≢◌, ◌≤◌, true, false, [], ◌∷◌, refl, sym, arith}
+use Rattle.std.proofs.Common.{◌≡◌, ◌≢◌, ◌≤◌, true, false, List, [], ◌∷◌, ◌++◌, refl, sym, ◌∙◌, arith}
 use Rattle.std.proofs.Math.Bool.{or-false}
 use Rattle.std.proofs.lemmas.Bool.{both_ways, true≢false}
 use Rattle.id_tree.specs.IdTree.{IdTree, Zero, One, Pair}
@@ -7,10 +7,10 @@ use Rattle.id_tree.specs.NormalForm.{IsNormal, IsId, are_equal_leaves, depth_lim
 use Rattle.id_tree.specs.Points.{owns, OwnsSome, AreDisjoint, AreTogether}
 use Rattle.id_tree.specs.Split.{left_part, right_part, parts_depth, IsSplit}
 use Rattle.id_tree.specs.Tests.{owns_any}
+use Rattle.id_tree.specs.Marks.{preorder, tree_of, AreMarksOf}
+use Rattle.id_tree.specs.declared.marks.Mark.{Mark}
+use Rattle.id_tree.proofs.Preorder.{are_of, tree_of_preorder}
 use Rattle.id_tree.proofs.Points.{some_point}
-use Rattle.id_tree.specs.Nodes.{tree_of}
-use Rattle.id_tree.specs.declared.node.Node.{Node, Pair'}
-use Rattle.id_tree.specs.declared.node.Node.TheVariants as nodes
 
 -- two halves that both own something are the parts
 both_owned : (l r : IdTree) → l ≢ Zero → r ≢ Zero → (left_part (Pair l r) ≡ Pair l Zero) × (right_part (Pair l r) ≡ Pair Zero r)
@@ -21,17 +21,6 @@ both_owned One (Pair c d) h k = (refl, refl)
 both_owned (Pair a b) Zero h k = absurd (k refl)
 both_owned (Pair a b) One h k = (refl, refl)
 both_owned (Pair a b) (Pair c d) h k = (refl, refl)
-
-other_node : (n : Node) → n ≢ nodes.Zero → tree_of n ≢ Zero
-other_node nodes.Zero h e = h refl
-other_node nodes.One h e = cc
-other_node (Pair' p l r) h e = cc
-
-pub left_of_both : (l r : Node) → l ≢ nodes.Zero → r ≢ nodes.Zero → left_part (Pair (tree_of l) (tree_of r)) ≡ Pair (tree_of l) Zero
-left_of_both l r h k = (both_owned (tree_of l) (tree_of r) (other_node l h) (other_node r k)).0
-
-pub right_of_both : (l r : Node) → l ≢ nodes.Zero → r ≢ nodes.Zero → right_part (Pair (tree_of l) (tree_of r)) ≡ Pair Zero (tree_of r)
-right_of_both l r h k = (both_owned (tree_of l) (tree_of r) (other_node l h) (other_node r k)).1
 
 -- ---- the parts of the whole
 
@@ -141,3 +130,18 @@ right_is_id i r is n e d = rw is (record { normal = (normal_parts i n.normal (ot
 
 pub are_split : (i l r : IdTree) → l ≡ left_part i → r ≡ right_part i → IsNormal i → owns_any i ≡ true → IsSplit i l r
 are_split i l r el er n e = rw (el, er) (split_of i n (other_than_nothing i e))
+
+-- ---- the marks of both parts
+
+-- what appends to nothing the marks that follow from a tree
+pub marks_alone : (f : IdTree → IdTree) (i : IdTree) (ms start part : List Mark) → tree_of ms ≡ i → start ≡ [] → part ≡ start ++ preorder (f (tree_of ms)) → part ≡ preorder (f i)
+marks_alone f i ms start part e none is = is ∙ rw (none, e) refl
+
+pub are_of_left : (i : IdTree) (part : List Mark) → IsId i → owns_any i ≡ true → parts_depth i ≤ depth_limit → part ≡ preorder (left_part i) → AreMarksOf (tree_of part) part
+are_of_left i part n e d is = are_of (left_part i) part is (left_is_id i _ refl n e d)
+
+pub are_of_right : (i : IdTree) (part : List Mark) → IsId i → owns_any i ≡ true → parts_depth i ≤ depth_limit → part ≡ preorder (right_part i) → AreMarksOf (tree_of part) part
+are_of_right i part n e d is = are_of (right_part i) part is (right_is_id i _ refl n e d)
+
+pub marks_split : (i : IdTree) (l r : List Mark) → IsId i → owns_any i ≡ true → l ≡ preorder (left_part i) → r ≡ preorder (right_part i) → IsSplit i (tree_of l) (tree_of r)
+marks_split i l r n e left right = are_split i _ _ (tree_of_preorder _ l left) (tree_of_preorder _ r right) n.normal e

@@ -1,5 +1,5 @@
 -- What the sum of two ids owns, its form, and what the test for it tells.
-use Rattle.std.proofs.Common.{◌≡◌, ◌↔◌, ◌+◌, ◌≤◌, ◌||◌, max, Bool, true, false, [], ◌∷◌, inl, inr, refl, sym, ◌∙◌, arith}
+use Rattle.std.proofs.Common.{◌≡◌, ◌↔◌, ◌+◌, ◌≤◌, ◌||◌, max, Bool, true, false, List, [], ◌∷◌, ◌++◌, inl, inr, refl, sym, ◌∙◌, arith}
 use Rattle.std.proofs.Math.Bool.{or-false}
 use Rattle.std.proofs.lemmas.Bool.{and_from, or_parts, cases_Bool, both_ways, true≢false}
 use Rattle.id_tree.specs.IdTree.{IdTree, Zero, One, Pair}
@@ -7,6 +7,9 @@ use Rattle.id_tree.specs.NormalForm.{IsNormal, IsId, are_equal_leaves, depth}
 use Rattle.id_tree.specs.Points.{Point, owns, AreDisjoint, AreTogether}
 use Rattle.id_tree.specs.Sum.{normal_pair, sum_of}
 use Rattle.id_tree.specs.Tests.{are_disjoint, IsSumBy}
+use Rattle.id_tree.specs.Marks.{preorder, tree_of, AreMarksOf}
+use Rattle.id_tree.specs.declared.marks.Mark.{Mark}
+use Rattle.id_tree.proofs.Preorder.{are_of, tree_of_preorder}
 use Rattle.id_tree.proofs.Points.{equal_points, some_point, disjoint_from}
 
 -- what holds of both forms of a pair holds of the normal one
@@ -110,3 +113,14 @@ is_sum_iff i l r n m k = (
 
 pub is_disjoint_sum_iff : (i l r : IdTree) → IsNormal i → IsNormal l → IsNormal r → AreDisjoint l r → IsSumBy i l r ↔ (i ≡ sum_of l r)
 is_disjoint_sum_iff i l r n m k apart = (λ h. (sum_from_test i l r n h).1, λ e. test_from_points i l r n m k apart (sum_together l r i e))
+
+-- ---- of the marks of two ids
+
+pub are_of_sum : (i j : IdTree) (sum : List Mark) → IsId i → IsId j → sum ≡ preorder (sum_of i j) → AreMarksOf (tree_of sum) sum
+are_of_sum i j sum m n e = are_of (sum_of i j) sum e (sum_is_id i j _ refl m n)
+
+pub marks_together : (i j : IdTree) (sum : List Mark) → sum ≡ preorder (sum_of i j) → AreTogether i j (tree_of sum)
+marks_together i j sum e = sum_together i j _ (tree_of_preorder _ sum e)
+
+pub sum_marks : (i j : IdTree) (start ms ns sum : List Mark) → tree_of ms ≡ i → tree_of ns ≡ j → start ≡ [] → sum ≡ start ++ preorder (sum_of (tree_of ms) (tree_of ns)) → sum ≡ preorder (sum_of i j)
+sum_marks i j start ms ns sum e f none is = is ∙ rw (none, e, f) refl

@@ -1,63 +1,41 @@
 -- Working definitions: how a spelling is read, a byte at a time.
-use Rattle.std.specs.Prelude.{◌≡◌, ◌≢◌, ⊤, ℕ, ◌==◌, nat_le, if◌then◌else◌, List, [], ◌∷◌, Option, Some, None, option_and_then, option_map, reverse, map}
+use Rattle.std.specs.Prelude.{◌≡◌, ◌≢◌, ⊤, ℕ, ◌==◌, Bool, if◌then◌else◌, List, [], ◌∷◌, ◌++◌, Option, Some, None, option_and_then, is_some}
 use Rattle.id_tree.specs.IdTree.{IdTree, Zero, One, Pair}
-use Rattle.id_tree.specs.NormalForm.{are_equal_leaves, depth, depth_limit}
-use Rattle.id_tree.specs.Nodes.{tree_of}
-use Rattle.id_tree.specs.declared.reader.Part.{Part}
-use Rattle.id_tree.specs.declared.reader.Part.TheVariants.{Whole, TooDeep, NotNormal}
+use Rattle.id_tree.specs.Marks.{preorder}
+use Rattle.id_tree.specs.declared.marks.Mark.{Mark}
+use Rattle.id_tree.specs.declared.marks.Mark.TheVariants as marks
 use Rattle.id_tree.specs.declared.fault.IdFault.{IdFault}
 use Rattle.id_tree.specs.declared.fault.IdFault.TheVariants as faults
-use Rattle.id_tree.specs.declared.reader.Pending.{Pending}
-use Rattle.id_tree.specs.declared.reader.Pending.TheVariants.{Left, Right}
-
--- what is known of a tree that was read: the tree, if it is an id
-pub data Verdict : Type 0 where
-  good : IdTree → Verdict
-  deep : Verdict
-  unnormal : Verdict
-
--- what is known of a pair
-abbrev pub pair_verdict : Verdict → Verdict → Verdict
-pair_verdict unnormal w = unnormal
-pair_verdict deep unnormal = unnormal
-pair_verdict deep deep = deep
-pair_verdict deep (good b) = deep
-pair_verdict (good a) unnormal = unnormal
-pair_verdict (good a) deep = deep
-pair_verdict (good a) (good b) = if are_equal_leaves a b then unnormal else (if nat_le (depth (Pair a b)) depth_limit then good (Pair a b) else deep)
-
-abbrev pub verdict_of : IdTree → Verdict
-verdict_of Zero = good Zero
-verdict_of One = good One
-verdict_of (Pair l r) = pair_verdict (verdict_of l) (verdict_of r)
+use Rattle.id_tree.specs.declared.reader.Half.{Half}
+use Rattle.id_tree.specs.declared.reader.Half.TheVariants as halves
 
 -- The pairs that are not closed yet, the innermost first, each with its left half if that was read, and the tree that was read last.
 pub record State : Type 0 where
-  pub open_pairs : List (Option Verdict)
-  pub last : Option Verdict
+  pub open_pairs : List (Option IdTree)
+  pub last : Option IdTree
 
 abbrev pub start : State
 start = record { open_pairs = []; last = None }
 
-abbrev pub leaf_read : IdTree → List (Option Verdict) → Option Verdict → Option State
-leaf_read t pairs None = Some (record { open_pairs = pairs; last = Some (good t) })
+abbrev pub leaf_read : IdTree → List (Option IdTree) → Option IdTree → Option State
+leaf_read t pairs None = Some (record { open_pairs = pairs; last = Some t })
 leaf_read t pairs (Some v) = None
 
-abbrev pub opened : List (Option Verdict) → Option Verdict → Option State
+abbrev pub opened : List (Option IdTree) → Option IdTree → Option State
 opened pairs None = Some (record { open_pairs = None ∷ pairs; last = None })
 opened pairs (Some v) = None
 
-abbrev pub halved : List (Option Verdict) → Option Verdict → Option State
+abbrev pub halved : List (Option IdTree) → Option IdTree → Option State
 halved pairs None = None
 halved [] (Some v) = None
 halved (None ∷ pairs) (Some v) = Some (record { open_pairs = Some v ∷ pairs; last = None })
 halved (Some l ∷ pairs) (Some v) = None
 
-abbrev pub closed : List (Option Verdict) → Option Verdict → Option State
+abbrev pub closed : List (Option IdTree) → Option IdTree → Option State
 closed pairs None = None
 closed [] (Some v) = None
 closed (None ∷ pairs) (Some v) = None
-closed (Some l ∷ pairs) (Some v) = Some (record { open_pairs = pairs; last = Some (pair_verdict l v) })
+closed (Some l ∷ pairs) (Some v) = Some (record { open_pairs = pairs; last = Some (Pair l v) })
 
 -- the state after a byte; no spelling has that byte there if there is none
 abbrev pub step_of : State → ℕ → Option State
@@ -72,22 +50,38 @@ unfoldable pub run : State → List ℕ → Option State
 run s [] = Some s
 run s (byte ∷ bytes) = option_and_then (λ next. run next bytes) (step_of s byte)
 
--- what the reader's values stand for
-abbrev pub verdict_shown : Part → Verdict
-verdict_shown (Whole node) = good (tree_of node)
-verdict_shown TooDeep = deep
-verdict_shown NotNormal = unnormal
-
-abbrev pub pending_shown : Pending → Option Verdict
-pending_shown Left = None
-pending_shown (Right part) = Some (verdict_shown part)
-
-abbrev pub state_shown : List Pending → Option Part → State
-state_shown stack last = record { open_pairs = reverse (map pending_shown stack); last = option_map verdict_shown last }
-
 -- the state once a whole spelling was read
-abbrev pub whole : Verdict → State
-whole v = record { open_pairs = []; last = Some v }
+abbrev pub whole : IdTree → State
+whole t = record { open_pairs = []; last = Some t }
+
+-- what the reader's values stand for
+abbrev pub marks_of_pairs : List (Option IdTree) → List Mark
+marks_of_pairs [] = []
+marks_of_pairs (None ∷ ps) = marks_of_pairs ps ++ marks.Pair ∷ []
+marks_of_pairs (Some l ∷ ps) = marks_of_pairs ps ++ marks.Pair ∷ preorder l
+
+abbrev pub marks_of_last : Option IdTree → List Mark
+marks_of_last None = []
+marks_of_last (Some t) = preorder t
+
+abbrev pub half_of : Option IdTree → Half
+half_of None = halves.Left
+half_of (Some l) = halves.Right
+
+abbrev pub halves_of_pairs : List (Option IdTree) → List Half
+halves_of_pairs [] = []
+halves_of_pairs (p ∷ ps) = halves_of_pairs ps ++ half_of p ∷ []
+
+pub record Shows (ms : List Mark) (hs : List Half) (complete : Bool) (s : State) : Type 0 where
+  pub marks : ms ≡ marks_of_pairs s.open_pairs ++ marks_of_last s.last
+  pub halves : hs ≡ halves_of_pairs s.open_pairs
+  pub complete_is : complete ≡ is_some s.last
+
+-- a state after a byte, which is shown
+pub record StepsTo (s : State) (byte : ℕ) (ms : List Mark) (hs : List Half) (complete : Bool) : Type 0 where
+  pub next : State
+  pub steps : step_of s byte ≡ Some next
+  pub shows : Shows ms hs complete next
 
 -- the only faults of a step: there is no state after it, or no memory
 abbrev pub IsStepFault : {A : Type 0} → IdFault → Option A → Type 0
@@ -98,7 +92,13 @@ IsStepFault faults.Memory after = ⊤
 
 -- the only faults of a run: it does not end with a whole spelling, or there is no memory
 abbrev pub IsRunFault : IdFault → Option State → Type 0
-IsRunFault faults.Syntax after = (v : Verdict) → after ≢ Some (whole v)
+IsRunFault faults.Syntax after = (t : IdTree) → after ≢ Some (whole t)
 IsRunFault faults.NotNormal after = ⊥
 IsRunFault faults.TooDeep after = ⊥
 IsRunFault faults.Memory after = ⊤
+
+-- marks of the tree that the bytes spell
+pub record Spells (ms : List Mark) (bytes : List ℕ) : Type 0 where
+  pub tree : IdTree
+  pub marks : ms ≡ preorder tree
+  pub ran : run start bytes ≡ Some (whole tree)

@@ -1,5 +1,5 @@
 -- Tests of what ids in normal form own, by recursion.
-use Rattle.std.specs.Prelude.{◌≡◌, Bool, true, false, ◌&&◌}
+use Rattle.std.specs.Prelude.{◌≡◌, Bool, true, false, ◌&&◌, List, [], ◌∷◌}
 use Rattle.id_tree.specs.IdTree.{IdTree, Zero, One, Pair}
 
 -- it owns something
@@ -17,6 +17,12 @@ are_disjoint One (Pair c d) = false
 are_disjoint (Pair a b) Zero = true
 are_disjoint (Pair a b) One = false
 are_disjoint (Pair a b) (Pair c d) = are_disjoint a c && are_disjoint b d
+
+-- of each two that stand at one place
+abbrev pub all_disjoint : List IdTree → List IdTree → Bool
+all_disjoint [] js = true
+all_disjoint (i ∷ is) [] = true
+all_disjoint (i ∷ is) (j ∷ js) = are_disjoint i j && all_disjoint is js
 
 -- i owns just what l and r own, who own no point both
 abbrev pub IsSumBy : IdTree → IdTree → IdTree → Type 0

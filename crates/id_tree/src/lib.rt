@@ -4,10 +4,12 @@
 //! so that equal sets are equal ids with one text.
 #![tactic(auto)]
 
-ghost use Rattle.std.specs.Prelude.{◌≡◌, ◌↔◌, ◌++◌, IsTrue, IfOk, IfErr, IsErrOf, MatchResult, OnOk, OnErr, ◌≤◌, ◌<◌, ◌≢◌, false};
+ghost use Rattle.std.specs.Prelude.{◌≡◌, ◌↔◌, ◌++◌, [], ◌∷◌, IsTrue, IsOk, IfOk, IfErr, IsErrOf, MatchResult, OnOk, OnErr, ◌≤◌, ◌<◌, ◌≢◌, false};
 ghost use Rattle.std.specs.List.{list_all};
 ghost use Rattle.id_tree.specs.IdTree.{IdTree, Zero, One};
 ghost use Rattle.id_tree.specs.Points.{Point, owns, OwnsSome, Overlap, AreDisjoint, AreTogether};
+ghost use Rattle.id_tree.specs.Size.{size};
+ghost use Rattle.id_tree.specs.Marks.{tree_of, IsLeaf, AreMarksOf};
 ghost use Rattle.id_tree.specs.NormalForm.{IsId, IsNormal, depth, depth_limit};
 ghost use Rattle.id_tree.specs.Spelling.{spelling, is_tree_byte};
 ghost use Rattle.id_tree.specs.Faults.{IsFaultOf};
@@ -15,50 +17,74 @@ ghost use Rattle.id_tree.specs.Split.{left_part, right_part, parts_depth, IsSpli
 ghost use Rattle.id_tree.specs.Sum.{sum_of};
 
 mod fault;
-mod node;
+mod form;
+mod marks;
+mod parts;
 mod reader;
+mod text;
+mod together;
 mod view;
 
 pub use fault::{IdFault, SplitFault, SumFault};
-use node::Node;
-use reader::Part;
+use form::{are_normal, fits};
+use marks::{Mark, Marks, are_apart, are_same, own_any, sum_into};
+use parts::{left_into, parts_fit, right_into};
+use smallvec::SmallVec;
 use std::alloc::{AllocError, Global};
 use std::marker::Model;
+use text::write_first;
+use together::is_sum_by;
 pub use view::{IdPart, IdView};
 
 /// Which part of an interval someone owns.
 #[derive(Drop)]
 pub struct Id {
-    node: Node,
+    marks: Marks,
 }
 
 impl Model for Id {
     ghost use Rattle.id_tree.specs.IdTree.{IdTree, id_tree_code};
-    ghost use Rattle.id_tree.specs.NormalForm.{IsId};
-    ghost use Rattle.id_tree.specs.Nodes.{tree_of};
+    ghost use Rattle.id_tree.specs.Marks.{tree_of, AreMarksOf};
 
     ghost Value = { IdTree };
 
     ghost coded = { id_tree_code };
 
-    ghost view = { λ a. tree_of a.node };
+    ghost view = { λ a. tree_of a.marks.items };
 
-    ghost invariant = { λ a. IsId (tree_of a.node) };
+    ghost invariant = { λ a. AreMarksOf (tree_of a.marks.items) a.marks.items };
 }
 
 impl Id {
     /// The id that owns nothing. It takes no memory.
-    pub fn zero(_alloc: Global) -> Id
+    pub fn zero(alloc: Global) -> Id
         ensures { result ≡ Zero }
     {
-        Id { node: Node::Zero }
+        Id::of_leaf(alloc, Mark::Zero)
     }
 
     /// The id that owns everything. It takes no memory.
-    pub fn one(_alloc: Global) -> Id
+    pub fn one(alloc: Global) -> Id
         ensures { result ≡ One }
     {
-        Id { node: Node::One }
+        Id::of_leaf(alloc, Mark::One)
+    }
+
+    fn of_leaf(alloc: Global, leaf: Mark) -> Id
+        requires { IsLeaf leaf }
+        ensures { result ≡ tree_of (leaf ∷ []) }
+    {
+        let mut marks = SmallVec::new(alloc);
+        marks.push_reserved(leaf);
+        Id { marks }
+    }
+
+    // The marks that it is kept as.
+    fn marks(&self) -> &[Mark]
+        ensures are { AreMarksOf self.now result.now }
+        ensures tree { tree_of result.now ≡ self.now }
+    {
+        &self.marks
     }
 
     /// Tells a proof what holds of each id.
@@ -66,30 +92,30 @@ impl Id {
         ensures normal { IsNormal self.now }
         ensures shallow { depth self.now ≤ depth_limit }
     {
-        let _node = &self.node;
+        let _marks = &self.marks;
     }
 
     /// A look at the whole id.
     pub fn view(&self) -> IdView<'_>
         ensures { result ≡ self.now }
     {
-        IdView::of(&self.node)
+        IdView::of(self.marks())
     }
 
     /// Whether the two are one id.
-    #[inline(always)]
     pub fn equal(&self, other: &Id) -> bool
         ensures { IsTrue result ↔ (self.now ≡ other.now) }
     {
-        self.node.is_equal_leaf(&other.node) || self.node.is_same(&other.node)
+        are_same(self.marks(), other.marks())
     }
 
-    /// The same id once more.
+    /// The same id once more. One of at most 16 nodes and leaves takes no memory.
     pub fn copy(&self, alloc: Global) -> Result<Id, AllocError>
-        ensures { IfOk result (λ id. id ≡ self.now) }
+        ensures copy { IfOk result (λ id. id ≡ self.now) }
+        ensures small { size self.now ≤ 16 → IsOk result }
     {
-        let node = self.node.copy(alloc)?;
-        Ok(Id { node })
+        let marks = SmallVec::from_slice(alloc, self.marks())?;
+        Ok(Id { marks })
     }
 
     /// Whether some point is owned. It takes no memory.
@@ -97,16 +123,15 @@ impl Id {
     pub fn owns_any(&self) -> bool
         ensures { IsTrue result ↔ OwnsSome self.now }
     {
-        self.node.owns_any()
+        own_any(self.marks())
     }
 
     /// Whether no point is owned by both. It takes no memory.
-    #[tactic(auto, using(crate::proofs::Points::disjoint_iff, crate::proofs::Points::overlap_iff))]
     pub fn disjoint(&self, other: &Id) -> bool
         ensures disjoint { IsTrue result ↔ AreDisjoint self.now other.now }
         ensures overlapping { (result ≡ false) ↔ Overlap self.now other.now }
     {
-        self.node.is_disjoint(&other.node)
+        are_apart(self.marks(), other.marks())
     }
 
     /// Whether this id owns just what the two others own, who own no point both. It takes no memory.
@@ -115,11 +140,13 @@ impl Id {
         ensures points { IsTrue result ↔ (AreDisjoint left.now right.now × AreTogether left.now right.now self.now) }
         ensures sum { AreDisjoint left.now right.now → (IsTrue result ↔ (self.now ≡ sum_of left.now right.now)) }
     {
-        self.node.is_sum_of(&left.node, &right.node)
+        self.known();
+        left.known();
+        right.known();
+        is_sum_by(&self.view(), &left.view(), &right.view())
     }
 
     /// Two ids that each own a part of what this one owns, and together all of it.
-    #[tactic(auto, using(crate::proofs::Splits::left_is_id, crate::proofs::Splits::right_is_id))]
     pub fn split(&self, alloc: Global) -> Result<(Id, Id), SplitFault>
         ensures left { IfOk result (λ parts. parts.0 ≡ left_part self.now) }
         ensures right { IfOk result (λ parts. parts.1 ≡ right_part self.now) }
@@ -127,15 +154,21 @@ impl Id {
         ensures nothing { IsErrOf result SplitFault.NothingOwned ↔ (self.now ≡ Zero) }
         ensures deep { IsErrOf result SplitFault.TooDeep ↔ (depth_limit < parts_depth self.now) }
     {
-        if !self.node.owns_any() {
+        let marks = self.marks();
+        if !own_any(marks) {
             return Err(SplitFault::NothingOwned);
         }
-        let (left, right) = self.node.split(alloc, 40)?;
-        Ok((Id { node: left }, Id { node: right }))
+        if !parts_fit(marks, 40) {
+            return Err(SplitFault::TooDeep);
+        }
+        let mut left = SmallVec::new(alloc);
+        left_into(&mut left, marks)?;
+        let mut right = SmallVec::new(alloc);
+        right_into(&mut right, marks)?;
+        Ok((Id { marks: left }, Id { marks: right }))
     }
 
     /// The id that owns what either owns. Ids that overlap have none, whether or not there is memory.
-    #[tactic(auto, using(crate::proofs::Sums::sum_together))]
     pub fn sum(&self, alloc: Global, other: &Id) -> Result<Id, SumFault>
         ensures sum { IfOk result (λ id. AreTogether self.now other.now id) }
         ensures disjoint { OnOk result (AreDisjoint self.now other.now) }
@@ -144,22 +177,26 @@ impl Id {
         if !self.disjoint(other) {
             return Err(SumFault::Overlap);
         }
-        let node = self.node.sum(alloc, &other.node)?;
-        Ok(Id { node })
+        let mut marks = SmallVec::new(alloc);
+        sum_into(&mut marks, self.marks(), other.marks())?;
+        Ok(Id { marks })
     }
 
-    /// The id that the bytes spell, all of the bytes. The memory and the stack that it takes do not grow with how deeply
-    /// brackets are nested beyond the depth limit, but for one small entry for each open bracket.
+    /// The id that the bytes spell, all of the bytes. The stack that it takes does not grow with how deeply brackets are
+    /// nested; the memory that it takes is a byte for each node and leaf, and one for each open bracket.
     pub fn parse(alloc: Global, bytes: &[u8]) -> Result<Id, IdFault>
         ensures ok { IfOk result (λ id. bytes.now ≡ spelling id) }
         ensures err { IfErr result (λ fault. IsFaultOf fault bytes.now) }
         ensures only { (t : IdTree) → IsId t → bytes.now ≡ spelling t → MatchResult result (λ id. id ≡ t) (λ fault. fault ≡ IdFault.Memory) }
     {
-        match reader::read(alloc, bytes)? {
-            Part::Whole(node) => Ok(Id { node }),
-            Part::NotNormal => Err(IdFault::NotNormal),
-            Part::TooDeep => Err(IdFault::TooDeep),
+        let marks = reader::read(alloc, bytes)?;
+        if !are_normal(marks.as_slice()) {
+            return Err(IdFault::NotNormal);
         }
+        if !fits(&IdView::of(marks.as_slice()), 40) {
+            return Err(IdFault::TooDeep);
+        }
+        Ok(Id { marks })
     }
 
     /// Appends the one text of the id. On a refused growth `out` is as it was.
@@ -168,11 +205,12 @@ impl Id {
         ensures err { OnErr result (out.new.items ≡ out.old.items) }
     {
         let before = out.len();
-        let written = self.node.write(out);
+        let written = write_first(self.marks(), out);
         if written.is_err() {
             out.truncate(before);
+            return Err(AllocError);
         }
-        written
+        Ok(())
     }
 }
 

@@ -1,93 +1,85 @@
-//! Reads a spelling of any depth in a loop. A tree that is no id is not kept, only what is wrong with it.
+//! Reads a spelling of any depth in a loop.
 
-ghost use Rattle.std.specs.Prelude.{◌≡◌, ◌≢◌, Some, None, [], IfOk, IfErr, OnOk};
-ghost use Rattle.id_tree.specs.Reading.{IsStepFault, IsRunFault, Verdict, pair_verdict, step_of, run, start, whole, verdict_shown, state_shown};
+ghost use Rattle.std.specs.Prelude.{◌≡◌, ◌++◌, ◌∷◌, [], IfOk, IfErr, OnOk};
+ghost use Rattle.id_tree.specs.Reading.{State, Shows, StepsTo, Spells, IsStepFault, IsRunFault, step_of, run, start};
 
 use crate::fault::IdFault;
-use crate::node::Node;
-use std::alloc::{AllocError, Global};
+use crate::marks::{Mark, Marks};
+use smallvec::SmallVec;
+use std::alloc::Global;
 
-// What is known of a tree that was read.
-#[derive(Drop)]
-pub enum Part {
-    Whole(Node),
-    TooDeep,
-    NotNormal,
-}
-
-// A pair whose end is still to come.
-#[derive(Drop)]
-pub enum Pending {
+/// Which half of a pair is being read.
+#[derive(Clone, Copy, Drop)]
+pub enum Half {
     Left,
-    Right(Part),
+    Right,
 }
 
-fn pair_of(alloc: Global, l: Part, r: Part) -> Result<Part, AllocError>
-    ensures { IfOk result (λ part. verdict_shown part ≡ pair_verdict (verdict_shown l) (verdict_shown r)) }
+fn append(marks: &mut Marks, mark: Mark) -> Result<(), IdFault>
+    ensures ok { OnOk result (marks.new.items ≡ marks.old.items ++ mark ∷ []) }
+    ensures err { IfErr result (λ fault. fault ≡ IdFault.Memory) }
 {
-    match (l, r) {
-        (Part::NotNormal, _) | (_, Part::NotNormal) => Ok(Part::NotNormal),
-        (Part::Whole(a), Part::Whole(b)) => {
-            if a.is_equal_leaf(&b) {
-                Ok(Part::NotNormal)
-            } else if a.fits(39) && b.fits(39) {
-                Ok(Part::Whole(Node::pair(alloc, a, b)?))
-            } else {
-                Ok(Part::TooDeep)
-            }
-        }
-        _ => Ok(Part::TooDeep),
-    }
+    marks.extend_from_slice(&[mark])?;
+    Ok(())
 }
 
-// The tree that was read last, after one more byte.
+// Whether a tree is complete after one more byte.
 fn step(
-    alloc: Global,
-    stack: &mut Vec<Pending>,
-    last: Option<Part>,
+    marks: &mut Marks,
+    halves: &mut Vec<Half>,
+    complete: bool,
     byte: u8,
-) -> Result<Option<Part>, IdFault>
-    ensures ok { IfOk result (λ next. step_of (state_shown stack.old.items last) byte ≡ Some (state_shown stack.new.items next)) }
-    ensures err { IfErr result (λ fault. IsStepFault fault (step_of (state_shown stack.old.items last) byte)) }
+) -> Result<bool, IdFault>
+    ensures ok { (s : State) → Shows marks.old.items halves.old.items complete s
+        → IfOk result (λ next. StepsTo s byte marks.new.items halves.new.items next) }
+    ensures err { (s : State) → Shows marks.old.items halves.old.items complete s
+        → IfErr result (λ fault. IsStepFault fault (step_of s byte)) }
 {
-    match (byte, last) {
-        (b'0', None) => Ok(Some(Part::Whole(Node::Zero))),
-        (b'1', None) => Ok(Some(Part::Whole(Node::One))),
-        (b'(', None) => {
-            stack.push(Pending::Left)?;
-            Ok(None)
+    match (byte, complete) {
+        (b'0', false) => {
+            append(marks, Mark::Zero)?;
+            Ok(true)
         }
-        (b',', Some(l)) => match stack.pop() {
-            Some(Pending::Left) => {
-                stack.push(Pending::Right(l))?;
-                Ok(None)
+        (b'1', false) => {
+            append(marks, Mark::One)?;
+            Ok(true)
+        }
+        (b'(', false) => {
+            append(marks, Mark::Pair)?;
+            halves.push(Half::Left)?;
+            Ok(false)
+        }
+        (b',', true) => match halves.pop() {
+            Some(Half::Left) => {
+                halves.push(Half::Right)?;
+                Ok(false)
             }
             _ => Err(IdFault::Syntax),
         },
-        (b')', Some(r)) => match stack.pop() {
-            Some(Pending::Right(l)) => Ok(Some(pair_of(alloc, l, r)?)),
+        (b')', true) => match halves.pop() {
+            Some(Half::Right) => Ok(true),
             _ => Err(IdFault::Syntax),
         },
         _ => Err(IdFault::Syntax),
     }
 }
 
-// What is known of the tree that the bytes spell.
-#[tactic(auto, using(crate::proofs::Runs::run_open, crate::proofs::Runs::run_empty))]
-pub fn read(alloc: Global, bytes: &[u8]) -> Result<Part, IdFault>
-    ensures ok { IfOk result (λ part. run start bytes.now ≡ Some (whole (verdict_shown part))) }
+// The marks of the tree that the bytes spell.
+pub fn read(alloc: Global, bytes: &[u8]) -> Result<Marks, IdFault>
+    ensures ok { IfOk result (λ marks. Spells marks.items bytes.now) }
     ensures err { IfErr result (λ fault. IsRunFault fault (run start bytes.now)) }
 {
-    let mut stack = Vec::new(alloc);
-    let mut last = None;
+    let mut marks = SmallVec::new(alloc);
+    let mut halves = Vec::new(alloc);
+    let mut complete = false;
     for byte in bytes {
-        last = step(alloc, &mut stack, last, *byte)?;
+        complete = step(&mut marks, &mut halves, complete, *byte)?;
     }
-    if !stack.is_empty() {
+    if halves.len() > 0 {
         return Err(IdFault::Syntax);
     }
-    match last {
-        Some(part) => Ok(part),
-        None => Err(IdFault::Syntax),
+    if !complete {
+        return Err(IdFault::Syntax);
     }
+    Ok(marks)
 }

@@ -2,26 +2,26 @@
 
 ghost use Rattle.std.specs.Prelude.{◌≡◌};
 ghost use Rattle.id_tree.specs.View.{Shows};
-ghost use Rattle.id_tree.specs.Nodes.{tree_of};
+ghost use Rattle.id_tree.specs.Marks.{tree_of};
 
-use crate::node::Node;
+use crate::marks::{Mark, split_first_tree};
 use std::marker::Model;
 
 /// A part of an id, seen as the tree of what it owns there.
 #[derive(Drop)]
 pub struct IdView<'a> {
-    node: &'a Node,
+    marks: &'a [Mark],
 }
 
 impl<'a> Model for IdView<'a> {
     ghost use Rattle.id_tree.specs.IdTree.{IdTree, id_tree_code};
-    ghost use Rattle.id_tree.specs.Nodes.{tree_of};
+    ghost use Rattle.id_tree.specs.Marks.{tree_of};
 
     ghost Value = { IdTree };
 
     ghost coded = { id_tree_code };
 
-    ghost view = { λ a. tree_of a.node.now };
+    ghost view = { λ a. tree_of a.marks.now };
 }
 
 /// One level of a part of an id.
@@ -36,20 +36,23 @@ pub enum IdPart<'a> {
 }
 
 impl<'a> IdView<'a> {
-    pub(crate) fn of(node: &'a Node) -> IdView<'a>
-        ensures { result ≡ tree_of node.now }
+    pub(crate) fn of(marks: &'a [Mark]) -> IdView<'a>
+        ensures { result ≡ tree_of marks.now }
     {
-        IdView { node }
+        IdView { marks }
     }
 
     /// What stands at the top of this part.
     pub fn part(&self) -> IdPart<'a>
         ensures { Shows result self.now }
     {
-        match self.node {
-            Node::Zero => IdPart::Nothing,
-            Node::One => IdPart::Everything,
-            Node::Pair(p) => IdPart::Halves(IdView { node: &p.0 }, IdView { node: &p.1 }),
+        match self.marks.split_first() {
+            Some((Mark::One, _)) => IdPart::Everything,
+            Some((Mark::Pair, halves)) => {
+                let (_, right) = split_first_tree(halves);
+                IdPart::Halves(IdView { marks: halves }, IdView { marks: right })
+            }
+            _ => IdPart::Nothing,
         }
     }
 }

@@ -7,7 +7,7 @@ use Rattle.std.proofs.lemmas.Fmt.{decimal_injective}
 use Rattle.id_tree.specs.IdTree.{IdTree}
 use Rattle.id_tree.specs.NormalForm.{IsId}
 use Rattle.id_tree.specs.Spelling as ids
-use Rattle.id_tree.proofs.Verdicts as ids_verdicts
+use Rattle.id_tree.proofs.Texts as ids_texts
 use Rattle.stamp.specs.declared.stamp.Stamp.{Stamp}
 use Rattle.stamp.specs.Stamps.{stamp_text}
 use Rattle.stamp.proofs.Texts.{one_text}
@@ -85,7 +85,7 @@ same_action Present Present k e = refl
 same_action (Fork f) (Fork g) is e =
     let first = parts _ _ _ _ e in
     let second = parts _ _ _ _ first.1 in
-    same_fork f.kept g.kept f.child g.child f.given g.given (ids_verdicts.one_spelling f.kept g.kept first.0) second.0 (ids_verdicts.one_spelling f.given g.given (parts _ _ _ _ second.1).0)
+    same_fork f.kept g.kept f.child g.child f.given g.given (ids_texts.one_spelling f.kept g.kept first.0) second.0 (ids_texts.one_spelling f.given g.given (parts _ _ _ _ second.1).0)
 same_action (Retire p) (Retire q) k e = ap Retire (parts p q [] [] e).0
 same_action (Absorb p) (Absorb q) k e = ap Absorb (parts p q [] [] e).0
 same_action a b k e = absurd (omega (arith, k))

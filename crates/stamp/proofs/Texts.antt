@@ -7,7 +7,6 @@ use Rattle.id_tree.specs.Spelling.{is_tree_byte}
 use Rattle.id_tree.specs.Spelling as ids
 use Rattle.id_tree.proofs.Texts as ids_texts
 use Rattle.id_tree.proofs.Texts.{list_all-append_true}
-use Rattle.id_tree.proofs.Verdicts as ids_verdicts
 use Rattle.event_tree.specs.EventTree.{EventTree}
 use Rattle.event_tree.specs.Spelling as events
 use Rattle.event_tree.proofs.Texts as events_texts
@@ -31,4 +30,4 @@ same_stamp s t e f = ap (λ (i : IdTree). stamp_of i s.events) e ∙ ap (λ (v :
 pub one_text : (s t : Stamp) → stamp_text s ≡ stamp_text t → IsStamp s → IsStamp t → s ≡ t
 one_text s t e is are =
     let both = one_cut (ids.spelling s.id) (ids.spelling t.id) (events.spelling s.events) (events.spelling t.events) (tree_free (ids.spelling s.id) (ids_texts.plain s.id)) (tree_free (ids.spelling t.id) (ids_texts.plain t.id)) e in
-    same_stamp s t (ids_verdicts.one_spelling s.id t.id both.0) (events_texts.one_spelling s.events t.events is.events are.events both.1)
+    same_stamp s t (ids_texts.one_spelling s.id t.id both.0) (events_texts.one_spelling s.events t.events is.events are.events both.1)

@@ -8,7 +8,6 @@ use Rattle.id_tree.specs.Faults as ids
 use Rattle.id_tree.specs.declared.fault.IdFault.{IdFault}
 use Rattle.id_tree.specs.declared.fault.IdFault.TheVariants as id_fault
 use Rattle.id_tree.proofs.Texts as ids_texts
-use Rattle.id_tree.proofs.Verdicts as ids_verdicts
 use Rattle.event_tree.specs.EventTree.{EventTree}
 use Rattle.event_tree.specs.NormalForm.{IsNormal}
 use Rattle.event_tree.specs.Spelling.{IsTextOf}
@@ -118,7 +117,7 @@ spelled_stamp s is = record { events_text = events_text.spelling s.events; parts
 same_trees : (s : Stamp) (i : IdTree) (e : EventTree) → IsStamp s → Spells i e (stamp_text s) → (s.id ≡ i) × (s.events ≡ e)
 same_trees s i e is p =
     let parts = parts_of i e (spelling s.id) (events_text.spelling s.events) (id_free s.id) p in
-    (ids_verdicts.one_spelling s.id i parts.0, one_tree s.events e _ (spelling_is_text s.events is.events.small) parts.1)
+    (ids_texts.one_spelling s.id i parts.0, one_tree s.events e _ (spelling_is_text s.events is.events.small) parts.1)
 
 pub fault_of_stamp : (fault : StampTextFault) (s : Stamp) → IsStamp s → IsFaultOf fault (stamp_text s) → fault ≡ Memory
 fault_of_stamp Syntax s is h = absurd (h s.id s.events (spelled_stamp s is))

@@ -49,7 +49,7 @@ pub(crate) enum Packed {
     },
 }
 
-/// A report in the shape in which it is kept, of 80 bytes; seen as the report.
+/// A report in the shape in which it is kept, of 160 bytes; seen as the report.
 #[derive(Drop)]
 pub struct PackedReport {
     packed: Packed,

@@ -1,2 +1,2 @@
 echo BEGIN a
-yes 'STATE a' | head -65536
+printf 'STATE a%.0s\n' {1..65536}

@@ -1,4 +1,4 @@
 echo BEGIN a
-yes 'STATE a' | head -65535
+printf 'STATE a%.0s\n' {1..65535}
 echo BYE
 echo STATE a

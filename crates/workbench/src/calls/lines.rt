@@ -20,12 +20,17 @@ pub fn put_call(alloc: Global, line: &str, out: &mut Vec<u8>) -> Result<bool, Fa
     Ok(true)
 }
 
+// A session over the desk. It stands alone, since its clause is long.
+fn serve(desk: &mut Desk<NullDisk>, client: &mut Streams<&[u8], Vec<u8>>) {
+    let _end = run(desk, client);
+}
+
 // Writes the reply of a session that has this line alone, without its LF.
 fn put_reply(desk: &mut Desk<NullDisk>, line: &[u8], out: &mut Vec<u8>) -> Result<(), Fault> {
     let alloc = desk.chains().alloc();
     let written = BufWriter::new(alloc, Vec::new(alloc))?;
     let mut client = Streams::new(line, written);
-    let _end = run(desk, &mut client);
+    serve(desk, &mut client);
     let (_rest, written) = client.into_inner();
     let reply: &[u8] = written.get_ref().as_slice();
     match reply.strip_suffix(b"\n") {

@@ -24,10 +24,9 @@ mod processes;
 mod replies;
 mod stamps;
 
-pub(crate) use bench::new_desk;
-
 use anyhow::Result;
 use bench::Bench;
+pub(crate) use bench::new_desk;
 use std::io::{BufWriter, Read, Write};
 
 /// Answers each line of standard input by a line.

@@ -41,11 +41,7 @@ fn put_reply(desk: &mut Desk<NullDisk>, line: &[u8], out: &mut Vec<u8>) -> Resul
 }
 
 /// Answers a line that is a call of a client by its reply; whether it is one.
-pub fn answer(
-    desk: &mut Desk<NullDisk>,
-    line: &str,
-    out: &mut Vec<u8>,
-) -> Result<bool, Fault> {
+pub fn answer(desk: &mut Desk<NullDisk>, line: &str, out: &mut Vec<u8>) -> Result<bool, Fault> {
     let alloc = desk.chains().alloc();
     if read_line(alloc, line.as_bytes()).is_err() {
         return Ok(false);

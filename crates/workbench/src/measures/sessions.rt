@@ -1,8 +1,8 @@
 //! A session of one process against a loop that reads and compares the same lines: the first loop and session of the program;
 //! then many, whose memory is handed back to the system behind each; and many with memory that was used before.
 
-use anyhow::Result;
 use crate::calls::new_desk;
+use anyhow::Result;
 use desk::Desk;
 use line_disk::NullDisk;
 use report_line::{Call, PackedReport, Shared, read_line};

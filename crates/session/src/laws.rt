@@ -17,8 +17,7 @@ pub fn exchanges_keep_lists_reachable()
     ensures { (held after : Held) (exchanges before later : List Exchange) → IsReached held → Served held exchanges after → exchanges ≡ before ++ later → IsReached (held_by held before) }
 {}
 
-/// Where the store is stopped neither before the exchanges nor behind them, no device failed in between. So it is over chains:
-/// what they hold is never stopped (`held_of`).
+/// Where the store is stopped neither before the exchanges nor behind them, no device failed in between.
 pub fn served_without_a_device()
     ensures { (held after : Held) (exchanges : List Exchange) → held.stopped ≡ false → after.stopped ≡ false → Served held exchanges after → AllByRecursion (λ e. ¬ ShowsFailure e) exchanges }
 {}

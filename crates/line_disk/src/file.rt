@@ -13,6 +13,7 @@ use std::alloc::{AllocError, Global};
 use std::fs::{File, OpenOptions};
 use std::marker::PhantomData;
 use std::os::unix::fs::FileExt;
+use std::path::Path;
 use std::rt::Files;
 
 /// A file of the system on a device.
@@ -44,10 +45,27 @@ fn read_whole(alloc: Global, file: &File) -> Result<Vec<u8>, DiskFault> {
     Ok(bytes)
 }
 
+/// Syncs the folder of a file, so that a crash does not take the name of the file if it is new.
+fn sync_folder<R: Files<File = File>>(rt: &R, path: &str) -> Result<(), DiskFault> {
+    let Some(parent) = Path::new(path).parent() else {
+        return Err(DiskFault::Device);
+    };
+    let name = parent.as_os_str();
+    let folder = if name.is_empty() { "." } else { name };
+    let Ok(opened) = OpenOptions::new().read(true).open(rt, folder) else {
+        return Err(DiskFault::Device);
+    };
+    match opened.sync_all() {
+        Ok(()) => Ok(()),
+        Err(_) => Err(DiskFault::Device),
+    }
+}
+
 impl<P: Device> FileDisk<P> {
     ghost use Rattle.line_disk.specs.File.{file_calls, file_failures};
 
-    /// Opens a file, and makes it if it is missing. It is read once, and a copy is kept in memory.
+    /// Opens a file, and makes it if it is missing. It is read once, and a copy is kept in memory. A file that another program
+    /// has open so is not opened. Where the file is empty its folder is synced, too.
     pub fn open<R: Files<File = File>>(
         rt: &R,
         alloc: Global,
@@ -64,7 +82,13 @@ impl<P: Device> FileDisk<P> {
         let Ok(file) = opened else {
             return Err(DiskFault::Device);
         };
+        if file.try_lock().is_err() {
+            return Err(DiskFault::Device);
+        }
         let bytes = read_whole(alloc, &file)?;
+        if bytes.is_empty() {
+            sync_folder(rt, path)?;
+        }
         Ok(FileDisk {
             file,
             known: Known::new(bytes),

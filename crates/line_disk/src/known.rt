@@ -65,7 +65,9 @@ impl Known {
 
     /// Whether the file is known to have these bytes at this offset.
     pub fn has(&self, at: usize, bytes: &[u8]) -> bool
-        ensures { IsTrue result → bytes.now ≡ take (length bytes.now) (drop at (held (first_of self.now) (calls_of self.now))) }
+        ensures known { IsTrue result → bytes.now ≡ take (length bytes.now) (drop at (held (first_of self.now) (calls_of self.now))) }
+        // Where there is a copy, and no call has failed, bytes of the copy are known.
+        ensures of_copy { IfSome self.now.copy (λ kept. self.now.failed ≡ false → at + length bytes.now ≤ length kept.items → bytes.now ≡ take (length bytes.now) (drop at kept.items) → IsTrue result) }
     {
         match &self.copy {
             Some(kept) => {

@@ -1,9 +1,9 @@
-//! Turns on devices that fail, and a desk that is worn.
+//! Turns on devices that fail.
 
-use crate::helpers::{ONE, opened, replied};
-use desk::{Desk, TurnFault};
+use crate::helpers::{ONE, replied};
+use desk::Desk;
 use line_disk::{Effect, MemoryDisk};
-use report_line::{Call, Outcome, Reply};
+use report_line::{Outcome, Reply};
 use std::alloc::Global;
 use std::process::Abort;
 use std::test::Fail;
@@ -77,32 +77,5 @@ fn a_stopped_desk(rt: HostRuntime) -> Result<(), Fail> {
     let line = replied(&rt, alloc, &mut desk, b"LINE -");
     assert_eq!(rt; outcome(&report), Some(Outcome::Stopped));
     assert_eq!(rt; outcome(&line), Some(Outcome::Stopped));
-    Ok(())
-}
-
-/// Makes so many turns.
-fn make_turns(rt: &impl Abort, desk: &mut Desk<MemoryDisk>, turns: u32) {
-    for _ in 0..turns {
-        if desk.turn(Call::Bye).is_err() {
-            panic!(rt; "it gets its turn");
-        }
-    }
-}
-
-/// The fault of the next call.
-fn fault(desk: &mut Desk<MemoryDisk>) -> Option<TurnFault> {
-    match desk.turn(Call::Bye) {
-        Ok(_receipt) => None,
-        Err(fault) => Some(fault),
-    }
-}
-
-#[test]
-fn a_worn_desk(rt: HostRuntime) -> Result<(), Fail> {
-    let alloc = rt.alloc();
-    let mut desk = opened(&rt, alloc, &ONE)?;
-    make_turns(&rt, &mut desk, 65535);
-    assert_eq!(rt; fault(&mut desk), None);
-    assert_eq!(rt; fault(&mut desk), Some(TurnFault::Worn));
     Ok(())
 }

@@ -15,13 +15,13 @@ use Rattle.clap.specs.declared.parser.matches.ArgMatches.{ArgMatches}
 use Rattle.clap.specs.declared.parser.matches.ArgMatches.TheViews.{out-ArgMatches, out-SubCommand}
 use Rattle.clap.specs.declared.parser.matches.SubCommand.{SubCommand}
 use Rattle.clap.proofs.WalkLemmas.{first_value-rows}
-use Rattle.std.specs.Prelude.{option_map, Box}
+use Rattle.std.specs.Prelude.{option_map, Box, if◌then◌else◌}
 use Rattle.std.specs.Box.{box_value}
 use Rattle.std.specs.Borrow.{Bor}
 use Rattle.recline.specs.declared.args.Command.TheVariants as commands
 use Rattle.recline.specs.Arguments.{AsksFor, Selects, program, refusals}
-use Rattle.recline.proofs.Commands.{drawing, drawing_flags, drawing_wants, driving, driving_flags, driving_wants}
-use Rattle.recline.proofs.Given.{WantsScript, has_other_flags, script_given}
+use Rattle.recline.proofs.Commands.{checking, checking_wants, drawing, drawing_wants, driving, driving_wants, running, running_wants}
+use Rattle.recline.proofs.Given.{HasAll, Wants, all_given}
 
 none_first : (a b : Kinds) → or_else a b ≡ [] → a ≡ []
 none_first [] b e = refl
@@ -125,58 +125,69 @@ wanted : (rows : List Row) (has : Bool) → check_fault (built program).top rows
 wanted rows true none = refl
 wanted rows false none = cc
 
--- and but for `help` there is one of the three; the words behind one that takes a script have the rows of its walk, and faults of
--- their own
+-- and but for `help` there is one of these; the words behind it have the rows of its walk, and faults of their own
 abbrev Enters : Shape → Text → Option (Text × List Text) → Type 0
 Enters s name stop =
     (given : List Text) × (entered (built program) stop ≡ Some (name, rows_after s.rules [] given)) × (entered_fault (built program) stop ≡ level_fault s [] nothing_held given false [])
 
-abbrev EntersRun : Option (Text × List Text) → Type 0
-EntersRun stop = (rows : List Row) × (entered (built program) stop ≡ Some (codes "run", rows))
-
 abbrev EntersOne : Option (Text × List Text) → Type 0
-EntersOne stop = EntersRun stop ⊎ (Enters driving (codes "drive") stop ⊎ Enters drawing (codes "draw") stop)
+EntersOne stop =
+    Enters running (codes "run") stop ⊎ (Enters checking (codes "check") stop ⊎ (Enters driving (codes "drive") stop ⊎ Enters drawing (codes "draw") stop))
 
 one_entered : (stop : Option (Text × List Text)) → is_help stop ≡ false → is_some (entered (built program) stop) ≡ true → EntersOne stop
 one_entered None other some = absurd (true≢false (sym some))
-one_entered (Some p) other some = go (bytes_eq (codes "run") p.0) (bytes_eq (codes "drive") p.0) (bytes_eq (codes "draw") p.0) (bytes_eq (codes "help") p.0) refl refl refl refl
+one_entered (Some p) other some =
+    go (bytes_eq (codes "run") p.0) (bytes_eq (codes "check") p.0) (bytes_eq (codes "drive") p.0) (bytes_eq (codes "draw") p.0) (bytes_eq (codes "help") p.0) refl refl refl refl refl
   where
-    ran : bytes_eq (codes "run") p.0 ≡ true → EntersRun (Some p)
-    ran r = rw r (_, refl)
+    ran : bytes_eq (codes "run") p.0 ≡ true → Enters running (codes "run") (Some p)
+    ran r = rw r (p.1, refl, refl)
 
-    drove : bytes_eq (codes "run") p.0 ≡ false → bytes_eq (codes "drive") p.0 ≡ true → Enters driving (codes "drive") (Some p)
-    drove r d = rw (r, d) (p.1, refl, refl)
+    checked : bytes_eq (codes "run") p.0 ≡ false → bytes_eq (codes "check") p.0 ≡ true → Enters checking (codes "check") (Some p)
+    checked r c = rw (r, c) (p.1, refl, refl)
 
-    drew : bytes_eq (codes "run") p.0 ≡ false → bytes_eq (codes "drive") p.0 ≡ false → bytes_eq (codes "draw") p.0 ≡ true → Enters drawing (codes "draw") (Some p)
-    drew r d w = rw (r, d, w) (p.1, refl, refl)
+    drove : bytes_eq (codes "run") p.0 ≡ false → bytes_eq (codes "check") p.0 ≡ false → bytes_eq (codes "drive") p.0 ≡ true → Enters driving (codes "drive") (Some p)
+    drove r c d = rw (r, c, d) (p.1, refl, refl)
 
-    go : (run drive draw help : Bool) → bytes_eq (codes "run") p.0 ≡ run → bytes_eq (codes "drive") p.0 ≡ drive → bytes_eq (codes "draw") p.0 ≡ draw → bytes_eq (codes "help") p.0 ≡ help
-        → EntersOne (Some p)
-    go true drive draw help r d w h = inl (ran r)
-    go false true draw help r d w h = inr (inl (drove r d))
-    go false false true help r d w h = inr (inr (drew r d w))
-    go false false false true r d w h = let same = (bytes_eq-Decides (codes "help") p.0).0 h in absurd (true≢false (rw (← same) at other))
-    go false false false false r d w h = absurd (true≢false (sym (rw (r, d, w, h) at some)))
+    drew : bytes_eq (codes "run") p.0 ≡ false → bytes_eq (codes "check") p.0 ≡ false → bytes_eq (codes "drive") p.0 ≡ false → bytes_eq (codes "draw") p.0 ≡ true
+        → Enters drawing (codes "draw") (Some p)
+    drew r c d w = rw (r, c, d, w) (p.1, refl, refl)
+
+    go : (run check drive draw help : Bool) → bytes_eq (codes "run") p.0 ≡ run → bytes_eq (codes "check") p.0 ≡ check → bytes_eq (codes "drive") p.0 ≡ drive → bytes_eq (codes "draw") p.0 ≡ draw
+        → bytes_eq (codes "help") p.0 ≡ help → EntersOne (Some p)
+    go true check drive draw help r c d w h = inl (ran r)
+    go false true drive draw help r c d w h = inr (inl (checked r c))
+    go false false true draw help r c d w h = inr (inr (inl (drove r c d)))
+    go false false false true help r c d w h = inr (inr (inr (drew r c d w)))
+    go false false false false true r c d w h = let same = (bytes_eq-Decides (codes "help") p.0).0 h in absurd (true≢false (rw (← same) at other))
+    go false false false false false r c d w h = absurd (true≢false (sym (rw (r, c, d, w, h) at some)))
 
 -- what was parsed as `program` was refused for nothing
 pub taken : (made : App) (words : List Text) → made ≡ program → (is_simple_and_free made ≡ true → fault_of made words ≡ []) → refusals words ≡ []
 taken made words same parsed = subst (λ (a : App). is_simple_and_free a ≡ true → fault_of a words ≡ []) same parsed refl
 
--- the words name `run`, or another command and a script
-abbrev pub AsksForRun : List Text → Type 0
-AsksForRun words = (rows : List Row) × Selects words (codes "run") rows
+-- what a command wants
+abbrev pub wanted_by : Text → List Text
+wanted_by name =
+    if bytes_eq name (codes "run") then [] else if bytes_eq name (codes "check") then codes "FILE" ∷ codes "CERT" ∷ [] else codes "SCRIPT" ∷ []
 
-abbrev pub NamesScript : List Text → Text → Type 0
-NamesScript words name = (script : Text) × (rows : List Row) × Selects words name rows × (first_of (codes "SCRIPT") rows ≡ Some script)
+abbrev pub IsCommand : Text → Type 0
+IsCommand name = (name ≡ codes "run") ⊎ ((name ≡ codes "check") ⊎ ((name ≡ codes "drive") ⊎ (name ≡ codes "draw")))
 
-script_behind : (words : List Text) (s : Shape) (name : Text) (stop : Option (Text × List Text)) → refusals words ≡ [] → subcommand_of program words ≡ entered (built program) stop
-    → has_other_flags (codes "SCRIPT") s.rules ≡ true → WantsScript s → Enters s name stop → entered_fault (built program) stop ≡ [] → NamesScript words name
-script_behind words s name stop none is flags wants enters passed =
+-- The words name the command of this name, whose rows have all that it wants.
+pub record AsksForOne (words : List Text) : Type 0 where
+  pub name : Text
+  pub is_one : IsCommand name
+  pub rows : List Row
+  pub selects : Selects words name rows
+  pub values : HasAll (wanted_by name) rows
+
+behind_name : (words : List Text) (s : Shape) (name : Text) (stop : Option (Text × List Text)) → refusals words ≡ [] → subcommand_of program words ≡ entered (built program) stop → IsCommand name
+    → Wants s (wanted_by name) → Enters s name stop → entered_fault (built program) stop ≡ [] → AsksForOne words
+behind_name words s name stop none is one wants enters passed =
     let below = level_passes s [] nothing_held enters.0 false [] (sym enters.2 ∙ passed) in
-    let script = script_given s enters.0 flags wants below.2 in
-    (script.0, rows_after s.rules [] enters.0, (none, is ∙ enters.1), script.1)
+    record { name = name; is_one = one; rows = rows_after s.rules [] enters.0; selects = (none, is ∙ enters.1); values = all_given s enters.0 (wanted_by name) wants below.2 }
 
-pub asks_for_one : (words : List Text) → refusals words ≡ [] → AsksForRun words ⊎ (NamesScript words (codes "drive") ⊎ NamesScript words (codes "draw"))
+pub asks_for_one : (words : List Text) → refusals words ≡ [] → AsksForOne words
 asks_for_one words none =
     let made = built program in
     let given = argument_words program words in
@@ -184,9 +195,10 @@ asks_for_one words none =
     let has = is_some (entered made end.stopped) in
     let passes = level_passes made.top (names_of made) nothing_held given has (entered_fault made end.stopped) none in
     elim (one_entered end.stopped (walk_stops made.top (names_of made) (walk_from nothing_held) given refl passes.0 refl) (wanted (finished made.top.rules end.held) _ passes.2)) [
-      | inl run ↦ inl (run.0, (none, run.1))
-      | inr (inl drive) ↦ inr (inl (script_behind words driving (codes "drive") end.stopped none refl driving_flags driving_wants drive passes.1))
-      | inr (inr draw) ↦ inr (inr (script_behind words drawing (codes "draw") end.stopped none refl drawing_flags drawing_wants draw passes.1))
+      | inl run ↦ behind_name words running (codes "run") end.stopped none refl (inl refl) running_wants run passes.1
+      | inr (inl check) ↦ behind_name words checking (codes "check") end.stopped none refl (inr (inl refl)) checking_wants check passes.1
+      | inr (inr (inl drive)) ↦ behind_name words driving (codes "drive") end.stopped none refl (inr (inr (inl refl))) driving_wants drive passes.1
+      | inr (inr (inr draw)) ↦ behind_name words drawing (codes "draw") end.stopped none refl (inr (inr (inr refl))) drawing_wants draw passes.1
     ]
 
 -- ---- what a parse tells of them
@@ -209,77 +221,77 @@ name_in_rows m = name_in (out-ArgMatches m).subcommand
 named : (words : List Text) (m : ArgMatches) (name : Text) (rows : List Row) → Tells words m → Selects words name rows → subcommand_name_of m ≡ Some name
 named words m name rows told selects = name_in_rows m ∙ ap (option_map (λ p. p.0)) (told ∙ selects.1)
 
-pub asks_for_run : (words : List Text) (m : ArgMatches) → refusals words ≡ [] → Tells words m → subcommand_name_of m ≢ Some (codes "drive") → subcommand_name_of m ≢ Some (codes "draw")
-    → AsksForRun words
-asks_for_run words m none told not_drive not_draw =
-    elim (asks_for_one words none) [
-      | inl run ↦ run
-      | inr (inl drive) ↦ absurd (not_drive (named words m (codes "drive") drive.1 told drive.2))
-      | inr (inr draw) ↦ absurd (not_draw (named words m (codes "draw") draw.1 told draw.2))
+-- some command is named
+pub one_is_named : (words : List Text) (m : ArgMatches) → refusals words ≡ [] → Tells words m → subcommand_name_of m ≢ Some (codes "run") → subcommand_name_of m ≢ Some (codes "check")
+    → subcommand_name_of m ≢ Some (codes "drive") → subcommand_name_of m ≢ Some (codes "draw") → ⊥
+one_is_named words m none told not_run not_check not_drive not_draw =
+    let one = asks_for_one words none in
+    let is = named words m one.name one.rows told one.selects in
+    elim one.is_one [
+      | inl e ↦ not_run (is ∙ ap Some e)
+      | inr (inl e) ↦ not_check (is ∙ ap Some e)
+      | inr (inr (inl e)) ↦ not_drive (is ∙ ap Some e)
+      | inr (inr (inr e)) ↦ not_draw (is ∙ ap Some e)
     ]
 
 same_name : (x y : Text) → Some x ≡ Some y → x ≡ y
 same_name x y e = cc
 
--- a command that is not `run`
-abbrev IsNotRun : Text → Type 0
-IsNotRun name = bytes_eq (codes "run") name ≡ false
-
-never_run : (name : Text) → IsNotRun name → Some (codes "run") ≡ Some name → ⊥
-never_run name other e = true≢false (subst (λ (t : Text). bytes_eq (codes "run") t ≡ false) (sym (same_name (codes "run") name e)) other)
-
-behind : (words : List Text) (m : ArgMatches) (name : Text) → IsNotRun name → refusals words ≡ [] → Tells words m → subcommand_name_of m ≡ Some name → NamesScript words name
-behind words m name other none told is =
-    elim (asks_for_one words none) [
-      | inl run ↦ absurd (never_run name other (sym (named words m (codes "run") run.0 told run.1) ∙ is))
-      | inr (inl drive) ↦ subst (λ (t : Text). NamesScript words t) (same_name _ name (sym (named words m (codes "drive") drive.1 told drive.2) ∙ is)) drive
-      | inr (inr draw) ↦ subst (λ (t : Text). NamesScript words t) (same_name _ name (sym (named words m (codes "draw") draw.1 told draw.2) ∙ is)) draw
-    ]
-
 same_rows : (xs ys : List Row) → Some xs ≡ Some ys → xs ≡ ys
 same_rows xs ys e = cc
 
--- the rows of such a command, which d has, have a script
+-- the rows of the command of this name, which d has
 pub record IsOf (words : List Text) (m d : ArgMatches) (name : Text) : Type 0 where
-  pub other : IsNotRun name
   pub none : refusals words ≡ []
   pub told : Tells words m
   pub name_is : subcommand_name_of m ≡ Some name
   pub rows_are : option_map (λ p. p.1) (subcommand_rows_of m) ≡ Some (rows_of (found_of d))
 
-script_named : (words : List Text) (m d : ArgMatches) (name : Text) → IsOf words m d name
-    → (script : Text) × Selects words name (rows_of (found_of d)) × (first_value (found_of d) (codes "SCRIPT") ≡ Some script)
-script_named words m d name h =
-    let one = behind words m name h.other h.none h.told h.name_is in
-    let same : one.1 ≡ rows_of (found_of d) = same_rows one.1 (rows_of (found_of d)) (sym (ap (option_map (λ p. p.1)) (h.told ∙ one.2.1)) ∙ h.rows_are) in (
-      one.0,
-      subst (λ (rows : List Row). Selects words name rows) same one.2,
-      first_value-rows (found_of d) (codes "SCRIPT") ∙ subst (λ (rows : List Row). first_of (codes "SCRIPT") rows ≡ Some one.0) same one.3,
-    )
+pub is_of : (made : App) (words : List Text) (m d : ArgMatches) (name : Text) → made ≡ program → (is_simple_and_free made ≡ true → fault_of made words ≡ []) → HasMatchesOf made words m
+    → subcommand_name_of m ≡ Some name → option_map (λ p. p.1) (subcommand_rows_of m) ≡ Some (rows_of (found_of d)) → IsOf words m d name
+is_of made words m d name same parsed has name_is rows_are = record { none = taken made words same parsed; told = tells made words m same has; name_is = name_is; rows_are = rows_are }
 
-no_script : (o : Option (Bor Text)) (v : Option Text) (script : Text) → option_map (λ s. s.now) o ≡ v → v ≡ Some script → o ≢ None
-no_script None v script is some none = absurd (script_is (is ∙ some))
+-- d has all that the command wants
+abbrev HasWanted : List Text → ArgMatches → Text → Type 0
+HasWanted words d name = Selects words name (rows_of (found_of d)) × HasAll (wanted_by name) (rows_of (found_of d))
+
+pub has_wanted : (words : List Text) (m d : ArgMatches) (name : Text) → IsOf words m d name → HasWanted words d name
+has_wanted words m d name h =
+    let one = asks_for_one words h.none in
+    let same_command : one.name ≡ name = same_name one.name name (sym (named words m one.name one.rows h.told one.selects) ∙ h.name_is) in
+    let same : one.rows ≡ rows_of (found_of d) = same_rows one.rows (rows_of (found_of d)) (sym (ap (option_map (λ p. p.1)) (h.told ∙ one.selects.1)) ∙ h.rows_are) in
+    let there = subst (λ (rows : List Row). Selects words one.name rows × HasAll (wanted_by one.name) rows) same (one.selects, one.values) in
+    subst (λ (t : Text). HasWanted words d t) same_command there
+
+no_value : (o : Option (Bor Text)) (v : Option Text) (text : Text) → option_map (λ s. s.now) o ≡ v → v ≡ Some text → o ≢ None
+no_value None v text is some none = absurd (text_is (is ∙ some))
   where
-    script_is : None ≡ Some script → ⊥
-    script_is e = cc
-no_script (Some s) v script is some none = cc
+    text_is : None ≡ Some text → ⊥
+    text_is e = cc
+no_value (Some s) v text is some none = cc
 
-pub some_script : (words : List Text) (m d : ArgMatches) (name : Text) (o : Option (Bor Text)) → IsOf words m d name → option_map (λ s. s.now) o ≡ first_value (found_of d) (codes "SCRIPT")
-    → o ≢ None
-some_script words m d name o h is = (let w = script_named words m d name h in no_script o _ w.0 is w.2)
+-- what has a value is not missing
+pub is_there : (d : ArgMatches) (key : Text) (o : Option (Bor Text)) → (v : Text) × (first_of key (rows_of (found_of d)) ≡ Some v) → option_map (λ s. s.now) o ≡ first_value (found_of d) key → o ≢ None
+is_there d key o has is = no_value o _ has.0 is (first_value-rows (found_of d) key ∙ has.1)
+
+-- a value of the rows
+value_in : (d : ArgMatches) (key : Text) (v : Option Text) → v ≡ first_value (found_of d) key → first_of key (rows_of (found_of d)) ≡ v
+value_in d key v is = sym (first_value-rows (found_of d) key) ∙ sym is
+
+pub asks_for_run : (words : List Text) (m d : ArgMatches) (file : Option (Bor Text)) → IsOf words m d (codes "run") → option_map (λ s. s.now) file ≡ first_value (found_of d) (codes "FILE")
+    → AsksFor words (commands.Run file)
+asks_for_run words m d file h is = (rows_of (found_of d), (has_wanted words m d (codes "run") h).0, value_in d (codes "FILE") _ is)
+
+pub asks_for_check : (words : List Text) (m d : ArgMatches) (file certificate : Bor Text) → IsOf words m d (codes "check") → Some file.now ≡ first_value (found_of d) (codes "FILE")
+    → Some certificate.now ≡ first_value (found_of d) (codes "CERT") → AsksFor words (commands.Check file certificate)
+asks_for_check words m d file certificate h file_is certificate_is =
+    (rows_of (found_of d), (has_wanted words m d (codes "check") h).0, value_in d (codes "FILE") _ file_is, value_in d (codes "CERT") _ certificate_is)
 
 pub asks_for_drive : (words : List Text) (m d : ArgMatches) (script : Bor Text) → IsOf words m d (codes "drive") → Some script.now ≡ first_value (found_of d) (codes "SCRIPT")
     → AsksFor words (commands.Drive script)
-asks_for_drive words m d script h is =
-    let w = script_named words m d (codes "drive") h in
-    (rows_of (found_of d), w.1, sym (first_value-rows (found_of d) (codes "SCRIPT")) ∙ sym is)
+asks_for_drive words m d script h is = (rows_of (found_of d), (has_wanted words m d (codes "drive") h).0, value_in d (codes "SCRIPT") _ is)
 
 pub asks_for_draw : (words : List Text) (m d : ArgMatches) (script : Bor Text) (failed : Option (Bor Text)) → IsOf words m d (codes "draw")
     → Some script.now ≡ first_value (found_of d) (codes "SCRIPT") → option_map (λ s. s.now) failed ≡ first_value (found_of d) (codes "failed") → AsksFor words (commands.Draw script failed)
 asks_for_draw words m d script failed h is failed_is =
-    let w = script_named words m d (codes "draw") h in (
-      rows_of (found_of d),
-      w.1,
-      sym (first_value-rows (found_of d) (codes "SCRIPT")) ∙ sym is,
-      sym (first_value-rows (found_of d) (codes "failed")) ∙ sym failed_is,
-    )
+    (rows_of (found_of d), (has_wanted words m d (codes "draw") h).0, value_in d (codes "SCRIPT") _ is, value_in d (codes "failed") _ failed_is)

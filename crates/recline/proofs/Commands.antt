@@ -1,33 +1,61 @@
--- The commands that take a script, as they are built.
-use Rattle.std.proofs.Common.{◌≡◌, Bool, true, false, refl, codes}
+-- The commands, as they are built, and what each wants.
+use Rattle.std.proofs.Common.{◌≡◌, Bool, true, false, List, [], ◌∷◌, refl, codes}
 use Rattle.std.specs.Prelude.{slice_get, unwrap_or}
 use Rattle.clap.specs.Simple.{Shape, built, help_shape}
+use Rattle.clap.specs.Faults.{check_fault}
 use Rattle.clap.specs.Takes.{is_given}
+use Rattle.clap.specs.Walk.{Row}
 use Rattle.recline.specs.Arguments.{program}
-use Rattle.recline.proofs.Given.{WantsScript, has_other_flags}
+use Rattle.recline.proofs.Given.{Wants}
+
+abbrev pub running : Shape
+running = unwrap_or (slice_get (built program).subs 0) help_shape
+
+abbrev pub checking : Shape
+checking = unwrap_or (slice_get (built program).subs 1) help_shape
 
 abbrev pub driving : Shape
-driving = unwrap_or (slice_get (built program).subs 1) help_shape
+driving = unwrap_or (slice_get (built program).subs 2) help_shape
 
 abbrev pub drawing : Shape
-drawing = unwrap_or (slice_get (built program).subs 2) help_shape
+drawing = unwrap_or (slice_get (built program).subs 3) help_shape
 
-pub driving_flags : has_other_flags (codes "SCRIPT") driving.rules ≡ true
-driving_flags = refl
+pub running_wants : Wants running []
+running_wants = record { flags = tt; given = λ rows none. tt }
 
-pub drawing_flags : has_other_flags (codes "SCRIPT") drawing.rules ≡ true
-drawing_flags = refl
-
-pub driving_wants : WantsScript driving
-driving_wants rows none = go (is_given (codes "SCRIPT") rows) refl
+pub checking_wants : Wants checking (codes "FILE" ∷ codes "CERT" ∷ [])
+checking_wants = record { flags = (refl, (refl, tt)); given = λ rows none. (file rows none, (certificate rows none, tt)) }
   where
-    go : (t : Bool) → is_given (codes "SCRIPT") rows ≡ t → is_given (codes "SCRIPT") rows ≡ true
-    go true e = e
-    go false e = (let bad = rw e at none in absurd (cc))
+    file : (rows : List Row) → check_fault checking rows false ≡ [] → is_given (codes "FILE") rows ≡ true
+    file rows none = go (is_given (codes "FILE") rows) refl
+      where
+        go : (t : Bool) → is_given (codes "FILE") rows ≡ t → is_given (codes "FILE") rows ≡ true
+        go true e = e
+        go false e = (let bad = rw e at none in absurd (cc))
 
-pub drawing_wants : WantsScript drawing
-drawing_wants rows none = go (is_given (codes "SCRIPT") rows) refl
+    certificate : (rows : List Row) → check_fault checking rows false ≡ [] → is_given (codes "CERT") rows ≡ true
+    certificate rows none = go (is_given (codes "CERT") rows) refl
+      where
+        go : (t : Bool) → is_given (codes "CERT") rows ≡ t → is_given (codes "CERT") rows ≡ true
+        go true e = e
+        go false e = (let bad = rw (file rows none, e) at none in absurd (cc))
+
+pub driving_wants : Wants driving (codes "SCRIPT" ∷ [])
+driving_wants = record { flags = (refl, tt); given = λ rows none. (script rows none, tt) }
   where
-    go : (t : Bool) → is_given (codes "SCRIPT") rows ≡ t → is_given (codes "SCRIPT") rows ≡ true
-    go true e = e
-    go false e = (let bad = rw e at none in absurd (cc))
+    script : (rows : List Row) → check_fault driving rows false ≡ [] → is_given (codes "SCRIPT") rows ≡ true
+    script rows none = go (is_given (codes "SCRIPT") rows) refl
+      where
+        go : (t : Bool) → is_given (codes "SCRIPT") rows ≡ t → is_given (codes "SCRIPT") rows ≡ true
+        go true e = e
+        go false e = (let bad = rw e at none in absurd (cc))
+
+pub drawing_wants : Wants drawing (codes "SCRIPT" ∷ [])
+drawing_wants = record { flags = (refl, tt); given = λ rows none. (script rows none, tt) }
+  where
+    script : (rows : List Row) → check_fault drawing rows false ≡ [] → is_given (codes "SCRIPT") rows ≡ true
+    script rows none = go (is_given (codes "SCRIPT") rows) refl
+      where
+        go : (t : Bool) → is_given (codes "SCRIPT") rows ≡ t → is_given (codes "SCRIPT") rows ≡ true
+        go true e = e
+        go false e = (let bad = rw e at none in absurd (cc))

@@ -1,4 +1,4 @@
--- Words behind a command that takes a script, which are refused for nothing, name one.
+-- Words behind a command that wants arguments, which are refused for nothing, have them.
 use Rattle.std.proofs.Common.{◌≡◌, ◌<◌, Bool, ℕ, zero, suc, true, false, Option, Some, None, List, [], ◌∷◌, ◌++◌, length, refl, sym, ◌∙◌, subst, fold, true≢false, arith}
 use Rattle.std.specs.Prelude.{◌&&◌, ◌||◌, ◌+◌, min, not, is_some, codes, find, slice_get, if◌then◌else◌}
 use Rattle.std.specs.List.{list_all}
@@ -305,10 +305,30 @@ module _ (key : Text) (c : List Rule) (flags : has_other_flags key c ≡ true) w
   pub first_given : (words : List Text) → is_given key (rows_after c [] words) ≡ true → (v : Text) × (first_of key (rows_after c [] words) ≡ Some v)
   first_given words given = given_first (rows_after c [] words) (full_rows words) given
 
--- Such a command refuses words without a script.
-abbrev pub WantsScript : Shape → Type 0
-WantsScript s = (rows : List Row) → check_fault s rows false ≡ [] → is_given (codes "SCRIPT") rows ≡ true
+-- ---- the values of all keys that a command wants
 
-pub script_given : (s : Shape) (words : List Text) → has_other_flags (codes "SCRIPT") s.rules ≡ true → WantsScript s → check_fault s (rows_after s.rules [] words) false ≡ []
-    → (script : Text) × (first_of (codes "SCRIPT") (rows_after s.rules [] words) ≡ Some script)
-script_given s words flags wants none = first_given (codes "SCRIPT") s.rules flags words (wants (rows_after s.rules [] words) none)
+-- only positional arguments have these keys for their ids
+abbrev pub AreNoFlags : List Text → List Rule → Type 0
+AreNoFlags [] c = Unit {0}
+AreNoFlags (key ∷ keys) c = (has_other_flags key c ≡ true) × AreNoFlags keys c
+
+abbrev pub AreGiven : List Text → List Row → Type 0
+AreGiven [] rows = Unit {0}
+AreGiven (key ∷ keys) rows = (is_given key rows ≡ true) × AreGiven keys rows
+
+-- the rows have a value for each of these keys
+abbrev pub HasAll : List Text → List Row → Type 0
+HasAll [] rows = Unit {0}
+HasAll (key ∷ keys) rows = ((v : Text) × (first_of key rows ≡ Some v)) × HasAll keys rows
+
+-- The command refuses words without these arguments.
+pub record Wants (s : Shape) (keys : List Text) : Type 0 where
+  pub flags : AreNoFlags keys s.rules
+  pub given : (rows : List Row) → check_fault s rows false ≡ [] → AreGiven keys rows
+
+each_given : (c : List Rule) (words keys : List Text) → AreNoFlags keys c → AreGiven keys (rows_after c [] words) → HasAll keys (rows_after c [] words)
+each_given c words [] flags given = tt
+each_given c words (key ∷ keys) flags given = (first_given key c flags.0 words given.0, each_given c words keys flags.1 given.1)
+
+pub all_given : (s : Shape) (words keys : List Text) → Wants s keys → check_fault s (rows_after s.rules [] words) false ≡ [] → HasAll keys (rows_after s.rules [] words)
+all_given s words keys wants none = each_given s.rules words keys wants.flags (wants.given (rows_after s.rules [] words) none)

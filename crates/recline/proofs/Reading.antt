@@ -1,9 +1,10 @@
--- What reads gave of a script, one after the other.
-use Rattle.std.proofs.Common.{◌≡◌, ℕ, ◌+◌, List, ◌++◌, take, Option, Some, None, Ok, sym, ap, append_assoc, subst, ◌∙◌, arith}
-use Rattle.std.specs.Io.KnownBytes.{Consumes}
+-- What reads gave, one after the other, and what was written then.
+use Rattle.std.proofs.Common.{◌≡◌, ℕ, ◌+◌, ◌⊎◌, inl, inr, List, ◌++◌, take, Option, Some, None, Ok, sym, ap, append_assoc, subst, ◌∙◌, arith}
+use Rattle.std.specs.Io.KnownBytes.{Appends, Consumes, IsAtEnd}
 use Rattle.session.specs.declared.link.LinkFault.{LinkFault}
-use Rattle.session.specs.Links.{up, LinkState, IsSound, IsRead}
-use Rattle.recline.specs.Driving.{OnlyReads}
+use Rattle.session.specs.Links.{up, LinkState, IsFault, IsSound, IsRead}
+use Rattle.recline.specs.Checking.{IsReadWhole}
+use Rattle.recline.specs.Driving.{OnlyReads, ReadsAll, WritesPart}
 
 consumes_then : (a b c : Option (List ℕ)) (x y : List ℕ) → Consumes a b x → Consumes b c y → Consumes a c (x ++ y)
 consumes_then None b c x y p q = tt
@@ -27,4 +28,25 @@ one_more first now next bytes after buf n count only sound reads read is = recor
   };
   sound = record { failures = read.failures ∙ sound.failures; stalls = read.stalls ∙ sound.stalls };
   reads = omega (arith, reads, read.counted);
+}
+
+-- what was read is all that there was, where no more was read then
+pub read_whole : (old read new : LinkState) (text : List ℕ) → ReadsAll old read text → new.left ≡ read.left → IsReadWhole old new text
+read_whole old read new text reads left = record {
+  consumed = subst (λ (rest : Option (List ℕ)). Consumes old.left rest text) (sym left) reads.only.consumed;
+  at_end = subst (λ (rest : Option (List ℕ)). IsAtEnd rest) (sym left) reads.at_end;
+}
+
+fault_behind : (old read new : LinkState) → IsSound old read → IsFault read new → IsFault old new
+fault_behind old read new sound (inl f) = inl (omega (arith, f.0, sound.failures), f.1 ∙ sound.stalls)
+fault_behind old read new sound (inr f) = inr (f.0 ∙ sound.failures, omega (arith, f.1, sound.stalls))
+
+-- what was written behind reads that did not fail
+pub part_behind : (old read new : LinkState) (text line : List ℕ) → ReadsAll old read text → WritesPart read new line → WritesPart old new line
+part_behind old read new text line reads wrote = record {
+  part = wrote.part;
+  more = wrote.more;
+  text_is = wrote.text_is;
+  written = subst (λ (held : Option (List ℕ)). Appends held new.held wrote.part) reads.only.held wrote.written;
+  fault = fault_behind old read new reads.sound wrote.fault;
 }

@@ -18,3 +18,6 @@ pub refused_line : (a b c d e : List ℕ) (number code : ℕ) → a ≡ codes "r
     → a ++ (b ++ (c ++ (d ++ (e ++ [])))) ≡ open_fault_line (Refused number code)
 refused_line a b c d e number code f g h i j =
     rw (f, g, h, i, j) (ap (λ (l : List ℕ). codes "recline: refused " ++ l) (sym (append_assoc (decimal number) (32 ∷ decimal code) (10 ∷ []))))
+
+pub unknown_line : (a b e name : List ℕ) → a ≡ codes "recline: certificate unknown " → b ≡ name → e ≡ 10 ∷ [] → a ++ (b ++ (e ++ [])) ≡ ended (codes "recline: " ++ (codes "certificate unknown " ++ name))
+unknown_line a b e name f g h = rw (f, g, h) refl

@@ -1,13 +1,15 @@
-//! The command line, the command `run`, which is one session with a client, and the commands `drive` and `draw`, which stamp the
-//! steps of a script and draw them.
+//! The command line, the command `run`, which is one session with a client over a record file, the command `check`, which checks
+//! a certificate over one, and the commands `drive` and `draw`, which stamp the steps of a script and draw them.
 #![tactic(auto)]
 
 mod args;
+mod checking;
 mod drawing;
 mod driving;
 mod running;
 
 pub use args::{Command, read_args};
+pub use checking::check_on;
 pub use drawing::draw_on;
 pub use driving::drive_on;
 pub use running::{run_on, run_over};

@@ -3,13 +3,35 @@
 
 use clap::Error;
 use clap::error::ErrorKind;
-use line_disk::NullDisk;
-use recline::{Command, draw_on, drive_on, read_args, run_on};
-use session::Streams;
+use line_disk::{DiskFault, FileDisk, Modelled, NullDisk};
+use recline::{Command, check_on, draw_on, drive_on, read_args, run_on};
+use session::{Link, Streams};
 use std::env;
 use std::fs::File;
 use std::io::{self, BufWriter, Read};
 use std::process::ExitCode;
+
+/// A file that is opened when it is read first.
+#[derive(Drop)]
+struct LaterFile<'a> {
+    rt: &'a HostRuntime,
+    path: &'a str,
+    file: Option<File>,
+}
+
+impl<'a> Read for LaterFile<'a> {
+    fn read(&mut self, buf: &mut [u8]) -> io::Result<usize> {
+        match &mut self.file {
+            Some(file) => file.read(buf),
+            None => {
+                let mut file = File::open(self.rt, self.path)?;
+                let result = file.read(buf);
+                self.file = Some(file);
+                result
+            }
+        }
+    }
+}
 
 /// The words of the command line.
 fn words_of(rt: &HostRuntime) -> io::Result<Vec<String>> {
@@ -50,6 +72,44 @@ fn show(rt: &HostRuntime, error: &Error) -> u8 {
     }
 }
 
+/// The disk over the record file of this path, which is made if it is missing; or the status, where the cause is told.
+fn open_file(rt: &HostRuntime, path: &str) -> Result<FileDisk<Modelled>, u8> {
+    match FileDisk::open(rt, rt.alloc(), path) {
+        Ok(disk) => Ok(disk),
+        Err(DiskFault::Memory) => Err(fault(rt, "memory")),
+        Err(DiskFault::Device) => Err(fault(rt, "device")),
+    }
+}
+
+/// Serves the client over the record file of this path, if there is one.
+fn run_over_file<K: Link, F: Link>(
+    rt: &HostRuntime,
+    file: Option<&str>,
+    client: &mut K,
+    faults: &mut F,
+) -> u8 {
+    let Some(path) = file else {
+        return run_on(rt.alloc(), NullDisk::new(), client, faults);
+    };
+    match open_file(rt, path) {
+        Ok(disk) => run_on(rt.alloc(), disk, client, faults),
+        Err(status) => status,
+    }
+}
+
+/// Checks the certificate that the client gives over the record file of this path.
+fn check_over_file<K: Link, F: Link>(
+    rt: &HostRuntime,
+    path: &str,
+    client: &mut K,
+    faults: &mut F,
+) -> u8 {
+    match open_file(rt, path) {
+        Ok(disk) => check_on(rt.alloc(), disk, client, faults),
+        Err(status) => status,
+    }
+}
+
 /// Does the command over this input and standard output. Fault lines are written through at once.
 fn act<R: Read + Drop>(rt: &HostRuntime, command: Command<'_>, input: R) -> u8 {
     let Ok(output) = BufWriter::new(rt.alloc(), rt.stdout()) else {
@@ -61,7 +121,8 @@ fn act<R: Read + Drop>(rt: &HostRuntime, command: Command<'_>, input: R) -> u8 {
     let mut client = Streams::new(input, output);
     let mut faults = Streams::new(io::empty(), errors);
     let status = match command {
-        Command::Run => run_on(rt.alloc(), NullDisk::new(), &mut client, &mut faults),
+        Command::Run { file } => run_over_file(rt, file, &mut client, &mut faults),
+        Command::Check { file, .. } => check_over_file(rt, file, &mut client, &mut faults),
         Command::Drive { .. } => drive_on(rt.alloc(), &mut client, &mut faults),
         Command::Draw { failed, .. } => draw_on(rt.alloc(), &mut client, &mut faults, failed),
     };
@@ -71,25 +132,29 @@ fn act<R: Read + Drop>(rt: &HostRuntime, command: Command<'_>, input: R) -> u8 {
     status
 }
 
-/// Does the command over the file of this path.
-fn act_on(rt: &HostRuntime, command: Command<'_>, path: &str) -> u8 {
-    match File::open(rt, path) {
-        Ok(file) => act(rt, command, file),
-        Err(error) => match error.kind() {
-            io::ErrorKind::OutOfMemory => fault(rt, "memory"),
-            _ => fault(rt, "device"),
+/// Does the command, which reads standard input or the file of a path.
+fn do_command(rt: &HostRuntime, command: Command<'_>) -> u8 {
+    let path = match command {
+        Command::Run { .. } => return act(rt, command, rt.reader()),
+        Command::Check { certificate, .. } => certificate,
+        Command::Drive { script } => script,
+        Command::Draw { script, .. } => script,
+    };
+    act(
+        rt,
+        command,
+        LaterFile {
+            rt,
+            path,
+            file: None,
         },
-    }
+    )
 }
 
 fn main(rt: HostRuntime) -> ExitCode {
     let status = match words_of(&rt) {
         Ok(words) => match read_args(rt.alloc(), &words) {
-            Ok(Command::Run) => act(&rt, Command::Run, rt.reader()),
-            Ok(Command::Drive { script }) => act_on(&rt, Command::Drive { script }, script),
-            Ok(Command::Draw { script, failed }) => {
-                act_on(&rt, Command::Draw { script, failed }, script)
-            }
+            Ok(command) => do_command(&rt, command),
             Err(error) => show(&rt, &error),
         },
         Err(error) => unread(&rt, &error),

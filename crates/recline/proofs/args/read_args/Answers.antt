@@ -1,58 +1,78 @@
 use Rattle.std.proofs.Common.{map, refl, sym, true≢false, codes}
-use Rattle.recline.proofs.Asked.{IsOf, asks_for_draw, asks_for_drive, asks_for_run, some_script, taken, tells}
+use Rattle.recline.proofs.Asked.{asks_for_check, asks_for_draw, asks_for_drive, asks_for_run, has_wanted, is_of, is_there, one_is_named, taken, tells}
 use Rattle.recline.proofs.args.read_args.Goals as goal
-
-pub unreachable-requires : goal.unreachable-requires
-unreachable-requires g c =
-    let texts = map g.S.AsStr.text c.args.words.now in
-    let none = taken _ texts c.in_ok-program.ensures c.in_ok-matches.ensures.kinds in
-    let told = tells _ texts _ c.in_ok-program.ensures c.in_ok-matches.ensures.matches in
-    let found : IsOf texts c.in_ok-matches.matches c.in-Some.driving.now (codes "drive") =
-    record { other = refl; none = none; told = told; name_is = c.in-Some.ensures.found.0 refl; rows_are = c.in-Some.ensures.rows } in
-    some_script texts c.in_ok-matches.matches c.in-Some.driving.now (codes "drive") c.get_str.result found c.get_str.ensures c.in-None.is
 
 pub returns-in-Some-clause-asked : goal.returns-in-Some-clause-asked
 returns-in-Some-clause-asked g c =
     let texts = map g.S.AsStr.text c.args.words.now in
-    let none = taken _ texts c.in_ok-program.ensures c.in_ok-matches.ensures.kinds in
-    let told = tells _ texts _ c.in_ok-program.ensures c.in_ok-matches.ensures.matches in
-    let found : IsOf texts c.in_ok-matches.matches c.in-Some.driving.now (codes "drive") =
-    record { other = refl; none = none; told = told; name_is = c.in-Some.ensures.found.0 refl; rows_are = c.in-Some.ensures.rows } in
-    asks_for_drive texts c.in_ok-matches.matches c.in-Some.driving.now c.in-Some-get_str.script found c.in-Some-get_str.ensures
+    let found = is_of _ texts c.in_ok-matches.matches c.in-Some.running.now (codes "run") c.in_ok-program.ensures c.in_ok-matches.ensures.kinds c.in_ok-matches.ensures.matches (c.in-Some.ensures.found.0 refl) c.in-Some.ensures.rows in
+    asks_for_run texts c.in_ok-matches.matches c.in-Some.running.now c.get_str-file.result found c.get_str-file.ensures
 
 pub returns-in-Some-clause-refused : goal.returns-in-Some-clause-refused
 returns-in-Some-clause-refused g c = taken _ (map g.S.AsStr.text c.args.words.now) c.in_ok-program.ensures c.in_ok-matches.ensures.kinds
 
-pub returns-in_default-subcommand_matches-clause-asked :
-    goal.returns-in_default-subcommand_matches-clause-asked
-returns-in_default-subcommand_matches-clause-asked g c =
+pub unreachable-requires : goal.unreachable-requires
+unreachable-requires g c =
+    let texts = map g.S.AsStr.text c.args.words.now in
+    let found = is_of _ texts c.in_ok-matches.matches c.in-Some-subcommand_matches.checking.now (codes "check") c.in_ok-program.ensures c.in_ok-matches.ensures.kinds c.in_ok-matches.ensures.matches (c.in-Some-subcommand_matches.ensures.found.0 refl) c.in-Some-subcommand_matches.ensures.rows in
+    is_there c.in-Some-subcommand_matches.checking.now (codes "FILE") c.get_str.result (has_wanted texts c.in_ok-matches.matches c.in-Some-subcommand_matches.checking.now (codes "check") found).1.0 c.get_str.ensures c.in_default-get_str.is
+
+pub unreachable-requires-in_default-get_str-2 : goal.unreachable-requires-in_default-get_str-2
+unreachable-requires-in_default-get_str-2 g c =
+    let texts = map g.S.AsStr.text c.args.words.now in
+    let found = is_of _ texts c.in_ok-matches.matches c.in-Some-subcommand_matches.checking.now (codes "check") c.in_ok-program.ensures c.in_ok-matches.ensures.kinds c.in_ok-matches.ensures.matches (c.in-Some-subcommand_matches.ensures.found.0 refl) c.in-Some-subcommand_matches.ensures.rows in
+    is_there c.in-Some-subcommand_matches.checking.now (codes "CERT") c.get_str-in-Some-subcommand_matches.result (has_wanted texts c.in_ok-matches.matches c.in-Some-subcommand_matches.checking.now (codes "check") found).1.1.0 c.get_str-in-Some-subcommand_matches.ensures
+    c.in_default-get_str-2.is
+
+pub returns-in-Some-subcommand_matches-clause-asked :
+    goal.returns-in-Some-subcommand_matches-clause-asked
+returns-in-Some-subcommand_matches-clause-asked g c =
+    let texts = map g.S.AsStr.text c.args.words.now in
+    let found = is_of _ texts c.in_ok-matches.matches c.in-Some-subcommand_matches.checking.now (codes "check") c.in_ok-program.ensures c.in_ok-matches.ensures.kinds c.in_ok-matches.ensures.matches (c.in-Some-subcommand_matches.ensures.found.0 refl) c.in-Some-subcommand_matches.ensures.rows in
+    asks_for_check texts c.in_ok-matches.matches c.in-Some-subcommand_matches.checking.now c.in-Some-get_str.file c.in-Some-get_str-2.certificate found c.in-Some-get_str.ensures c.in-Some-get_str-2.ensures
+
+pub returns-in-Some-subcommand_matches-clause-refused :
+    goal.returns-in-Some-subcommand_matches-clause-refused
+returns-in-Some-subcommand_matches-clause-refused g c = taken _ (map g.S.AsStr.text c.args.words.now) c.in_ok-program.ensures c.in_ok-matches.ensures.kinds
+
+pub unreachable-requires-in_default-get_str-3 : goal.unreachable-requires-in_default-get_str-3
+unreachable-requires-in_default-get_str-3 g c =
+    let texts = map g.S.AsStr.text c.args.words.now in
+    let found = is_of _ texts c.in_ok-matches.matches c.in-Some-subcommand_matches-2.driving.now (codes "drive") c.in_ok-program.ensures c.in_ok-matches.ensures.kinds c.in_ok-matches.ensures.matches (c.in-Some-subcommand_matches-2.ensures.found.0 refl) c.in-Some-subcommand_matches-2.ensures.rows in
+    is_there c.in-Some-subcommand_matches-2.driving.now (codes "SCRIPT") c.get_str-in-Some-subcommand_matches-2.result (has_wanted texts c.in_ok-matches.matches c.in-Some-subcommand_matches-2.driving.now (codes "drive") found).1.0 c.get_str-in-Some-subcommand_matches-2.ensures
+    c.in_default-get_str-3.is
+
+pub returns-in-Some-subcommand_matches-2-clause-asked :
+    goal.returns-in-Some-subcommand_matches-2-clause-asked
+returns-in-Some-subcommand_matches-2-clause-asked g c =
+    let texts = map g.S.AsStr.text c.args.words.now in
+    let found = is_of _ texts c.in_ok-matches.matches c.in-Some-subcommand_matches-2.driving.now (codes "drive") c.in_ok-program.ensures c.in_ok-matches.ensures.kinds c.in_ok-matches.ensures.matches (c.in-Some-subcommand_matches-2.ensures.found.0 refl) c.in-Some-subcommand_matches-2.ensures.rows in
+    asks_for_drive texts c.in_ok-matches.matches c.in-Some-subcommand_matches-2.driving.now c.in-Some-get_str-3.script found c.in-Some-get_str-3.ensures
+
+pub returns-in-Some-subcommand_matches-2-clause-refused :
+    goal.returns-in-Some-subcommand_matches-2-clause-refused
+returns-in-Some-subcommand_matches-2-clause-refused g c = taken _ (map g.S.AsStr.text c.args.words.now) c.in_ok-program.ensures c.in_ok-matches.ensures.kinds
+
+pub unreachable-requires-in_default-subcommand_matches-3 :
+    goal.unreachable-requires-in_default-subcommand_matches-3
+unreachable-requires-in_default-subcommand_matches-3 g c =
     let texts = map g.S.AsStr.text c.args.words.now in
     let none = taken _ texts c.in_ok-program.ensures c.in_ok-matches.ensures.kinds in
     let told = tells _ texts _ c.in_ok-program.ensures c.in_ok-matches.ensures.matches in
-    asks_for_run texts c.in_ok-matches.matches none told (λ named. true≢false (sym (c.in_default.ensures.found.1 named)))
-    (λ named. true≢false (sym (c.in_default-subcommand_matches.ensures.found.1 named)))
+    one_is_named texts c.in_ok-matches.matches none told (λ named. true≢false (sym (c.in_default.ensures.found.1 named))) (λ named. true≢false (sym (c.in_default-subcommand_matches.ensures.found.1 named)))
+    (λ named. true≢false (sym (c.in_default-subcommand_matches-2.ensures.found.1 named))) (λ named. true≢false (sym (c.in_default-subcommand_matches-3.ensures.found.1 named)))
 
-pub returns-in_default-subcommand_matches-clause-refused :
-    goal.returns-in_default-subcommand_matches-clause-refused
-returns-in_default-subcommand_matches-clause-refused g c = taken _ (map g.S.AsStr.text c.args.words.now) c.in_ok-program.ensures c.in_ok-matches.ensures.kinds
-
-pub unreachable-requires-in-None-get_str : goal.unreachable-requires-in-None-get_str
-unreachable-requires-in-None-get_str g c =
+pub unreachable-requires-in_default-get_str-4 : goal.unreachable-requires-in_default-get_str-4
+unreachable-requires-in_default-get_str-4 g c =
     let texts = map g.S.AsStr.text c.args.words.now in
-    let none = taken _ texts c.in_ok-program.ensures c.in_ok-matches.ensures.kinds in
-    let told = tells _ texts _ c.in_ok-program.ensures c.in_ok-matches.ensures.matches in
-    let found : IsOf texts c.in_ok-matches.matches c.in-Some-subcommand_matches.drawing.now (codes "draw") =
-    record { other = refl; none = none; told = told; name_is = c.in-Some-subcommand_matches.ensures.found.0 refl; rows_are = c.in-Some-subcommand_matches.ensures.rows } in
-    some_script texts c.in_ok-matches.matches c.in-Some-subcommand_matches.drawing.now (codes "draw") c.get_str-2.result found c.get_str-2.ensures c.in-None-get_str.is
+    let found = is_of _ texts c.in_ok-matches.matches c.in-Some-subcommand_matches-3.drawing.now (codes "draw") c.in_ok-program.ensures c.in_ok-matches.ensures.kinds c.in_ok-matches.ensures.matches (c.in-Some-subcommand_matches-3.ensures.found.0 refl) c.in-Some-subcommand_matches-3.ensures.rows in
+    is_there c.in-Some-subcommand_matches-3.drawing.now (codes "SCRIPT") c.get_str-2.result (has_wanted texts c.in_ok-matches.matches c.in-Some-subcommand_matches-3.drawing.now (codes "draw") found).1.0 c.get_str-2.ensures c.in_default-get_str-4.is
 
 pub returns-clause-asked : goal.returns-clause-asked
 returns-clause-asked g c =
     let texts = map g.S.AsStr.text c.args.words.now in
-    let none = taken _ texts c.in_ok-program.ensures c.in_ok-matches.ensures.kinds in
-    let told = tells _ texts _ c.in_ok-program.ensures c.in_ok-matches.ensures.matches in
-    let found : IsOf texts c.in_ok-matches.matches c.in-Some-subcommand_matches.drawing.now (codes "draw") =
-    record { other = refl; none = none; told = told; name_is = c.in-Some-subcommand_matches.ensures.found.0 refl; rows_are = c.in-Some-subcommand_matches.ensures.rows } in
-    asks_for_draw texts c.in_ok-matches.matches c.in-Some-subcommand_matches.drawing.now c.in-Some-get_str-2.script c.get_str-failed.result found c.in-Some-get_str-2.ensures c.get_str-failed.ensures
+    let found = is_of _ texts c.in_ok-matches.matches c.in-Some-subcommand_matches-3.drawing.now (codes "draw") c.in_ok-program.ensures c.in_ok-matches.ensures.kinds c.in_ok-matches.ensures.matches (c.in-Some-subcommand_matches-3.ensures.found.0 refl) c.in-Some-subcommand_matches-3.ensures.rows in
+    asks_for_draw texts c.in_ok-matches.matches c.in-Some-subcommand_matches-3.drawing.now c.in-Some-get_str-4.script c.get_str-failed.result found c.in-Some-get_str-4.ensures c.get_str-failed.ensures
 
 pub returns-clause-refused : goal.returns-clause-refused
 returns-clause-refused g c = taken _ (map g.S.AsStr.text c.args.words.now) c.in_ok-program.ensures c.in_ok-matches.ensures.kinds

@@ -1,0 +1,18 @@
+use Rattle.std.proofs.Common.{inl, subst}
+use Rattle.chains.specs.Held.{Held}
+use Rattle.recline.specs.Checking.{Checks}
+use Rattle.recline.proofs.Opened.{held_by_chains}
+use Rattle.recline.proofs.checking.check_on.Goals as goal
+
+pub returns-in-Ok : goal.returns-in-Ok
+returns-in-Ok g c =
+    let opened = c.in-Ok.ensures in
+    let held = held_by_chains c.chains.result.now c.in-Ok.desk.held c.chains.ensures.accepted c.chains.ensures.front opened.fresh.2 in
+    inl (record {
+      desk = c.in-Ok.desk;
+      opened = record { records = opened.records; any_moment = opened.any_moment; fresh = opened.fresh; premise = opened.premise };
+      checks =
+          subst
+          (λ (h : Held). Checks g.K.Link.told g.F.Link.told h c.args.client.now c.check_chains.new.client c.args.faults.now c.check_chains.new.faults c.check_chains.result) held c.check_chains.ensures;
+      lawful = c.lawful.ensures.lawful;
+    })

@@ -1,0 +1,1 @@
+{ $records "BEGIN a"; printf 'rest of a write'; } >"$file"

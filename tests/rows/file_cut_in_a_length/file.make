@@ -1,0 +1,1 @@
+$records "BEGIN a" "CHECK a 1 1;1" | head -c 20 >"$file"

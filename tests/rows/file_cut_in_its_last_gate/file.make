@@ -1,0 +1,1 @@
+$records "BEGIN a" | head -c 18 >"$file"

@@ -1,0 +1,1 @@
+head -c 10 /dev/zero >"$file"

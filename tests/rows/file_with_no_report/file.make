@@ -1,0 +1,1 @@
+$records 'HELLO' >"$file"

@@ -1,0 +1,1 @@
+$records 'CHECK a 1 1;1' >"$file"

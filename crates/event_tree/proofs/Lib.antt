@@ -9,7 +9,7 @@ pub mod Runs
 pub mod Spelled
 pub mod Verdicts
 pub mod Normal
-pub mod Joins
+pub mod Picks
 pub mod Raises
 pub mod Fills
 pub mod Growth

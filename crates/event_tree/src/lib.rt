@@ -17,6 +17,7 @@ ghost use Rattle.event_tree.specs.Size.{size};
 ghost use Rattle.event_tree.specs.Spelling.{spelling, IsTextOf};
 ghost use Rattle.event_tree.specs.Faults.{IsFaultOf, IsEventFaultOf};
 ghost use Rattle.event_tree.specs.Join.{IsJoin};
+ghost use Rattle.event_tree.specs.Meet.{IsMeet};
 ghost use Rattle.event_tree.specs.Grown.{IsGrown};
 ghost use Rattle.event_tree.specs.Norm.{norm};
 ghost use Rattle.event_tree.specs.Event.{IsEventStep, PassesLimit, fill, cost, grow};
@@ -26,16 +27,17 @@ mod closing;
 mod entries;
 mod event;
 mod fault;
-mod join;
 mod measured;
 mod node;
 mod order;
 mod part;
+mod pointwise;
 mod reader;
 
 pub use fault::{EventFault, EventsFault};
 use id_tree::{Id, IdPart};
 use node::Node;
+use pointwise::{Pick, combined};
 use reader::Part;
 use std::alloc::{AllocError, Global};
 use std::marker::Model;
@@ -115,7 +117,15 @@ impl Events {
     pub fn join(&self, alloc: Global, other: &Events) -> Result<Events, AllocError>
         ensures { IfOk result (λ joined. IsJoin self.now other.now joined) }
     {
-        let node = join::join(alloc, &self.node.view(), &other.node.view())?;
+        let node = combined(alloc, Pick::Greater, &self.node.view(), &other.node.view())?;
+        Ok(Events { node })
+    }
+
+    /// At each point the lesser value of the two.
+    pub fn meet(&self, alloc: Global, other: &Events) -> Result<Events, AllocError>
+        ensures { IfOk result (λ met. IsMeet self.now other.now met) }
+    {
+        let node = combined(alloc, Pick::Lesser, &self.node.view(), &other.node.view())?;
         Ok(Events { node })
     }
 

@@ -10,6 +10,8 @@ pub mod Spelled
 pub mod Verdicts
 pub mod Normal
 pub mod Picks
+pub mod Restrictions
+pub mod Bounds
 pub mod Raises
 pub mod Fills
 pub mod Growth

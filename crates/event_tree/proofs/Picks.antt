@@ -1,9 +1,9 @@
 -- What the join and the meet of the code are.
-use Rattle.std.proofs.Common.{◌≡◌, ℕ, ◌+◌, ◌-◌, ◌≤◌, min, max, true, false, [], ◌∷◌, refl, sym, ap, ◌∙◌, arith}
+use Rattle.std.proofs.Common.{◌≡◌, ℕ, ◌+◌, ◌-◌, ◌≤◌, max, true, false, [], ◌∷◌, refl, sym, ◌∙◌, arith}
 use Rattle.id_tree.specs.Points.{Point}
 use Rattle.event_tree.specs.EventTree.{EventTree, Leaf, Node}
 use Rattle.event_tree.specs.Values.{value_at}
-use Rattle.event_tree.specs.NormalForm.{greatest, depth, IsNormal, IsEvents, value_limit}
+use Rattle.event_tree.specs.NormalForm.{greatest, depth, IsNormal, IsEvents}
 use Rattle.event_tree.specs.Halves.{root, left, right}
 use Rattle.event_tree.specs.Norm.{lifted, normal_node}
 use Rattle.event_tree.specs.Join.{IsJoin}

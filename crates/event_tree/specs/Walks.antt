@@ -2,9 +2,9 @@
 use Rattle.std.specs.Prelude.{ℕ, ◌≡◌, ◌+◌, min, max}
 use Rattle.id_tree.specs.IdTree.{IdTree, Zero, One, Pair}
 use Rattle.event_tree.specs.EventTree.{EventTree, Leaf, Node}
-use Rattle.event_tree.specs.NormalForm.{least, greatest}
+use Rattle.event_tree.specs.NormalForm.{least, greatest, value_limit}
 use Rattle.event_tree.specs.Halves.{root, left, right}
-use Rattle.event_tree.specs.Norm.{normal_node}
+use Rattle.event_tree.specs.Norm.{lifted, normal_node}
 use Rattle.event_tree.specs.Event.{Cost}
 use Rattle.event_tree.specs.declared.event.GrowthCost.{GrowthCost}
 use Rattle.event_tree.specs.declared.pointwise.Pick.{Pick}
@@ -24,6 +24,12 @@ clipped c k y (Node n a b) = normal_node 0 (clipped c k (y + n) a) (clipped c k 
 abbrev pub combined_from : Pick → ℕ → EventTree → ℕ → EventTree → EventTree
 combined_from c x (Leaf m) y f = clipped c (x + m) y f
 combined_from c x (Node m a b) y f = normal_node 0 (combined_from c (x + m) a (y + root f) (left f)) (combined_from c (x + m) b (y + root f) (right f))
+
+-- e above the base x where the id owns, and the limit elsewhere
+abbrev pub restricted_from : IdTree → ℕ → EventTree → EventTree
+restricted_from Zero x e = Leaf value_limit
+restricted_from One x e = lifted x e
+restricted_from (Pair l r) x e = normal_node 0 (restricted_from l (x + root e) (left e)) (restricted_from r (x + root e) (right e))
 
 -- the node of two halves that are filled
 abbrev pub filled_node : IdTree → IdTree → ℕ → EventTree → EventTree → EventTree

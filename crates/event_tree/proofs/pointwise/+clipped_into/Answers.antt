@@ -1,5 +1,5 @@
 use Rattle.std.proofs.Common.{◌≡◌, ◌+◌, ap, arith}
-use Rattle.event_tree.specs.EventTree.{EventTree, Leaf}
+use Rattle.event_tree.specs.EventTree.{Leaf}
 use Rattle.event_tree.specs.NormalForm.{greatest}
 use Rattle.event_tree.specs.Norm.{lifted}
 use Rattle.event_tree.specs.Walks.{clipped}

@@ -171,7 +171,7 @@ pub fn cover(left: &[Mark], right: &[Mark]) -> bool
                 left = left_inside;
                 right = right_inside;
             }
-            _ => return false,
+            (Mark::Zero, _) | (Mark::Pair, Mark::One) => return false,
         }
     }
     true

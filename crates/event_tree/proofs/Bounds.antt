@@ -45,3 +45,11 @@ exceeds_meet v e f g m = (
   λ q. elim (lesser (value_at v q.0) (value_at e q.0) (value_at f q.0) (omega (arith, m q.0, q.1))) [ inl h ↦ inl (q.0, h) | inr h ↦ inr (q.0, h) ],
   λ either. elim either [ inl q ↦ (q.0, omega (arith, m q.0, q.1)) | inr q ↦ (q.0, omega (arith, m q.0, q.1)) ],
 )
+
+pub below_both : (i j : IdTree) (v e f x y g : EventTree) → greatest v ≤ value_limit → IsRestricted i e x → IsRestricted j f y → IsMeet x y g
+    → IsAtOrBelow v g ↔ ((¬ ExceedsOn i v e) × (¬ ExceedsOn j v f))
+below_both i j v e f x y g small r s m =
+    let one = below_restricted i v e x small r in
+    let other = below_restricted j v f y small s in
+    let both = below_meet v x y g m in
+    (λ h. (one.0 (both.0 h).0, other.0 (both.0 h).1), λ n. both.1 (one.1 n.0, other.1 n.1))

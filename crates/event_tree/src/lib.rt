@@ -230,11 +230,14 @@ pub fn a_restricted_tree_bounds_what_exceeds_nowhere()
     ensures exceeding { (i : IdTree) (v e f : EventTree) → greatest v ≤ value_limit → IsRestricted i e f → ((p : Point) × (value_at f p < value_at v p)) ↔ ExceedsOn i v e }
 {}
 
-/// A tree is at or below the meet of two exactly where it is at or below both.
+/// A tree is at or below the meet of two exactly where it is at or below both; of two that are restricted, exactly where it
+/// exceeds neither on its id.
 pub fn a_meet_bounds_what_both_bound()
     ensures below { (v e f g : EventTree) → IsMeet e f g → IsAtOrBelow v g ↔ (IsAtOrBelow v e × IsAtOrBelow v f) }
     ensures exceeding { (v e f g : EventTree) → IsMeet e f g
         → ((p : Point) × (value_at g p < value_at v p)) ↔ (((p : Point) × (value_at e p < value_at v p)) ⊎ ((p : Point) × (value_at f p < value_at v p))) }
+    ensures restricted { (i j : IdTree) (v e f x y g : EventTree) → greatest v ≤ value_limit → IsRestricted i e x → IsRestricted j f y → IsMeet x y g
+        → IsAtOrBelow v g ↔ ((¬ ExceedsOn i v e) × (¬ ExceedsOn j v f)) }
 {}
 
 /// The normal form has the same values, is normal, and is the tree itself where that was normal.

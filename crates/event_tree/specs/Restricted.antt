@@ -7,7 +7,7 @@ use Rattle.event_tree.specs.EventTree.{EventTree}
 use Rattle.event_tree.specs.Values.{value_at}
 use Rattle.event_tree.specs.NormalForm.{value_limit}
 
--- f has the value of e at each point that i owns, and the limit at each other
+-- f has the value of e at each point that i owns, and elsewhere the limit
 pub record IsRestricted (i : IdTree) (e f : EventTree) : Type 0 where
   pub owned : (p : Point) → IsTrue (owns i p) → value_at f p ≡ value_at e p
   pub elsewhere : (p : Point) → owns i p ≡ false → value_at f p ≡ value_limit

@@ -131,8 +131,8 @@ impl Events {
         Ok(Events { node })
     }
 
-    /// The tree's own value at each point that the id owns, and the limit 4,294,967,295 at each other: what is at or below it
-    /// exceeds the tree nowhere on the id.
+    /// The tree's own value at each point that the id owns, and elsewhere the greatest that there is, 4,294,967,295: what is
+    /// at or below it exceeds the tree nowhere on the id.
     pub fn restricted(&self, alloc: Global, id: &Id) -> Result<Events, AllocError>
         ensures { IfOk result (λ bound. IsRestricted id.now self.now bound) }
     {

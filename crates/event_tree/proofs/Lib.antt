@@ -9,7 +9,9 @@ pub mod Runs
 pub mod Spelled
 pub mod Verdicts
 pub mod Normal
-pub mod Joins
+pub mod Picks
+pub mod Restrictions
+pub mod Bounds
 pub mod Raises
 pub mod Fills
 pub mod Growth

@@ -94,3 +94,7 @@ below_leaf x (Node m a b) y n =
     let one : is_below_from (x + m) a (y + n) (Leaf 0) ≡ nat_le (x + m + greatest a) (y + n) = sym (below_leaf (x + m) a (y + n) 0) ∙ ap (nat_le (x + m + greatest a)) none in
     let other : is_below_from (x + m) b (y + n) (Leaf 0) ≡ nat_le (x + m + greatest b) (y + n) = sym (below_leaf (x + m) b (y + n) 0) ∙ ap (nat_le (x + m + greatest b)) none in
     rw (one, other) (sym (greatest_at_most x m a b (y + n)))
+
+-- at or below a leaf at the limit stands each tree
+pub below_limit : (x : ℕ) (e : EventTree) (y n : ℕ) → x + greatest e < 4294967296 → y + n ≡ 4294967295 → true ≡ is_below_from x e y (Leaf n)
+below_limit x e y n fits full = sym (le-leb (x + greatest e) (y + n) (omega (arith, fits, full))) ∙ below_leaf x e y n

@@ -1,22 +1,35 @@
 -- Working definitions: the walks of the code, by cases in its order.
-use Rattle.std.specs.Prelude.{ℕ, ◌≡◌, ◌+◌, max}
+use Rattle.std.specs.Prelude.{ℕ, ◌≡◌, ◌+◌, min, max}
 use Rattle.id_tree.specs.IdTree.{IdTree, Zero, One, Pair}
 use Rattle.event_tree.specs.EventTree.{EventTree, Leaf, Node}
-use Rattle.event_tree.specs.NormalForm.{least, greatest}
+use Rattle.event_tree.specs.NormalForm.{least, greatest, value_limit}
 use Rattle.event_tree.specs.Halves.{root, left, right}
-use Rattle.event_tree.specs.Norm.{normal_node}
+use Rattle.event_tree.specs.Norm.{lifted, normal_node}
 use Rattle.event_tree.specs.Event.{Cost}
 use Rattle.event_tree.specs.declared.event.GrowthCost.{GrowthCost}
+use Rattle.event_tree.specs.declared.pointwise.Pick.{Pick}
+use Rattle.event_tree.specs.declared.pointwise.Pick.TheVariants.{Greater, Lesser}
 
--- f above the base y, raised to k where it is less
-abbrev pub raised : ℕ → ℕ → EventTree → EventTree
-raised k y (Leaf n) = Leaf (max k (y + n))
-raised k y (Node n c d) = normal_node 0 (raised k (y + n) c) (raised k (y + n) d)
+-- what is taken of two values
+abbrev pub pick : Pick → ℕ → ℕ → ℕ
+pick Greater m n = max m n
+pick Lesser m n = min m n
 
--- the greater of e above the base x and f above the base y
-abbrev pub join_from : ℕ → EventTree → ℕ → EventTree → EventTree
-join_from x (Leaf m) y f = raised (x + m) y f
-join_from x (Node m a b) y f = normal_node 0 (join_from (x + m) a (y + root f) (left f)) (join_from (x + m) b (y + root f) (right f))
+-- f above the base y, with k in place of each value that is not picked
+abbrev pub clipped : Pick → ℕ → ℕ → EventTree → EventTree
+clipped c k y (Leaf n) = Leaf (pick c k (y + n))
+clipped c k y (Node n a b) = normal_node 0 (clipped c k (y + n) a) (clipped c k (y + n) b)
+
+-- what is picked of e above the base x and f above the base y
+abbrev pub combined_from : Pick → ℕ → EventTree → ℕ → EventTree → EventTree
+combined_from c x (Leaf m) y f = clipped c (x + m) y f
+combined_from c x (Node m a b) y f = normal_node 0 (combined_from c (x + m) a (y + root f) (left f)) (combined_from c (x + m) b (y + root f) (right f))
+
+-- e above the base x where the id owns, and the limit elsewhere
+abbrev pub restricted_from : IdTree → ℕ → EventTree → EventTree
+restricted_from Zero x e = Leaf value_limit
+restricted_from One x e = lifted x e
+restricted_from (Pair l r) x e = normal_node 0 (restricted_from l (x + root e) (left e)) (restricted_from r (x + root e) (right e))
 
 -- the node of two halves that are filled
 abbrev pub filled_node : IdTree → IdTree → ℕ → EventTree → EventTree → EventTree

@@ -4,7 +4,7 @@
 //! deep, with no value above 4,294,967,295, so that equal functions are equal trees with one text.
 #![tactic(auto)]
 
-ghost use Rattle.std.specs.Prelude.{◌≡◌, ◌↔◌, ◌++◌, ◌≤◌, ◌<◌, ◌+◌, ◌≢◌, ℕ, max, List, true, false, IsTrue, IsOk, IfOk, IfErr, MatchResult, OnOk, OnErr, IsErr};
+ghost use Rattle.std.specs.Prelude.{◌≡◌, ◌↔◌, ◌⊎◌, ◌++◌, ◌≤◌, ◌<◌, ◌+◌, ◌≢◌, ℕ, max, List, true, false, IsTrue, IsOk, IfOk, IfErr, MatchResult, OnOk, OnErr, IsErr};
 ghost use Rattle.std.specs.List.{list_all};
 ghost use Rattle.id_tree.specs.IdTree.{IdTree, Zero};
 ghost use Rattle.id_tree.specs.NormalForm.{depth_limit, depth as id_depth, IsNormal as IsNormalId};
@@ -17,6 +17,8 @@ ghost use Rattle.event_tree.specs.Size.{size};
 ghost use Rattle.event_tree.specs.Spelling.{spelling, IsTextOf};
 ghost use Rattle.event_tree.specs.Faults.{IsFaultOf, IsEventFaultOf};
 ghost use Rattle.event_tree.specs.Join.{IsJoin};
+ghost use Rattle.event_tree.specs.Meet.{IsMeet};
+ghost use Rattle.event_tree.specs.Restricted.{IsRestricted};
 ghost use Rattle.event_tree.specs.Grown.{IsGrown};
 ghost use Rattle.event_tree.specs.Norm.{norm};
 ghost use Rattle.event_tree.specs.Event.{IsEventStep, PassesLimit, fill, cost, grow};
@@ -26,16 +28,18 @@ mod closing;
 mod entries;
 mod event;
 mod fault;
-mod join;
 mod measured;
 mod node;
 mod order;
 mod part;
+mod pointwise;
 mod reader;
+mod restricted;
 
 pub use fault::{EventFault, EventsFault};
 use id_tree::{Id, IdPart};
 use node::Node;
+use pointwise::{Pick, combined};
 use reader::Part;
 use std::alloc::{AllocError, Global};
 use std::marker::Model;
@@ -115,7 +119,25 @@ impl Events {
     pub fn join(&self, alloc: Global, other: &Events) -> Result<Events, AllocError>
         ensures { IfOk result (λ joined. IsJoin self.now other.now joined) }
     {
-        let node = join::join(alloc, &self.node.view(), &other.node.view())?;
+        let node = combined(alloc, Pick::Greater, &self.node.view(), &other.node.view())?;
+        Ok(Events { node })
+    }
+
+    /// At each point the lesser value of the two.
+    pub fn meet(&self, alloc: Global, other: &Events) -> Result<Events, AllocError>
+        ensures { IfOk result (λ met. IsMeet self.now other.now met) }
+    {
+        let node = combined(alloc, Pick::Lesser, &self.node.view(), &other.node.view())?;
+        Ok(Events { node })
+    }
+
+    /// The tree's own value at each point that the id owns, and elsewhere the greatest that there is, 4,294,967,295: what is
+    /// at or below it exceeds the tree nowhere on the id.
+    pub fn restricted(&self, alloc: Global, id: &Id) -> Result<Events, AllocError>
+        ensures { IfOk result (λ bound. IsRestricted id.now self.now bound) }
+    {
+        id.known();
+        let node = restricted::restricted(alloc, &id.view(), &self.node.view())?;
         Ok(Events { node })
     }
 
@@ -200,6 +222,22 @@ pub fn the_least_and_the_greatest_are_values_at_points()
     ensures none_above { (e : EventTree) (p : Point) → value_at e p ≤ greatest e }
     ensures some_least { (e : EventTree) → (p : Point) × (value_at e p ≡ least e) }
     ensures none_below { (e : EventTree) (p : Point) → least e ≤ value_at e p }
+{}
+
+/// A tree is at or below another one that is restricted to an id exactly where it exceeds that one nowhere on the id.
+pub fn a_restricted_tree_bounds_what_exceeds_nowhere()
+    ensures below { (i : IdTree) (v e f : EventTree) → greatest v ≤ value_limit → IsRestricted i e f → IsAtOrBelow v f ↔ (¬ ExceedsOn i v e) }
+    ensures exceeding { (i : IdTree) (v e f : EventTree) → greatest v ≤ value_limit → IsRestricted i e f → ((p : Point) × (value_at f p < value_at v p)) ↔ ExceedsOn i v e }
+{}
+
+/// A tree is at or below the meet of two exactly where it is at or below both; of two that are restricted, exactly where it
+/// exceeds neither on its id.
+pub fn a_meet_bounds_what_both_bound()
+    ensures below { (v e f g : EventTree) → IsMeet e f g → IsAtOrBelow v g ↔ (IsAtOrBelow v e × IsAtOrBelow v f) }
+    ensures exceeding { (v e f g : EventTree) → IsMeet e f g
+        → ((p : Point) × (value_at g p < value_at v p)) ↔ (((p : Point) × (value_at e p < value_at v p)) ⊎ ((p : Point) × (value_at f p < value_at v p))) }
+    ensures restricted { (i j : IdTree) (v e f x y g : EventTree) → greatest v ≤ value_limit → IsRestricted i e x → IsRestricted j f y → IsMeet x y g
+        → IsAtOrBelow v g ↔ ((¬ ExceedsOn i v e) × (¬ ExceedsOn j v f)) }
 {}
 
 /// The normal form has the same values, is normal, and is the tree itself where that was normal.

@@ -27,15 +27,15 @@ with_nothing Zero = refl
 with_nothing One = refl
 with_nothing (Pair l r) = refl
 
-both_true : (b : Bool) → (b && true) ≡ ((b && true) && true)
+pub both_true : (b : Bool) → (b && true) ≡ ((b && true) && true)
 both_true true = refl
 both_true false = refl
 
-regroup : (a b c : Bool) → (a && (b && c)) ≡ ((a && b) && c)
+pub regroup : (a b c : Bool) → (a && (b && c)) ≡ ((a && b) && c)
 regroup true b c = refl
 regroup false b c = refl
 
-and_true : (b : Bool) → (b && true) ≡ b
+pub and_true : (b : Bool) → (b && true) ≡ b
 and_true true = refl
 and_true false = refl
 

@@ -5,6 +5,7 @@ pub mod Splits
 pub mod Sums
 pub mod Texts
 pub mod Apart
+pub mod Covering
 pub mod Equal
 pub mod Shapes
 pub mod Fronts

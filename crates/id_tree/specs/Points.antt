@@ -29,3 +29,7 @@ AreDisjoint i j = (p : Point) → IsTrue (owns i p) → owns j p ≡ false
 -- l and r together own just the points of i
 abbrev pub AreTogether : IdTree → IdTree → IdTree → Type 0
 AreTogether l r i = (p : Point) → owns i p ≡ (owns l p || owns r p)
+
+-- i owns each point that j owns
+abbrev pub Covers : IdTree → IdTree → Type 0
+Covers i j = (p : Point) → IsTrue (owns j p) → IsTrue (owns i p)

@@ -24,6 +24,23 @@ all_disjoint [] js = true
 all_disjoint (i ∷ is) [] = true
 all_disjoint (i ∷ is) (j ∷ js) = are_disjoint i j && all_disjoint is js
 
+-- i owns each point that j owns
+abbrev pub covers : IdTree → IdTree → Bool
+covers Zero Zero = true
+covers Zero One = false
+covers Zero (Pair c d) = false
+covers One j = true
+covers (Pair a b) Zero = true
+covers (Pair a b) One = false
+covers (Pair a b) (Pair c d) = covers a c && covers b d
+
+-- of each two that stand at one place, where one that is missing owns nothing
+abbrev pub all_covered : List IdTree → List IdTree → Bool
+all_covered [] [] = true
+all_covered [] (j ∷ js) = covers Zero j && all_covered [] js
+all_covered (i ∷ is) [] = true
+all_covered (i ∷ is) (j ∷ js) = covers i j && all_covered is js
+
 -- i owns just what l and r own, who own no point both
 abbrev pub IsSumBy : IdTree → IdTree → IdTree → Type 0
 IsSumBy i Zero r = i ≡ r

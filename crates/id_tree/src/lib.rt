@@ -7,7 +7,7 @@
 ghost use Rattle.std.specs.Prelude.{◌≡◌, ◌↔◌, ◌++◌, [], ◌∷◌, IsTrue, IsOk, IfOk, IfErr, IsErrOf, MatchResult, OnOk, OnErr, ◌≤◌, ◌<◌, ◌≢◌, false};
 ghost use Rattle.std.specs.List.{list_all};
 ghost use Rattle.id_tree.specs.IdTree.{IdTree, Zero, One};
-ghost use Rattle.id_tree.specs.Points.{Point, owns, OwnsSome, Overlap, AreDisjoint, AreTogether};
+ghost use Rattle.id_tree.specs.Points.{Point, owns, OwnsSome, Overlap, AreDisjoint, AreTogether, Covers};
 ghost use Rattle.id_tree.specs.Size.{size};
 ghost use Rattle.id_tree.specs.Marks.{tree_of, IsLeaf, AreMarksOf};
 ghost use Rattle.id_tree.specs.NormalForm.{IsId, IsNormal, depth, depth_limit};
@@ -27,7 +27,7 @@ mod view;
 
 pub use fault::{IdFault, SplitFault, SumFault};
 use form::{are_normal, fits};
-use marks::{Mark, Marks, are_apart, are_same, own_any, sum_into};
+use marks::{Mark, Marks, are_apart, are_same, cover, own_any, sum_into};
 use parts::{left_into, parts_fit, right_into};
 use smallvec::SmallVec;
 use std::alloc::{AllocError, Global};
@@ -132,6 +132,14 @@ impl Id {
         ensures overlapping { (result ≡ false) ↔ Overlap self.now other.now }
     {
         are_apart(self.marks(), other.marks())
+    }
+
+    /// Whether this id owns each point that the other owns. It takes no memory.
+    pub fn covers(&self, other: &Id) -> bool
+        ensures covering { IsTrue result ↔ Covers self.now other.now }
+        ensures uncovered { (result ≡ false) ↔ ((p : Point) × IsTrue (owns other.now p) × (owns self.now p ≡ false)) }
+    {
+        cover(self.marks(), other.marks())
     }
 
     /// Whether this id owns just what the two others own, who own no point both. It takes no memory.

@@ -1,10 +1,11 @@
 //! The marks that an id is kept as. They may be in any form: what holds of each id is stated at `Id`.
 
-ghost use Rattle.std.specs.Prelude.{◌≡◌, ◌≢◌, ◌↔◌, ◌≤◌, ◌<◌, ◌++◌, ◌+◌, IsTrue, IfOk, OnOk, OnErr, IsErrOf, take, drop, length, List};
+ghost use Rattle.std.specs.Prelude.{◌≡◌, ◌≢◌, ◌↔◌, ◌≤◌, ◌<◌, ◌++◌, ◌+◌, IsTrue, IfOk, OnOk, OnErr, IsErrOf, take, drop, get_or, length, List};
 ghost use Rattle.id_tree.specs.IdTree.{IdTree, Pair};
 ghost use Rattle.id_tree.specs.Sum.{normal_pair, sum_of};
 ghost use Rattle.id_tree.specs.Marks.{trees_of, tree_of, first, later, preorder, HasTrees, IsBehind};
-ghost use Rattle.id_tree.specs.Tests.{all_disjoint, owns_any};
+ghost use Rattle.id_tree.specs.Tests.{all_covered, all_disjoint, owns_any};
+ghost use Rattle.id_tree.specs.declared.marks.Mark.TheVariants as marked;
 
 use smallvec::SmallVec;
 use std::alloc::AllocError;
@@ -132,6 +133,45 @@ pub fn are_apart(left: &[Mark], right: &[Mark]) -> bool
                 right = right_inside;
             }
             _ => return false,
+        }
+    }
+    true
+}
+
+// The first mark, where nothing stands in for one that is missing, and the marks behind it.
+fn split_first_mark(marks: &[Mark]) -> (Mark, &[Mark])
+    ensures first { result.0 ≡ get_or marks.now 0 marked.Zero }
+    ensures behind { result.1.now ≡ drop 1 marks.now }
+{
+    match marks.split_first() {
+        Some((mark, behind)) => (*mark, behind),
+        None => (Mark::Zero, marks),
+    }
+}
+
+// Whether each tree on the left owns what the one at its place on the right owns, where all are in normal form.
+pub fn cover(left: &[Mark], right: &[Mark]) -> bool
+    ensures { result ≡ all_covered (trees_of left.now) (trees_of right.now) }
+{
+    let mut left = left;
+    let mut right = right;
+    while right.len() > 0 {
+        let (one, left_inside) = split_first_mark(left);
+        let (other, right_inside) = split_first_mark(right);
+        match (one, other) {
+            (_, Mark::Zero) => {
+                left = split_first_tree(left).1;
+                right = right_inside;
+            }
+            (Mark::One, _) => {
+                left = left_inside;
+                right = split_first_tree(right).1;
+            }
+            (Mark::Pair, Mark::Pair) => {
+                left = left_inside;
+                right = right_inside;
+            }
+            (Mark::Zero, _) | (Mark::Pair, Mark::One) => return false,
         }
     }
     true

@@ -1,0 +1,16 @@
+use Rattle.std.proofs.Common.{◌++◌, ap, ◌∙◌, List}
+use Rattle.event_tree.specs.Entries.{preorder}
+use Rattle.event_tree.specs.Walks.{combined_from}
+use Rattle.event_tree.specs.declared.entries.Entry.{Entry}
+use Rattle.event_tree.proofs.Preorder.{is_preorder, tree_of_preorder}
+use Rattle.event_tree.proofs.pointwise.combined.Goals as goal
+
+pub of-requires : goal.of-requires
+of-requires c =
+    let t = combined_from c.args.pick 0 c.args.e.now 0 c.args.f.now in
+    is_preorder _ t (c.in_ok-combined_into.ensures ∙ ap (λ (es : List Entry). es ++ preorder t) c.in_ok-out.ensures.items)
+
+pub returns : goal.returns
+returns c =
+    let t = combined_from c.args.pick 0 c.args.e.now 0 c.args.f.now in
+    c.of.ensures ∙ tree_of_preorder _ t (c.in_ok-combined_into.ensures ∙ ap (λ (es : List Entry). es ++ preorder t) c.in_ok-out.ensures.items)

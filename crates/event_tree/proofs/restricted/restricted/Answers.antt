@@ -1,0 +1,16 @@
+use Rattle.std.proofs.Common.{◌++◌, ap, ◌∙◌, List}
+use Rattle.event_tree.specs.Entries.{preorder}
+use Rattle.event_tree.specs.Walks.{restricted_from}
+use Rattle.event_tree.specs.declared.entries.Entry.{Entry}
+use Rattle.event_tree.proofs.Preorder.{is_preorder, tree_of_preorder}
+use Rattle.event_tree.proofs.restricted.restricted.Goals as goal
+
+pub of-requires : goal.of-requires
+of-requires c =
+    let t = restricted_from c.args.id.now 0 c.args.e.now in
+    is_preorder _ t (c.in_ok-restricted_into.ensures ∙ ap (λ (es : List Entry). es ++ preorder t) c.new-out.ensures.items)
+
+pub returns : goal.returns
+returns c =
+    let t = restricted_from c.args.id.now 0 c.args.e.now in
+    c.of.ensures ∙ tree_of_preorder _ t (c.in_ok-restricted_into.ensures ∙ ap (λ (es : List Entry). es ++ preorder t) c.new-out.ensures.items)

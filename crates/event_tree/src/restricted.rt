@@ -1,0 +1,45 @@
+//! An event tree restricted to an id, in one pass over both into one list.
+
+ghost use Rattle.std.specs.Prelude.{◌≡◌, ◌+◌, ◌<◌, ◌^◌, ◌++◌, IfOk, OnOk};
+ghost use Rattle.event_tree.specs.NormalForm.{greatest};
+ghost use Rattle.event_tree.specs.Entries.{preorder};
+ghost use Rattle.event_tree.specs.Walks as walks;
+
+use crate::closing;
+use crate::entries::{self, Entries, Entry};
+use crate::node::Node;
+use crate::part::EventView;
+use id_tree::{IdPart, IdView};
+use smallvec::SmallVec;
+use std::alloc::{AllocError, Global};
+
+// Appends `e` above the base `x` where the id owns, and the limit elsewhere; in normal form where `e` is.
+fn restricted_into(out: &mut Entries, id: &IdView, x: u32, e: &EventView) -> Result<(), AllocError>
+    requires { x + greatest e.now < 2 ^ 32 }
+    ensures { OnOk result (out.new.items ≡ out.old.items ++ preorder (walks.restricted_from id.now x e.now)) }
+{
+    match id.part() {
+        IdPart::Nothing => entries::push_leaf(out, u32::MAX),
+        IdPart::Everything => e.append_lifted(out, x),
+        IdPart::Halves(l, r) => {
+            let (n, a, b) = e.halves();
+            let start = out.len();
+            out.push(Entry::default())?;
+            restricted_into(out, &l, x + n, &a)?;
+            let middle = out.len();
+            restricted_into(out, &r, x + n, &b)?;
+            closing::close(out, 0, start, middle)
+        }
+    }
+}
+
+// The tree where the id owns, and the limit elsewhere.
+pub fn restricted(alloc: Global, id: &IdView, e: &EventView) -> Result<Node, AllocError>
+    requires { greatest e.now < 2 ^ 32 }
+    ensures { IfOk result (λ node. node ≡ walks.restricted_from id.now 0 e.now) }
+{
+    // What the id owns may be a small part of the tree, so no room is made beforehand.
+    let mut out = SmallVec::new(alloc);
+    restricted_into(&mut out, id, 0, e)?;
+    Ok(Node::of(out))
+}

@@ -1,9 +1,8 @@
 //! Turns.
 
-ghost use Rattle.std.specs.Prelude.{◌≡◌, ℕ, List, IfOk, None, Err};
-ghost use Rattle.report_line.specs.declared.call.Call.TheVariants as calls;
+ghost use Rattle.std.specs.Prelude.{◌≡◌, ℕ, List, IfOk, None};
 ghost use Rattle.chains.specs.Processes.{known};
-ghost use Rattle.chains.specs.Held.{Held, held_of};
+ghost use Rattle.chains.specs.Held.{held_of};
 ghost use Rattle.chains.specs.Failures.{IsFailedSet};
 ghost use Rattle.desk.specs.Files.{IsShort};
 ghost use Rattle.reasons.specs.CertificateText.{certificate_text};

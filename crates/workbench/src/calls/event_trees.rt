@@ -17,6 +17,19 @@ fn put_join(alloc: Global, one: &str, other: &str, out: &mut Vec<u8>) -> Result<
     Ok(())
 }
 
+fn put_meet(alloc: Global, one: &str, other: &str, out: &mut Vec<u8>) -> Result<(), Fault> {
+    let met = events_of(alloc, one)?.meet(alloc, &events_of(alloc, other)?)?;
+    met.write_to(out)?;
+    Ok(())
+}
+
+// The tree where the id owns, and the limit elsewhere.
+fn put_restricted(alloc: Global, events: &str, id: &str, out: &mut Vec<u8>) -> Result<(), Fault> {
+    let restricted = events_of(alloc, events)?.restricted(alloc, &id_of(alloc, id)?)?;
+    restricted.write_to(out)?;
+    Ok(())
+}
+
 // What an event of the owner of the id makes of the tree.
 fn put_after_event(alloc: Global, id: &str, events: &str, out: &mut Vec<u8>) -> Result<(), Fault> {
     let id = id_of(alloc, id)?;
@@ -63,6 +76,8 @@ pub fn answer(alloc: Global, words: &[&str], out: &mut Vec<u8>) -> Result<bool, 
         ["leq", one, other] => put_whether_below(alloc, one, other, out)?,
         ["exceeds_on", one, other, id] => put_whether_exceeding(alloc, one, other, id, out)?,
         ["join", one, other] => put_join(alloc, one, other, out)?,
+        ["meet", one, other] => put_meet(alloc, one, other, out)?,
+        ["restricted", events, id] => put_restricted(alloc, events, id, out)?,
         ["after_event", id, events] => put_after_event(alloc, id, events, out)?,
         _ => return Ok(false),
     }

@@ -31,6 +31,18 @@ fn put_whether_disjoint(
     Ok(())
 }
 
+// Whether the first id owns each point that the other owns.
+fn put_whether_covering(
+    alloc: Global,
+    id: &str,
+    other: &str,
+    out: &mut Vec<u8>,
+) -> Result<(), Fault> {
+    let (id, other) = (id_of(alloc, id)?, id_of(alloc, other)?);
+    put_whether(id.covers(&other), out)?;
+    Ok(())
+}
+
 fn put_parts(alloc: Global, id: &str, out: &mut Vec<u8>) -> Result<(), Fault> {
     let (left, right) = id_of(alloc, id)?.split(alloc)?;
     left.write_to(out)?;
@@ -65,6 +77,7 @@ pub fn answer(alloc: Global, words: &[&str], out: &mut Vec<u8>) -> Result<bool, 
         ["id", id] => put_id(alloc, id, out)?,
         ["owns_any", id] => put_whether_owning(alloc, id, out)?,
         ["disjoint", left, right] => put_whether_disjoint(alloc, left, right, out)?,
+        ["covers", id, other] => put_whether_covering(alloc, id, other, out)?,
         ["is_sum", whole, left, right] => put_whether_sum(alloc, whole, left, right, out)?,
         ["split", id] => put_parts(alloc, id, out)?,
         ["sum", left, right] => put_sum(alloc, left, right, out)?,

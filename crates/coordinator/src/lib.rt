@@ -1,0 +1,17 @@
+//! A desk that threads share. Each call makes one turn under one lock, and passes keep what was answered.
+//!
+//! A ledger counts the turns: its book lies under the lock, and each pass has a share of it. At the end the turns are held
+//! against the entries of the passes, and each shown line against what was accepted at its turn.
+#![tactic(auto)]
+
+mod coordinator;
+mod entry;
+mod fault;
+mod line;
+mod locked;
+mod pass;
+
+pub use coordinator::{Coordinator, Gate, OpenGate, Refused};
+pub use entry::Entry;
+pub use fault::{CallFault, CloseFault, PassFault};
+pub use pass::Pass;

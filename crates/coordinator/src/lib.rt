@@ -4,13 +4,19 @@
 //! against the entries of the passes, and each shown line against what was accepted at its turn.
 #![tactic(auto)]
 
+mod auditing;
 mod coordinator;
 mod entry;
+mod equal;
 mod fault;
 mod line;
 mod locked;
+mod marking;
 mod pass;
+mod replaying;
+mod shown_lines;
 
+pub use auditing::audit;
 pub use coordinator::{Coordinator, Gate, OpenGate, Refused};
 pub use entry::Entry;
 pub use fault::{CallFault, CloseFault, PassFault};

@@ -83,9 +83,11 @@ fn total(marks: &[u64]) -> u64
 /// Whether these turns are those of the passes, each once, and each shown line is right over what the turns before it replay to.
 fn audit_turns<L: Ledger>(
     opening: &Chains,
+    chains: &mut Chains,
     turns: &[Turn],
     passes: &[Pass<L>],
 ) -> Result<(), CloseFault>
+    requires same { held_of chains.old ≡ held_of opening.now }
     requires few { length turns.now ≤ 65536 }
     requires replays { (end : Held) × Replays (held_of opening.now) turns.now end }
     ensures ok { OnOk result (IsAudited (held_of opening.now) turns.now passes.now) }
@@ -103,7 +105,7 @@ fn audit_turns<L: Ledger>(
         Ok(()) => {}
         Err(fault) => return Err(fault),
     }
-    match check_lines(opening, turns, passes, &owners) {
+    match check_lines(opening, chains, turns, passes, &owners) {
         Ok(()) => {}
         Err(fault) => return Err(fault),
     }
@@ -130,11 +132,12 @@ pub fn audit<L: Ledger, D: Disk>(
     ensures err { IfErr result (IsAuditCause opening.now.accepted desk.now passes.now) }
 {
     desk.lawful();
-    let Ok(kept) = desk.opening() else {
+    opening.lawful();
+    let Ok(mut chains) = desk.opening() else {
         return Err(CloseFault::Memory);
     };
-    if !have_same_reports(opening, &kept) {
+    if !have_same_reports(opening, &chains) {
         return Err(CloseFault::Stranger(0));
     }
-    audit_turns(&kept, desk.turns(), passes)
+    audit_turns(opening, &mut chains, desk.turns(), passes)
 }

@@ -69,27 +69,29 @@ fn replay(chains: &mut Chains, turn: &Turn) -> Result<(), AllocError>
     accept_again(chains, report)
 }
 
-/// Replays the turns, and tests at each the entry that has it.
+/// Replays the turns over what was held at the opening, and tests at each the entry that has it.
 pub(crate) fn check_lines<L: Ledger>(
     opening: &Chains,
+    chains: &mut Chains,
     turns: &[Turn],
     passes: &[Pass<L>],
     owners: &[Owner],
 ) -> Result<(), CloseFault>
+    requires same { held_of chains.old ≡ held_of opening.now }
     requires length { length owners.now ≡ length turns.now }
     requires replays { (end : Held) × Replays (held_of opening.now) turns.now end }
     ensures ok { OnOk result (AreCheckedTo (held_of opening.now) turns.now passes.now owners.now (length turns.now)) }
     ensures err { IfErr result (IsWrongThere (held_of opening.now) turns.now passes.now) }
 {
-    let Ok(mut chains) = opening.copy() else {
-        return Err(CloseFault::Memory);
-    };
+    let _opening = opening;
     for i in 0..turns.len() {
-        match check_entry(&chains, passes, owners[i], i + 1) {
+        let owner = owners[i];
+        match check_entry(chains, passes, owner, i + 1) {
             Ok(()) => {}
             Err(fault) => return Err(fault),
         }
-        let Ok(()) = replay(&mut chains, &turns[i]) else {
+        let turn = &turns[i];
+        let Ok(()) = replay(chains, turn) else {
             return Err(CloseFault::Memory);
         };
     }

@@ -80,6 +80,43 @@ fn total(marks: &[u64]) -> u64
     marks.iter().sum()
 }
 
+/// Marks the turns, and tests them and the shown lines.
+fn audit_marked<L: Ledger>(
+    opening: &Chains,
+    chains: &mut Chains,
+    turns: &[Turn],
+    passes: &[Pass<L>],
+    marks: &mut [u64],
+    owners: &mut [Owner],
+) -> Result<(), CloseFault>
+    requires same { held_of chains.old ≡ held_of opening.now }
+    requires few { length turns.now ≤ 65536 }
+    requires replays { (end : Held) × Replays (held_of opening.now) turns.now end }
+    requires length { length marks.old ≡ length turns.now }
+    requires owners_length { length owners.old ≡ length turns.now }
+    requires marked { IsMarked turns.now marks.old [] }
+    ensures ok { OnOk result (IsAudited (held_of opening.now) turns.now passes.now) }
+    ensures err { IfErr result (IsCause (held_of opening.now) turns.now passes.now) }
+{
+    match mark_all(turns, passes, marks, owners) {
+        Ok(()) => {}
+        Err(fault) => return Err(fault),
+    }
+    match check_lines(opening, chains, turns, passes, owners) {
+        Ok(()) => {}
+        Err(fault) => return Err(fault),
+    }
+    let shares = total(marks);
+    let turns = turns.len() as u64;
+    if shares < turns {
+        return Err(CloseFault::Missing {
+            shares: shares as u32,
+            turns: turns as u32,
+        });
+    }
+    Ok(())
+}
+
 /// Whether these turns are those of the passes, each once, and each shown line is right over what the turns before it replay to.
 fn audit_turns<L: Ledger>(
     opening: &Chains,
@@ -101,23 +138,7 @@ fn audit_turns<L: Ledger>(
     let Ok(mut owners) = Vec::from_elem(alloc, nowhere, turns.len()) else {
         return Err(CloseFault::Memory);
     };
-    match mark_all(turns, passes, &mut marks, &mut owners) {
-        Ok(()) => {}
-        Err(fault) => return Err(fault),
-    }
-    match check_lines(opening, chains, turns, passes, &owners) {
-        Ok(()) => {}
-        Err(fault) => return Err(fault),
-    }
-    let shares = total(&marks);
-    let turns = turns.len() as u64;
-    if shares < turns {
-        return Err(CloseFault::Missing {
-            shares: shares as u32,
-            turns: turns as u32,
-        });
-    }
-    Ok(())
+    audit_marked(opening, chains, turns, passes, &mut marks, &mut owners)
 }
 
 /// Whether the desk was opened with the list that these chains have, its turns are those of the passes, each once, and each line

@@ -5,8 +5,10 @@ ghost use Rattle.report_line.specs.declared.call.Call.TheVariants as calls;
 ghost use Rattle.desk.specs.Files.{IsShort};
 ghost use Rattle.coordinator.specs.Passes.{IsPlain, IsAnswered, IsNewPass, line_call};
 ghost use Rattle.coordinator.specs.Calls.{IsForeignOnly};
+ghost use Rattle.coordinator.specs.Closing.{IsEnded};
 
-use crate::fault::{CallFault, PassFault};
+use crate::auditing::audit;
+use crate::fault::{CallFault, CloseFault, PassFault};
 use crate::line::show_line;
 use crate::locked::Locked;
 use crate::pass::Pass;
@@ -40,6 +42,28 @@ pub struct Refused<D: Disk> {
     pub blank: Blank,
     /// The desk, as it was.
     pub desk: Desk<D>,
+}
+
+/// What is left of a coordinator.
+#[derive(Drop)]
+pub struct Ended<D: Disk> {
+    /// The desk's disk.
+    pub disk: D,
+    /// The number of accepted reports.
+    pub front: u32,
+    /// The number of turns.
+    pub turns: u32,
+}
+
+/// What is handed back where a coordinator does not end.
+#[derive(Drop)]
+pub struct Unclosed<L: Ledger, D: Disk> {
+    /// Why not.
+    pub fault: CloseFault,
+    /// The coordinator, as it was.
+    pub coordinator: Coordinator<L, D>,
+    /// The passes, as they were.
+    pub passes: Vec<Pass<L>>,
 }
 
 /// A desk that threads share. It is seen as what was held when the desk was opened.
@@ -164,5 +188,37 @@ impl<L: Ledger, D: Disk> Coordinator<L, D> {
         };
         show_line(pass, &chains, &call);
         Ok(())
+    }
+
+    /// Ends where the passes show each turn once, and the right lines. A refusal hands all back.
+    pub fn close(self, passes: Vec<Pass<L>>) -> Result<Ended<D>, Unclosed<L, D>>
+        ensures ok { IfOk result (λ e. IsEnded D.keeps D.view self passes.items e.turns e.front e.disk) }
+        ensures err { IfErr result (λ u. (u.coordinator ≡ self) × (u.passes.items ≡ passes.items)) }
+    {
+        let Coordinator {
+            alloc,
+            opening,
+            locked,
+        } = self;
+        opening.lawful();
+        let locked = locked.into_inner();
+        if let Err(fault) = audit(&opening, locked.desk(), passes.as_slice()) {
+            let coordinator = Coordinator {
+                alloc,
+                opening,
+                locked: Mutex::new(locked),
+            };
+            return Err(Unclosed {
+                fault,
+                coordinator,
+                passes,
+            });
+        }
+        let desk = locked.into_desk();
+        desk.lawful();
+        let turns = desk.turns().len() as u32;
+        let front = desk.front();
+        let disk = desk.close();
+        Ok(Ended { disk, front, turns })
     }
 }

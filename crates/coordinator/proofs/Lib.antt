@@ -8,3 +8,4 @@ pub mod Owned
 pub mod Rising
 pub mod Telling
 pub mod Turns
+pub mod WhatIsLeft

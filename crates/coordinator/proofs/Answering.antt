@@ -1,12 +1,11 @@
 -- What is shown for a question.
 use Rattle.std.proofs.Common.{◌≡◌, inl, inr, ℕ, ◌<◌, List, [], ◌∷◌, ◌++◌, All, Option, Some, refl, sym, ap, ◌∙◌, subst}
-use Rattle.std.specs.Prelude.{IfSome}
 use Rattle.std.proofs.lemmas.List.{same_from_push}
 use Rattle.report_line.specs.declared.call.Call.{Call}
 use Rattle.report_line.specs.declared.call.Call.TheVariants as calls
 use Rattle.report_line.specs.declared.reply.Reply.{Reply}
 use Rattle.report_line.specs.declared.reply.Reply.TheVariants.{Line, Taken}
-use Rattle.chains.specs.Processes.{Name, known}
+use Rattle.chains.specs.Processes.{Name}
 use Rattle.chains.specs.Kept.{Kept}
 use Rattle.chains.specs.Held.{Held, held_of}
 use Rattle.chains.specs.Admission.{IsReached}
@@ -18,8 +17,8 @@ use Rattle.history_law.specs.Headline.{IsRightLine}
 use Rattle.history_law.proofs.Lines.{line_of_histories}
 use Rattle.propagate.proofs.Certified.{certified_is_greatest}
 use Rattle.desk.specs.Desks.{DeskState}
-use Rattle.coordinator.specs.Passes.{PassEntry, PassState, IsAnswered, IsShownOver, Sees, AsksForLine, IsLineFor, front_of}
-use Rattle.coordinator.specs.Parts.{IsShownInstead, LastTaken, MayShowLine, with_line}
+use Rattle.coordinator.specs.Passes.{PassEntry, PassState, IsAnswered, IsShownOver, Sees, IsLineFor}
+use Rattle.coordinator.specs.Parts.{IsShownInstead, MayShowLine, with_line}
 use Rattle.coordinator.specs.Calls.{IsTurnFor, IsTakenFor}
 
 -- the text of a certificate that certifies is right
@@ -88,14 +87,6 @@ answered_by before after old call k mid new t (inl same) =
     subst (λ (v : PassState). IsAnswered old call v) (sym same) (answered_turn before after old call mid t.made)
 answered_by before after old call k mid new t (inr (text, reached, fits, shows)) = answered_shown before after old call k text mid new t reached fits shows
 
--- the last entry is that of the line that was taken
-pub last_taken : {D : Type 0} (before after : DeskState D) (old : PassState) (call : Call) (snapshot : Option Kept) (k : Kept) (mid : PassState) → snapshot ≡ Some k → IsTakenFor before after old call snapshot mid
-    → (front : ℕ) × LastTaken mid.entries front
-last_taken before after old call snapshot k mid is t =
-    let s : IfSome (Some k) (λ (x : Kept). (x.accepted ≡ after.held.accepted) × (t.made.entry.receipt.reply ≡ Taken x.front)) =
-        subst (λ (o : Option Kept). IfSome o (λ (x : Kept). (x.accepted ≡ after.held.accepted) × (t.made.entry.receipt.reply ≡ Taken x.front))) is t.snapshot_is in
-    (k.front, (old.entries, t.made.entry, t.made.one.entries, s.1))
-
 -- the same, with the call and the chains as the function has them
 pub answered_when : {D : Type 0} (before after : DeskState D) (old : PassState) (asked call : Call) (snapshot : Option Kept) (chains : Kept) (mid new : PassState)
     → asked ≡ call → snapshot ≡ Some chains → IsTakenFor before after old asked snapshot mid → MayShowLine (held_of chains) call mid new → IsAnswered old call new
@@ -103,9 +94,3 @@ answered_when before after old asked call snapshot chains mid new same is t show
     answered_by before after old call chains mid new
     (subst (λ (s : Option Kept). IsTakenFor before after old call s mid) is (subst (λ (c : Call). IsTakenFor before after old c snapshot mid) same t))
     shows
-
--- the same where no line was taken
-pub answered_without : {D : Type 0} (before after : DeskState D) (old : PassState) (asked call : Call) (snapshot : Option Kept) (mid : PassState)
-    → asked ≡ call → IsTakenFor before after old asked snapshot mid → IsAnswered old call mid
-answered_without before after old asked call snapshot mid same t =
-    subst (λ (c : Call). IsAnswered old c mid) same (answered_turn before after old asked mid t.made)

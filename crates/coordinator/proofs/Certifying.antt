@@ -1,6 +1,6 @@
 -- The certificate of which a text is the text.
-use Rattle.std.proofs.Common.{◌≡◌, ◌≢◌, inl, inr, ℕ, ◌+◌, ◌<◌, ◌≤◌, ◌^◌, Bool, true, false, IsTrue, List, [], ◌∷◌, length, map, get_or, Option, Some, None, Result, Ok, Err, refl, sym, ap, ◌∙◌, subst, arith}
-use Rattle.std.specs.Prelude.{◌⊎◌, ◌↔◌, IfSome, All, Contains, ⊤}
+use Rattle.std.proofs.Common.{◌≡◌, ◌≢◌, inl, inr, ℕ, ◌+◌, ◌<◌, ◌≤◌, Bool, true, false, IsTrue, List, [], ◌∷◌, length, map, get_or, Option, Some, None, Result, Ok, Err, refl, sym, ap, ◌∙◌, subst, arith}
+use Rattle.std.specs.Prelude.{◌⊎◌, ◌↔◌, IfSome, All, Contains}
 use Rattle.std.specs.List.{range_with_len}
 use Rattle.std.proofs.lemmas.List.{get_or-map, length-map}
 use Rattle.std.proofs.lemmas.List.Elements.{All-cons, All-from_recursion, All-weaker, All-contains_itself}
@@ -12,7 +12,7 @@ use Rattle.chains.specs.declared.position.Place.{Place}
 use Rattle.chains.specs.declared.position.Position.{Position}
 use Rattle.chains.specs.declared.position.Position.TheVariants.{At, Retired}
 use Rattle.chains.specs.Processes.{Name, known}
-use Rattle.chains.specs.Elements.{elements, name_of}
+use Rattle.chains.specs.Elements.{name_of}
 use Rattle.chains.specs.Positions.{IsChosen, IsSurviving, position_in}
 use Rattle.chains.specs.Knowledge.{Knows}
 use Rattle.chains.specs.Held.{Held}
@@ -199,5 +199,5 @@ pub line_when : (held : Held) (names : List Name) (text : List ℕ) (found : Opt
     → (IsTrue b ↔ IsForNames held.accepted names c) → (IsTrue b ↔ IsLineText held names text)
 line_when held names text found c b is some only told =
     let s : IfSome (Some c) (λ (x : Certificate). Certifies held x × (text ≡ certificate_text held.accepted x)) =
-        subst (λ (o : Option Certificate). IfSome o (λ (x : Certificate). Certifies held x × (text ≡ certificate_text held.accepted x))) is some in
+    subst (λ (o : Option Certificate). IfSome o (λ (x : Certificate). Certifies held x × (text ≡ certificate_text held.accepted x))) is some in
     line_found held names text c b s.0 s.1 (subst (IsOnly held text) is only) told

@@ -1,6 +1,5 @@
 -- Lines that are tested in a replay.
-use Rattle.std.proofs.Common.{◌≡◌, ◌≢◌, ℕ, zero, suc, ◌+◌, ◌-◌, ◌<◌, ◌≤◌, Bool, true, false, List, [], ◌∷◌, ◌++◌, length, take, drop, get_or, Some, refl, sym, ap, ◌∙◌, subst, inl, inr, arith}
-use Rattle.std.specs.Prelude.{◌⊎◌, slice_get}
+use Rattle.std.proofs.Common.{◌≡◌, ◌≢◌, ℕ, zero, suc, ◌+◌, ◌-◌, ◌<◌, ◌≤◌, Bool, List, [], ◌∷◌, ◌++◌, length, take, drop, get_or, refl, sym, ap, ◌∙◌, subst, inl, inr, arith}
 use Rattle.std.proofs.lemmas.Bool.{cases_eq}
 use Rattle.std.proofs.lemmas.List.{take_more}
 use Rattle.std.proofs.lemmas.Option.{get_or_from_slice_get, slice_get_within}
@@ -10,7 +9,7 @@ use Rattle.report_line.specs.declared.call.Call.TheVariants as calls
 use Rattle.report_line.specs.declared.reply.Reply.{Reply}
 use Rattle.report_line.specs.declared.reply.Reply.TheVariants.{Accepted, Old, No, Bad, Fail, Line, State, Bye, Taken}
 use Rattle.report_line.specs.declared.reply.Outcome.TheVariants.{Before, Unknown, Stopped}
-use Rattle.chains.specs.Processes.{Name, known}
+use Rattle.chains.specs.Processes.{Name}
 use Rattle.chains.specs.Kept.{Kept}
 use Rattle.chains.specs.Held.{Held, held_of, with_report}
 use Rattle.chains.specs.Admission.{held_after}
@@ -24,9 +23,9 @@ use Rattle.coordinator.specs.declared.marking.Owner.{Owner}
 use Rattle.coordinator.specs.declared.fault.CloseFault.{CloseFault}
 use Rattle.coordinator.specs.declared.fault.CloseFault.TheVariants.{Stranger, Missing, Memory}
 use Rattle.coordinator.specs.Passes.{PassEntry, PassState, AsksForLine, IsLineFor}
-use Rattle.coordinator.specs.Closing.{IsCause, IsStrange, ShowsRightly, ShowsWrongly}
+use Rattle.coordinator.specs.Closing.{IsCause, ShowsRightly}
 use Rattle.coordinator.specs.Marks.{owner_at}
-use Rattle.coordinator.specs.Checks.{HaveSame, RightOver, WrongOver, IsEntryOf, IsCheckedOver, IsWrongOver, AreCheckedTo, IsWrongThere}
+use Rattle.coordinator.specs.Checks.{HaveSame, RightOver, IsEntryOf, IsCheckedOver, IsWrongOver, AreCheckedTo, IsWrongThere}
 
 -- ---- whether the store is stopped does not matter for a line
 
@@ -174,7 +173,12 @@ pub wrong_there : (opening : Held) (ts : List Turn) (passes : List PassState) (o
     → IsWrongOver (held_of k) passes o (i + 1) fault → IsWrongThere opening ts passes fault
 wrong_there opening ts passes o k i (Stranger number) (held, so_far, same, rest) (p, e, entry, is, positive, (text, shows, wrong)) =
     let at : i ≡ e.receipt.turn - 1 = omega (arith, entry.2) in (
-      o, p, e, (entry.0, entry.1, refl), is, positive,
+      o,
+      p,
+      e,
+      (entry.0, entry.1, refl),
+      is,
+      positive,
       (text, shows, (held, subst (λ (n : ℕ). Replays opening (take n ts) held) at so_far, λ fits. wrong (line_same held (held_of k) e.call text (sym same.0) (sym same.1) fits))),
     )
 wrong_there opening ts passes o k i (Missing shares turns) replayed never = absurd never

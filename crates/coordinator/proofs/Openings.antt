@@ -1,5 +1,5 @@
 -- Opening lists that are the same.
-use Rattle.std.proofs.Common.{◌≡◌, ℕ, zero, suc, ◌<◌, List, [], ◌∷◌, length, Bool, false, Some, refl, sym, ap, ◌∙◌, subst, arith}
+use Rattle.std.proofs.Common.{◌≡◌, ℕ, suc, ◌<◌, List, [], ◌∷◌, length, Bool, false, refl, sym, ap, ◌∙◌, arith}
 use Rattle.std.specs.Prelude.{slice_get}
 use Rattle.std.proofs.lemmas.Option.{same_Some}
 use Rattle.report_line.specs.declared.report.Report.{Report}
@@ -21,5 +21,5 @@ pub same_opening : (a b : Held) → IsReached a → IsReached b → a.stopped �
 same_opening a b reached reached' runs runs' same =
     let front : a.front ≡ b.front = reached.counted ∙ ap length same ∙ sym reached'.counted in
     ap (λ (xs : List Report). record { accepted = xs; front = a.front; stopped = a.stopped }) same
-        ∙ ap (λ (n : ℕ). record { accepted = b.accepted; front = n; stopped = a.stopped }) front
-        ∙ ap (λ (s : Bool). record { accepted = b.accepted; front = b.front; stopped = s }) (runs ∙ sym runs')
+    ∙ ap (λ (n : ℕ). record { accepted = b.accepted; front = n; stopped = a.stopped }) front
+    ∙ ap (λ (s : Bool). record { accepted = b.accepted; front = b.front; stopped = s }) (runs ∙ sym runs')

@@ -1,5 +1,5 @@
 -- What a turn's reply tells of what is held then, and what is shown for it.
-use Rattle.std.proofs.Common.{◌≡◌, inl, inr, ℕ, ◌+◌, ◌≤◌, List, [], Option, Some, None, Bool, true, false, refl, sym, ap, subst, ◌∙◌, arith}
+use Rattle.std.proofs.Common.{◌≡◌, inl, inr, ℕ, ◌+◌, ◌≤◌, List, Option, Some, None, Bool, true, false, refl, sym, ap, subst, ◌∙◌, arith}
 use Rattle.std.specs.Prelude.{◌⊎◌, ⊤, slice_get}
 use Rattle.report_line.specs.declared.report.Action.{Action}
 use Rattle.report_line.specs.declared.report.Action.TheVariants.{Check, Present, Fork, Retire, Absorb}
@@ -14,11 +14,11 @@ use Rattle.report_line.specs.declared.reply.Reply.TheVariants.{Accepted, Old, No
 use Rattle.chains.specs.Processes.{Name, known, target_of}
 use Rattle.chains.specs.Held.{Held}
 use Rattle.chains.specs.Admission.{Decides, FitsOrNot, IsBeginReply, IsActionReply, IsStampReply, IsWaitingReply, IsStandingReply, IsAdmission, IsReached, held_after}
-use Rattle.chains.specs.Turns.{Fate, fine, memory, before, unknown, no_memory, IsLineReply, IsGarbageReply, IsStateReply, state_by, IsPlainTurn, IsQuestionTurn, IsReported, IsTurn}
-use Rattle.chains.proofs.Turning.{turn_reached, unchanged}
+use Rattle.chains.specs.Turns.{Fate, fine, memory, before, unknown, no_memory, IsLineReply, IsGarbageReply, IsStateReply, state_by, IsQuestionTurn, IsReported, IsTurn}
+use Rattle.chains.proofs.Turning.{turn_reached}
 use Rattle.chains.proofs.Unfailing.{no_line}
 use Rattle.reasons.specs.Shown.{IsLineShown, IsShown}
-use Rattle.coordinator.specs.Passes.{front_of, IsPlain, IsShownOver, MayShow}
+use Rattle.coordinator.specs.Passes.{front_of, IsShownOver, MayShow}
 use Rattle.coordinator.specs.Parts.{first_shown}
 
 -- ---- the replies of admission

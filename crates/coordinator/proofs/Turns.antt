@@ -3,7 +3,6 @@ use Rattle.std.proofs.Common.{◌≡◌, ℕ, ◌+◌, ◌≤◌, List, [], ◌�
 use Rattle.std.specs.Prelude.{MatchOption, unwrap_or}
 use Rattle.std.proofs.lemmas.List.{same_from_push}
 use Rattle.report_line.specs.declared.call.Call.{Call}
-use Rattle.report_line.specs.declared.reply.Reply.{Reply}
 use Rattle.report_line.specs.declared.reply.Reply.TheVariants.{Taken}
 use Rattle.chains.specs.Admission.{IsReached}
 use Rattle.desk.specs.declared.turn.Receipt.{Receipt}

@@ -1,5 +1,5 @@
 -- What is left of a coordinator.
-use Rattle.std.proofs.Common.{◌≡◌, ℕ, List, length, sym, ap, ◌∙◌, subst}
+use Rattle.std.proofs.Common.{◌≡◌, ℕ, List, length, ◌∙◌, subst}
 use Rattle.line_disk.specs.Disk.{View, Leaves}
 use Rattle.chains.specs.Held.{Held}
 use Rattle.chains.specs.Admission.{IsReached}

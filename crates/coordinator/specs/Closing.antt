@@ -1,11 +1,10 @@
 -- What passes have to show at the end.
-use Rattle.std.specs.Prelude.{◌≡◌, ◌≢◌, ◌⊎◌, ℕ, ◌+◌, ◌-◌, ◌<◌, ◌≤◌, ◌==◌, false, List, length, take, All, Contains, Some, slice_get, slice_index, sum, ⊤}
+use Rattle.std.specs.Prelude.{◌≡◌, ◌≢◌, ◌⊎◌, ℕ, ◌-◌, ◌<◌, ◌≤◌, ◌==◌, false, List, length, take, All, Contains, Some, slice_get, ⊤}
 use Rattle.std.specs.List.{count_by, flat_map}
 use Rattle.line_disk.specs.Disk.{View, Leaves}
 use Rattle.report_line.specs.declared.report.Report.{Report}
 use Rattle.report_line.specs.declared.reply.Reply.TheVariants.{Line}
 use Rattle.chains.specs.Held.{Held}
-use Rattle.desk.specs.declared.turn.Receipt.{Receipt}
 use Rattle.desk.specs.declared.turn.Turn.{Turn}
 use Rattle.desk.specs.Desks.{DeskState}
 use Rattle.desk.specs.Files.{StandsFor, MayStandFor}

@@ -29,11 +29,7 @@ fn certifies(chains: &Chains, certificate: &Certificate) -> bool
 }
 
 /// Whether this is the text of the certificate.
-fn is_its_text(
-    chains: &Chains,
-    certificate: &Certificate,
-    text: &[u8],
-) -> Result<bool, AllocError>
+fn is_its_text(chains: &Chains, certificate: &Certificate, text: &[u8]) -> Result<bool, AllocError>
     ensures { IfOk result (λ b. IsTrue b ↔ (text.now ≡ certificate_text chains.now.accepted certificate.now)) }
 {
     let written = to_json(chains, certificate)?;

@@ -1,5 +1,4 @@
-use Rattle.std.proofs.Common.{◌≡◌, ℕ, List, length, refl, sym, ap, ◌∙◌, subst, arith}
-use Rattle.std.specs.Prelude.{sum}
+use Rattle.std.proofs.Common.{ℕ, List, refl, ◌∙◌, arith}
 use Rattle.chains.specs.Held.{held_of}
 use Rattle.coordinator.specs.Closing.{entries_of}
 use Rattle.coordinator.specs.Marks.{IsMarked}

@@ -1,4 +1,4 @@
-use Rattle.std.proofs.Common.{◌≡◌, length, refl, arith}
+use Rattle.std.proofs.Common.{refl, arith}
 use Rattle.coordinator.proofs.Openings.{same_by_get}
 use Rattle.coordinator.proofs.auditing.have_same_reports.Goals as goal
 

@@ -1,6 +1,5 @@
-use Rattle.std.proofs.Common.{◌≡◌, ℕ, List, length, subst, arith}
+use Rattle.std.proofs.Common.{◌≡◌, ℕ, length, subst, arith}
 use Rattle.coordinator.specs.Marks.{AreOwned}
-use Rattle.coordinator.proofs.Owned.{owned_none}
 use Rattle.coordinator.proofs.auditing.mark_all.Goals as goal
 
 pub returns-clause-owned : goal.returns-clause-owned

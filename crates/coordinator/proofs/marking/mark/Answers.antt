@@ -1,10 +1,10 @@
-use Rattle.std.proofs.Common.{◌≡◌, ℕ, ◌+◌, ◌-◌, ◌<◌, List, [], ◌∷◌, ◌++◌, length, take, get_or, Some, refl, sym, ap, ◌∙◌, subst, arith, append_assoc}
+use Rattle.std.proofs.Common.{◌≡◌, ℕ, ◌+◌, ◌<◌, List, [], ◌∷◌, ◌++◌, length, take, get_or, Some, refl, sym, ap, ◌∙◌, subst, arith, append_assoc}
 use Rattle.std.specs.Prelude.{slice_get}
 use Rattle.std.proofs.lemmas.List.{take_more}
 use Rattle.std.proofs.lemmas.Option.{slice_get_read}
 use Rattle.coordinator.specs.Passes.{PassEntry, PassState}
 use Rattle.coordinator.specs.Closing.{entries_of, IsAtTurn}
-use Rattle.coordinator.specs.Marks.{IsMarked, AreOwned}
+use Rattle.coordinator.specs.Marks.{IsMarked}
 use Rattle.coordinator.proofs.Marked.{at-below, marked_more, strange_twice}
 use Rattle.coordinator.proofs.Owned.{owned_more, owned_pass}
 use Rattle.coordinator.proofs.marking.mark.Goals as goal

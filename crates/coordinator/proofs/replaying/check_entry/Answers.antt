@@ -10,8 +10,7 @@ returns-in-Ok-false-clause-err g c =
     let e : PassEntry = c.index-entries-owner.result in
     let o = c.args.owner in
     let passes : List PassState = c.args.passes.now in
-    let es : List PassEntry = c.entries-entries.result.now in
-    (
+    let es : List PassEntry = c.entries-entries.result.now in (
       p,
       e,
       (

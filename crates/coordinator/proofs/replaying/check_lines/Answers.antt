@@ -1,4 +1,4 @@
-use Rattle.std.proofs.Common.{◌≡◌, ℕ, ◌+◌, List, length, refl, subst, arith}
+use Rattle.std.proofs.Common.{◌≡◌, ℕ, length, refl, subst, arith}
 use Rattle.chains.specs.Held.{held_of}
 use Rattle.coordinator.specs.Checks.{AreCheckedTo}
 use Rattle.coordinator.proofs.Checked.{replayed_more, checked_more, wrong_there}

@@ -1,4 +1,4 @@
-use Rattle.std.proofs.Common.{length, arith}
+use Rattle.std.proofs.Common.{arith}
 use Rattle.coordinator.proofs.Certifying.{below_more, all_failed, not_failed}
 use Rattle.coordinator.proofs.shown_lines.is_for_all.Goals as goal
 

@@ -1,4 +1,4 @@
-use Rattle.std.proofs.Common.{length, arith}
+use Rattle.std.proofs.Common.{arith}
 use Rattle.coordinator.proofs.Certifying.{told_all, told_not}
 use Rattle.coordinator.proofs.shown_lines.is_for_names.Goals as goal
 

@@ -1,4 +1,4 @@
-use Rattle.std.proofs.Common.{None, sym, subst}
+use Rattle.std.proofs.Common.{sym, subst}
 use Rattle.std.proofs.lemmas.Result.{IfOk-weaker}
 use Rattle.chains.specs.Held.{Held, held_of}
 use Rattle.chains.specs.Admission.{IsReached}
@@ -18,6 +18,6 @@ returns-in-Err c =
     let reach : IsReached held = record { reachable = c.lawful.ensures.reachable; counted = c.lawful.ensures.counted } in
     IfOk-weaker c.not_read.result _ _
     (λ found h. subst (IsOnly held c.args.text.now) (sym h.0)
-        (only_nothing held c.args.text.now (λ x certifies is.
-            none_read held c.args.text.now reach c.lawful.ensures.few c.written_certificates_are_read.ensures.only c.in-Err.fault x (rw c.in-Err.is at c.from_json.ensures) h.1 certifies is)))
+    (only_nothing held c.args.text.now (λ x certifies is.
+    none_read held c.args.text.now reach c.lawful.ensures.few c.written_certificates_are_read.ensures.only c.in-Err.fault x (rw c.in-Err.is at c.from_json.ensures) h.1 certifies is)))
     c.not_read.ensures

@@ -1,4 +1,4 @@
-use Rattle.std.proofs.Common.{◌-◌, length, ap, sym, ◌∙◌, arith}
+use Rattle.std.proofs.Common.{◌-◌, length, ap, ◌∙◌, arith}
 use Rattle.coordinator.proofs.Rising.{last-get}
 use Rattle.coordinator.proofs.pass.Pass.last_turn.Goals as goal
 

@@ -24,7 +24,7 @@ use std::sync::{Mutex, Wait};
 /// What is called before a line is computed. No lock is held then.
 pub trait Gate {
     /// The line of the pass of this number comes next.
-    fn before_line(&self, pass: u32);
+    fn before_line(&self, pass: u64);
 }
 
 /// A gate that does nothing.
@@ -32,7 +32,7 @@ pub trait Gate {
 pub struct OpenGate;
 
 impl Gate for OpenGate {
-    fn before_line(&self, _pass: u32) {}
+    fn before_line(&self, _pass: u64) {}
 }
 
 /// What is handed back where memory was wanting for a coordinator.
@@ -182,7 +182,7 @@ impl<L: Ledger, D: Disk> Coordinator<L, D> {
             return Err(CallFault::Memory);
         };
         let snapshot = self.locked.lock(rt).take(pass, asked, kept)?;
-        gate.before_line(pass.number());
+        gate.before_line(u64::from(pass.number()));
         let Some(chains) = snapshot else {
             return Ok(());
         };

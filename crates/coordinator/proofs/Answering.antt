@@ -1,0 +1,96 @@
+-- What is shown for a question.
+use Rattle.std.proofs.Common.{◌≡◌, inl, inr, ℕ, ◌<◌, List, [], ◌∷◌, ◌++◌, All, Option, Some, refl, sym, ap, ◌∙◌, subst}
+use Rattle.std.proofs.lemmas.List.{same_from_push}
+use Rattle.report_line.specs.declared.call.Call.{Call}
+use Rattle.report_line.specs.declared.call.Call.TheVariants as calls
+use Rattle.report_line.specs.declared.reply.Reply.{Reply}
+use Rattle.report_line.specs.declared.reply.Reply.TheVariants.{Line, Taken}
+use Rattle.chains.specs.Processes.{Name}
+use Rattle.chains.specs.Kept.{Kept}
+use Rattle.chains.specs.Held.{Held, held_of}
+use Rattle.chains.specs.Admission.{IsReached}
+use Rattle.chains.proofs.Folding.{reached_folded}
+use Rattle.knows_row.proofs.Lawful.{lawful}
+use Rattle.reasons.specs.Certificates.{positions_of}
+use Rattle.reasons.specs.Shown.{IsLineText, IsShown}
+use Rattle.history_law.specs.Headline.{IsRightLine}
+use Rattle.history_law.proofs.Lines.{line_of_histories}
+use Rattle.propagate.proofs.Certified.{certified_is_greatest}
+use Rattle.desk.specs.Desks.{DeskState}
+use Rattle.coordinator.specs.Passes.{PassEntry, PassState, IsAnswered, IsShownOver, Sees, IsLineFor}
+use Rattle.coordinator.specs.Parts.{IsShownInstead, MayShowLine, with_line}
+use Rattle.coordinator.specs.Calls.{IsTurnFor, IsTakenFor}
+
+-- the text of a certificate that certifies is right
+right_text : (held : Held) (names : List Name) (text : List ℕ) → IsReached held → IsLineText held names text → IsRightLine held names text
+right_text held names text reach t =
+    let folded = reached_folded held.accepted reach.reachable in
+    record {
+      certificate = t.certificate;
+      text_is = t.text_is;
+      for_names = t.for_names;
+      line = line_of_histories held.accepted t.certificate.failed (positions_of t.certificate.line) folded (certified_is_greatest held t.certificate (lawful held.accepted folded) t.certifies);
+      certifies = t.certifies;
+    }
+
+same_text : (s t : List ℕ) → Line s ≡ Line t → s ≡ t
+same_text s t e = cc
+
+shows_taken : (held : Held) (call : Call) (text : List ℕ) (n : ℕ) → IsLineFor held call text → IsShown held call (Taken n) (Line text)
+shows_taken held (calls.Line listed) text n (names, asks, fits) = inl (text, refl, subst (λ (ns : List Name). IsLineText held ns text) asks fits)
+shows_taken held calls.Garbage text n (names, asks, fits) = inl (text, refl, subst (λ (ns : List Name). IsLineText held ns text) asks fits)
+shows_taken held (calls.Report r) text n (names, asks, fits) = absurd asks
+shows_taken held (calls.State p) text n (names, asks, fits) = absurd asks
+shows_taken held calls.Bye text n (names, asks, fits) = absurd asks
+shows_taken held (calls.Bad m) text n (names, asks, fits) = absurd asks
+shows_taken held calls.Unread text n (names, asks, fits) = absurd asks
+
+-- the line that was computed is shown
+pub shown_line : (held : Held) (call : Call) (text : List ℕ) → IsReached held → IsLineFor held call text → IsShownOver held call (Taken held.front) (Line text)
+shown_line held call text reach fits = record {
+  reached = reach;
+  front = λ n is. cc is;
+  shows = shows_taken held call text held.front fits;
+  right = λ other e. (fits.0, fits.1, subst (IsRightLine held fits.0) (same_text text other e) (right_text held fits.0 text reach fits.2));
+}
+
+-- no line was computed
+pub answered_turn : {D : Type 0} (before after : DeskState D) (old : PassState) (call : Call) (new : PassState) → IsTurnFor before after old call new → IsAnswered old call new
+answered_turn before after old call new t = record { entry = t.entry; one = t.one; held = after.held; shows = t.shows }
+
+-- a line was computed for what was held at the turn
+answered_shown : {D : Type 0} (before after : DeskState D) (old : PassState) (call : Call) (k : Kept) (text : List ℕ) (mid new : PassState)
+    → IsTakenFor before after old call (Some k) mid → IsReached (held_of k) → IsLineFor (held_of k) call text → IsShownInstead mid text new
+    → IsAnswered old call new
+answered_shown before after old call k text mid new t reached fits (front, last, was, now) =
+    let made = t.made in
+    let same = same_from_push old.entries front made.entry last (sym made.one.entries ∙ was) in
+    let taken : last.receipt.reply ≡ Taken k.front = ap (λ (e : PassEntry). e.receipt.reply) (sym same.1) ∙ t.snapshot_is.1 in
+    record {
+      entry = with_line last text;
+      one = record {
+        number = ap (λ (v : PassState). v.number) now ∙ made.one.number;
+        entries = ap (λ (v : PassState). v.entries) now ∙ ap (λ (es : List PassEntry). es ++ with_line last text ∷ []) (sym same.0);
+        call_is = ap (λ (e : PassEntry). e.call) (sym same.1) ∙ made.one.call_is;
+        above = subst (λ (n : ℕ). All (λ (e : PassEntry). e.receipt.turn < n) old.entries) (ap (λ (e : PassEntry). e.receipt.turn) same.1) made.one.above;
+        share = ap (λ (v : PassState). v.share) now ∙ made.one.share;
+        front = subst (λ (f : ℕ). Sees old.front last.receipt.reply f) (sym (ap (λ (v : PassState). v.front) now))
+            (subst (λ (r : Reply). Sees old.front r mid.front) (ap (λ (e : PassEntry). e.receipt.reply) same.1) made.one.front);
+      };
+      held = held_of k;
+      shows = subst (λ (r : Reply). IsShownOver (held_of k) call r (Line text)) (sym taken) (shown_line (held_of k) call text reached fits);
+    }
+
+answered_by : {D : Type 0} (before after : DeskState D) (old : PassState) (call : Call) (k : Kept) (mid new : PassState)
+    → IsTakenFor before after old call (Some k) mid → MayShowLine (held_of k) call mid new → IsAnswered old call new
+answered_by before after old call k mid new t (inl same) =
+    subst (λ (v : PassState). IsAnswered old call v) (sym same) (answered_turn before after old call mid t.made)
+answered_by before after old call k mid new t (inr (text, reached, fits, shows)) = answered_shown before after old call k text mid new t reached fits shows
+
+-- the same, with the call and the chains as the function has them
+pub answered_when : {D : Type 0} (before after : DeskState D) (old : PassState) (asked call : Call) (snapshot : Option Kept) (chains : Kept) (mid new : PassState)
+    → asked ≡ call → snapshot ≡ Some chains → IsTakenFor before after old asked snapshot mid → MayShowLine (held_of chains) call mid new → IsAnswered old call new
+answered_when before after old asked call snapshot chains mid new same is t shows =
+    answered_by before after old call chains mid new
+    (subst (λ (s : Option Kept). IsTakenFor before after old call s mid) is (subst (λ (c : Call). IsTakenFor before after old c snapshot mid) same t))
+    shows

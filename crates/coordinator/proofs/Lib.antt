@@ -1,0 +1,11 @@
+pub mod Answering
+pub mod Certifying
+pub mod Checked
+pub mod LineTexts
+pub mod Marked
+pub mod Openings
+pub mod Owned
+pub mod Rising
+pub mod Telling
+pub mod Turns
+pub mod WhatIsLeft

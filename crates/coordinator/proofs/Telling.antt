@@ -1,0 +1,241 @@
+-- What a turn's reply tells of what is held then, and what is shown for it.
+use Rattle.std.proofs.Common.{◌≡◌, inl, inr, ℕ, ◌+◌, ◌≤◌, List, Option, Some, None, Bool, true, false, refl, sym, ap, subst, ◌∙◌, arith}
+use Rattle.std.specs.Prelude.{◌⊎◌, ⊤, slice_get}
+use Rattle.report_line.specs.declared.report.Action.{Action}
+use Rattle.report_line.specs.declared.report.Action.TheVariants.{Check, Present, Fork, Retire, Absorb}
+use Rattle.report_line.specs.declared.report.NumberedReport.{NumberedReport}
+use Rattle.report_line.specs.declared.report.Report.{Report}
+use Rattle.report_line.specs.declared.report.Report.TheVariants.{Begin, Numbered}
+use Rattle.report_line.specs.declared.call.Call.{Call}
+use Rattle.report_line.specs.declared.call.Call.TheVariants as calls
+use Rattle.report_line.specs.declared.reply.Outcome.TheVariants.{Before, Unknown, Stopped}
+use Rattle.report_line.specs.declared.reply.Reply.{Reply}
+use Rattle.report_line.specs.declared.reply.Reply.TheVariants.{Accepted, Old, No, Bad, Fail, Line, State, Bye, Taken}
+use Rattle.chains.specs.Processes.{Name, known, target_of}
+use Rattle.chains.specs.Held.{Held}
+use Rattle.chains.specs.Admission.{Decides, FitsOrNot, IsBeginReply, IsActionReply, IsStampReply, IsWaitingReply, IsStandingReply, IsAdmission, IsReached, held_after}
+use Rattle.chains.specs.Turns.{Fate, fine, memory, before, unknown, no_memory, IsLineReply, IsGarbageReply, IsStateReply, state_by, IsQuestionTurn, IsReported, IsTurn}
+use Rattle.chains.proofs.Turning.{turn_reached}
+use Rattle.chains.proofs.Unfailing.{no_line}
+use Rattle.reasons.specs.Shown.{IsLineShown, IsShown}
+use Rattle.coordinator.specs.Passes.{front_of, IsShownOver, MayShow}
+use Rattle.coordinator.specs.Parts.{first_shown}
+
+-- ---- the replies of admission
+
+abbrev pub IsNo : Reply → Type 0
+IsNo (No code name value) = ⊤
+IsNo _ = ⊥
+
+-- a refusal, OLD with the front, or OK with the next one
+abbrev pub Kinds : Held → Reply → Type 0
+Kinds held x = IsNo x ⊎ ((x ≡ Old held.front) ⊎ (x ≡ Accepted (held.front + 1)))
+
+decided : (held : Held) (P : Type 0) (reply x : Reply) (L : Type 0) → Kinds held reply → (L → Kinds held x) → Decides P reply x L → Kinds held x
+decided held P reply x L here later (inl (p, e)) = subst (Kinds held) (sym e) here
+decided held P reply x L here later (inr (p, l)) = later l
+
+module _ (held : Held) (x : Reply) where
+  fits : (r : Report) → FitsOrNot held r x → Kinds held x
+  fits r = decided held _ _ x _ (inl tt) (decided held _ _ x _ (inl tt) (λ e. inr (inr e)))
+
+  action : (r : NumberedReport) (act : Action) → IsActionReply held r act x → Kinds held x
+  action r Check = fits (Numbered r)
+  action r Present = fits (Numbered r)
+  action r (Fork f) = decided held _ _ x _ (inl tt) (decided held _ _ x _ (inl tt) (fits (Numbered r)))
+  action r (Retire target) = decided held _ _ x _ (inl tt) (fits (Numbered r))
+  action r (Absorb retired) = decided held _ _ x _ (inl tt) (fits (Numbered r))
+
+  stamped : (r : NumberedReport) (act : Action) → IsStampReply held r act x → Kinds held x
+  stamped r act = decided held _ _ x _ (inl tt) (decided held _ _ x _ (inl tt) (action r act))
+
+  waiting : (r : NumberedReport) (act : Action) → IsWaitingReply held r act x → Kinds held x
+  waiting r Check = stamped r Check
+  waiting r Present = stamped r Present
+  waiting r (Fork f) = stamped r (Fork f)
+  waiting r (Retire target) = stamped r (Retire target)
+  waiting r (Absorb retired) = decided held _ _ x _ (inl tt) (stamped r (Absorb retired))
+
+  standing : (target : Option Name) (r : NumberedReport) → IsStandingReply target held r x → Kinds held x
+  standing (Some target) r = λ e. subst (Kinds held) (sym e) (inl tt)
+  standing None r = decided held _ _ x _ (inl tt) (waiting r r.action)
+
+  begun : (root : Option Name) (p : Name) → IsBeginReply root held p x → Kinds held x
+  begun None p = fits (Begin p)
+  begun (Some root) p = decided held _ _ x _ (inl tt) (λ e. inr (inl e))
+
+  pub admitted : (r : Report) → IsAdmission held r x → Kinds held x
+  admitted (Begin p) = begun (slice_get (known held.accepted) 0) p
+  admitted (Numbered r) =
+      decided held _ _ x _ (inl tt) (decided held _ _ x _ (inl tt) (decided held _ _ x _ (inr (inl refl)) (standing (target_of r.process held.accepted) r)))
+
+-- ---- what is told
+
+-- the front that a reply tells is the one then, which never falls
+abbrev pub Tells : Held → Reply → Held → Type 0
+Tells held reply after = ((n : ℕ) → front_of reply ≡ Some n → after.front ≡ n) × (held.front ≤ after.front)
+
+silent : (held after : Held) (reply said : Reply) → front_of said ≡ None → reply ≡ said → after.front ≡ held.front → Tells held reply after
+silent held after reply said none e same =
+    ((λ n is. let told : front_of said ≡ Some n = ap front_of (sym e) ∙ is in absurd (cc (none, told))), omega (arith, same))
+
+still : (held after : Held) (reply said : Reply) → front_of said ≡ None → reply ≡ said → after ≡ held → Tells held reply after
+still held after reply said none e same = silent held after reply said none e (ap (λ (h : Held). h.front) same)
+
+tells_no : (held : Held) (r : Report) (reply : Reply) → IsNo reply → Tells held reply (held_after held r reply)
+tells_no held r (No code name value) refused = silent held held (No code name value) (No code name value) refl refl refl
+tells_no held r (Accepted f) never = absurd never
+tells_no held r (Old f) never = absurd never
+tells_no held r (Bad n) never = absurd never
+tells_no held r (Fail o) never = absurd never
+tells_no held r (Line t) never = absurd never
+tells_no held r (State m k l b i) never = absurd never
+tells_no held r Bye never = absurd never
+tells_no held r (Taken f) never = absurd never
+
+tells_kind : (held : Held) (r : Report) (reply : Reply) → Kinds held reply → Tells held reply (held_after held r reply)
+tells_kind held r reply (inl refused) = tells_no held r reply refused
+tells_kind held r reply (inr (inl e)) = rw e ((λ n is. cc is), omega arith)
+tells_kind held r reply (inr (inr e)) = rw e ((λ n is. cc is), omega arith)
+
+tells_reported : (b : Bool) (fate : Fate) (held after : Held) (r : Report) (reply : Reply) → IsReported b fate held r reply after → Tells held reply after
+tells_reported true fate held after r reply step = still held after reply (Fail Stopped) refl step.1 step.2
+tells_reported false fine held after r reply step =
+    subst (λ (h : Held). Tells held reply h) (sym step.1) (tells_kind held r reply (admitted held reply r step.0))
+tells_reported false memory held after r reply step = still held after reply no_memory refl step.3 step.4
+tells_reported false before held after r reply step = silent held after reply (Fail Before) refl step.1 (ap (λ (h : Held). h.front) step.2)
+tells_reported false unknown held after r reply step = silent held after reply (Fail Unknown) refl step.1 (ap (λ (h : Held). h.front) step.2)
+
+tells_line : (held : Held) (names : List Name) (reply : Reply) → IsLineReply held names reply → Tells held reply held
+tells_line held names reply (inl (q, e)) = silent held held reply _ refl e refl
+tells_line held names reply (inr (q, inl (name, first, e))) = silent held held reply _ refl e refl
+tells_line held names reply (inr (q, inr (all, e))) = rw e ((λ n is. cc is), omega arith)
+
+tells_garbage : (held : Held) (reply : Reply) → IsGarbageReply held reply → Tells held reply held
+tells_garbage held reply (inl (q, e)) = silent held held reply _ refl e refl
+tells_garbage held reply (inr (q, e)) = rw e ((λ n is. cc is), omega arith)
+
+tells_told : (held : Held) (p : Name) (target : Option Name) (reply : Reply) → reply ≡ state_by target held.accepted p → Tells held reply held
+tells_told held p None reply e = silent held held reply _ refl e refl
+tells_told held p (Some t) reply e = silent held held reply _ refl e refl
+
+tells_state : (held : Held) (p : Name) (reply : Reply) → IsStateReply held.accepted p reply → Tells held reply held
+tells_state held p reply (inl (q, e)) = silent held held reply _ refl e refl
+tells_state held p reply (inr (q, inl (t, e))) = silent held held reply _ refl e refl
+tells_state held p reply (inr (q, inr (t, e))) = tells_told held p (target_of p held.accepted) reply e
+
+tells_asked : (b : Bool) (fate : Fate) (held after : Held) (Answers : Reply → Type 0) (reply : Reply) → (Answers reply → Tells held reply held)
+    → IsQuestionTurn b fate held Answers reply after → Tells held reply after
+tells_asked true fate held after Answers reply told step = still held after reply (Fail Stopped) refl step.1 step.2
+tells_asked false fate held after Answers reply told step = subst (λ (h : Held). Tells held reply h) (sym step.2) (told step.1)
+
+-- what one turn tells
+pub tells : (held after : Held) (call : Call) (reply : Reply) → IsTurn held call reply after → Tells held reply after
+tells held after (calls.Bad n) reply (fate, step) = still held after reply _ refl step.1 step.2
+tells held after calls.Unread reply (fate, step) = still held after reply _ refl step.1 step.2
+tells held after calls.Bye reply (fate, step) = still held after reply _ refl step.1 step.2
+tells held after (calls.Report r) reply (fate, step) = tells_reported held.stopped fate held after r reply step
+tells held after (calls.Line names) reply (fate, step) =
+    tells_asked held.stopped fate held after (IsLineReply held names) reply (tells_line held names reply) step
+tells held after calls.Garbage reply (fate, step) = tells_asked held.stopped fate held after (IsGarbageReply held) reply (tells_garbage held reply) step
+tells held after (calls.State p) reply (fate, step) =
+    tells_asked held.stopped fate held after (IsStateReply held.accepted p) reply (tells_state held p reply) step
+
+-- ---- a line is taken for a question for a line alone
+
+shows_said : (reply said : Reply) → first_shown said ≡ said → reply ≡ said → first_shown reply ≡ reply
+shows_said reply said shows e = rw e shows
+
+shows_no : (reply : Reply) → IsNo reply → first_shown reply ≡ reply
+shows_no (No code name value) refused = refl
+shows_no (Accepted f) never = absurd never
+shows_no (Old f) never = absurd never
+shows_no (Bad n) never = absurd never
+shows_no (Fail o) never = absurd never
+shows_no (Line t) never = absurd never
+shows_no (State m k l b i) never = absurd never
+shows_no Bye never = absurd never
+shows_no (Taken f) never = absurd never
+
+shows_kind : (held : Held) (reply : Reply) → Kinds held reply → first_shown reply ≡ reply
+shows_kind held reply (inl refused) = shows_no reply refused
+shows_kind held reply (inr (inl e)) = shows_said reply _ refl e
+shows_kind held reply (inr (inr e)) = shows_said reply _ refl e
+
+shows_reported : (b : Bool) (fate : Fate) (held after : Held) (r : Report) (reply : Reply) → IsReported b fate held r reply after → first_shown reply ≡ reply
+shows_reported true fate held after r reply step = shows_said reply _ refl step.1
+shows_reported false fine held after r reply step = shows_kind held reply (admitted held reply r step.0)
+shows_reported false memory held after r reply step = shows_said reply _ refl step.3
+shows_reported false before held after r reply step = shows_said reply _ refl step.1
+shows_reported false unknown held after r reply step = shows_said reply _ refl step.1
+
+shows_told : (held : Held) (p : Name) (target : Option Name) (reply : Reply) → reply ≡ state_by target held.accepted p → first_shown reply ≡ reply
+shows_told held p None reply e = shows_said reply _ refl e
+shows_told held p (Some t) reply e = shows_said reply _ refl e
+
+shows_state : (held : Held) (p : Name) (reply : Reply) → IsStateReply held.accepted p reply → first_shown reply ≡ reply
+shows_state held p reply (inl (q, e)) = shows_said reply _ refl e
+shows_state held p reply (inr (q, inl (t, e))) = shows_said reply _ refl e
+shows_state held p reply (inr (q, inr (t, e))) = shows_told held p (target_of p held.accepted) reply e
+
+shows_asked : (b : Bool) (fate : Fate) (held after : Held) (p : Name) (reply : Reply)
+    → IsQuestionTurn b fate held (IsStateReply held.accepted p) reply after → first_shown reply ≡ reply
+shows_asked true fate held after p reply step = shows_said reply _ refl step.1
+shows_asked false fate held after p reply step = shows_state held p reply step.1
+
+line_first : (over : Held) (names : List Name) (reply : Reply) → IsLineShown over names reply (first_shown reply)
+line_first over names (Accepted front) = refl
+line_first over names (Old front) = refl
+line_first over names (No code name value) = refl
+line_first over names (Bad n) = refl
+line_first over names (Fail outcome) = refl
+line_first over names (Line text) = refl
+line_first over names (State name reports elements live id) = refl
+line_first over names Bye = refl
+line_first over names (Taken front) = inr refl
+
+shows_first : (held after over : Held) (call : Call) (reply : Reply) → IsTurn held call reply after → IsShown over call reply (first_shown reply)
+shows_first held after over (calls.Line names) reply t = line_first over names reply
+shows_first held after over calls.Garbage reply t = line_first over (known over.accepted) reply
+shows_first held after over (calls.Report r) reply (fate, step) = shows_reported held.stopped fate held after r reply step
+shows_first held after over (calls.State p) reply (fate, step) = shows_asked held.stopped fate held after p reply step
+shows_first held after over calls.Bye reply (fate, step) = shows_said reply _ refl step.1
+shows_first held after over (calls.Bad n) reply (fate, step) = shows_said reply _ refl step.1
+shows_first held after over calls.Unread reply (fate, step) = shows_said reply _ refl step.1
+
+-- ---- no turn replies with a line
+
+first_line : (reply : Reply) (text : List ℕ) → first_shown reply ≡ Line text → reply ≡ Line text
+first_line (Accepted front) text e = e
+first_line (Old front) text e = e
+first_line (No code name value) text e = e
+first_line (Bad n) text e = e
+first_line (Fail outcome) text e = e
+first_line (Line t) text e = e
+first_line (State name reports elements live id) text e = e
+first_line Bye text e = e
+first_line (Taken front) text e = absurd cc
+
+never_first : (held after : Held) (call : Call) (reply : Reply) (text : List ℕ) → IsTurn held call reply after → first_shown reply ≡ Line text → ⊥
+never_first held after call reply text t e = no_line held after call text (subst (λ (x : Reply). IsTurn held call x after) (first_line reply text e) t)
+
+-- what is shown first for a turn
+pub shown_first : (held after : Held) (call : Call) (reply : Reply) → IsReached held → IsTurn held call reply after → IsShownOver after call reply (first_shown reply)
+shown_first held after call reply reach t = record {
+  reached = turn_reached held after call reply reach t;
+  front = (tells held after call reply t).0;
+  shows = shows_first held after after call reply t;
+  right = λ text e. absurd (never_first held after call reply text t e);
+}
+
+-- what is shown first may be shown
+pub may_show_first : (reply : Reply) → MayShow reply (first_shown reply)
+may_show_first (Accepted front) = refl
+may_show_first (Old front) = refl
+may_show_first (No code name value) = refl
+may_show_first (Bad n) = refl
+may_show_first (Fail outcome) = refl
+may_show_first (Line text) = refl
+may_show_first (State name reports elements live id) = refl
+may_show_first Bye = refl
+may_show_first (Taken front) = inl refl

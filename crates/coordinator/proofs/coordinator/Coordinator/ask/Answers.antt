@@ -1,0 +1,7 @@
+use Rattle.coordinator.proofs.Answering.{answered_when}
+use Rattle.coordinator.proofs.coordinator.Coordinator.ask.Goals as goal
+
+pub returns-clause-ok : goal.returns-clause-ok
+returns-clause-ok g c =
+    answered_when _ _ c.args.pass.now c.in-Ok.asked c.args.call c.in_ok-snapshot.snapshot c.in-Some.chains c.take.new.pass c.show_line.new.pass
+    c.in-Ok.ensures c.in-Some.is c.in_ok-snapshot.ensures.ok c.show_line.ensures

@@ -1,0 +1,97 @@
+-- What passes have to show at the end.
+use Rattle.std.specs.Prelude.{◌≡◌, ◌≢◌, ◌⊎◌, ℕ, ◌-◌, ◌<◌, ◌≤◌, ◌==◌, false, List, length, take, All, Contains, Some, slice_get, ⊤}
+use Rattle.std.specs.List.{count_by, flat_map}
+use Rattle.line_disk.specs.Disk.{View, Leaves}
+use Rattle.report_line.specs.declared.report.Report.{Report}
+use Rattle.report_line.specs.declared.reply.Reply.TheVariants.{Line}
+use Rattle.chains.specs.Held.{Held}
+use Rattle.desk.specs.declared.turn.Turn.{Turn}
+use Rattle.desk.specs.Desks.{DeskState}
+use Rattle.desk.specs.Files.{StandsFor, MayStandFor}
+use Rattle.desk.specs.Replays.{Replays}
+use Rattle.coordinator.specs.declared.fault.CloseFault.{CloseFault}
+use Rattle.coordinator.specs.declared.fault.CloseFault.TheVariants.{Stranger, Missing, Memory}
+use Rattle.coordinator.specs.Passes.{PassEntry, PassState, IsLineFor}
+
+-- ---- entries and turns
+
+abbrev pub turn_of : PassEntry → Turn
+turn_of e = record { call = e.call; receipt = e.receipt }
+
+-- the entries of all passes, one pass after another
+abbrev pub entries_of : List PassState → List PassEntry
+entries_of passes = flat_map (λ p. p.entries) passes
+
+-- how many entries have the turn of this number
+abbrev pub times : ℕ → List PassEntry → ℕ
+times n es = count_by (λ e. e.receipt.turn == n) es
+
+-- the entry's call and receipt stand at its turn
+abbrev pub IsAtTurn : List Turn → PassEntry → Type 0
+IsAtTurn ts e = (0 < e.receipt.turn) × (slice_get ts (e.receipt.turn - 1) ≡ Some (turn_of e))
+
+-- ---- lines that were shown
+
+-- the entry shows no line, or one that is for its call and certifies for what the turns before its own replay to
+abbrev pub ShowsRightly : Held → List Turn → PassEntry → Type 0
+ShowsRightly opening ts e =
+    (text : List ℕ) → e.shown ≡ Line text → (held : Held) × Replays opening (take (e.receipt.turn - 1) ts) held × IsLineFor held e.call text
+
+-- the entry shows a line, and it is not so
+abbrev pub ShowsWrongly : Held → List Turn → PassEntry → Type 0
+ShowsWrongly opening ts e =
+    (text : List ℕ) × (e.shown ≡ Line text) × ((held : Held) × Replays opening (take (e.receipt.turn - 1) ts) held × ¬ IsLineFor held e.call text)
+
+-- ---- what was audited
+
+-- each entry stands at its turn, each turn is that of one entry, and each line that is shown is right
+pub record IsAudited (opening : Held) (ts : List Turn) (passes : List PassState) : Type 0 where
+  pub fits : All (IsAtTurn ts) (entries_of passes)
+  pub once : (n : ℕ) → 0 < n → n ≤ length ts → times n (entries_of passes) ≡ 1
+  pub lines : All (λ p. All (ShowsRightly opening ts) p.entries) passes
+
+-- The pass of this number has an entry that does not stand at its turn, or stands at the turn of an entry of an earlier pass, or
+-- shows a line that is not right.
+pub record IsStrange (opening : Held) (ts : List Turn) (passes : List PassState) (number : ℕ) : Type 0 where
+  pub place : ℕ
+  pub pass : PassState
+  pub entry : PassEntry
+  pub stands : slice_get passes place ≡ Some pass
+  pub number_is : pass.number ≡ number
+  pub positive : 0 < number
+  pub has : Contains pass.entries entry
+  pub strange : (¬ IsAtTurn ts entry) ⊎ ((0 < times entry.receipt.turn (entries_of (take place passes))) ⊎ ShowsWrongly opening ts entry)
+
+-- fewer entries than turns: each stands at its turn, no two at one, and each line that is shown is right
+pub record IsMissing (opening : Held) (ts : List Turn) (passes : List PassState) (shares turns : ℕ) : Type 0 where
+  pub shares_are : shares ≡ length (entries_of passes)
+  pub turns_are : turns ≡ length ts
+  pub fewer : shares < turns
+  pub fits : All (IsAtTurn ts) (entries_of passes)
+  pub once : (n : ℕ) → 0 < n → n ≤ length ts → times n (entries_of passes) ≤ 1
+  pub lines : All (λ p. All (ShowsRightly opening ts) p.entries) passes
+
+-- why passes were refused, where the opening lists agree
+abbrev pub IsCause : Held → List Turn → List PassState → CloseFault → Type 0
+IsCause opening ts passes (Stranger number) = IsStrange opening ts passes number
+IsCause opening ts passes (Missing shares turns) = IsMissing opening ts passes shares turns
+IsCause opening ts passes Memory = ⊤
+
+-- why an audit was refused: that the opening lists differ comes first
+abbrev pub IsAuditCause : {D : Type 0} → List Report → DeskState D → List PassState → CloseFault → Type 0
+IsAuditCause opening desk passes (Stranger number) =
+    ((number ≡ 0) × (opening ≢ desk.opening.accepted)) ⊎ ((opening ≡ desk.opening.accepted) × IsStrange desk.opening desk.turns passes number)
+IsAuditCause opening desk passes (Missing shares turns) = (opening ≡ desk.opening.accepted) × IsMissing desk.opening desk.turns passes shares turns
+IsAuditCause opening desk passes Memory = ⊤
+
+-- The coordinator has ended. Its turns replay from what was held at the opening and are those of the passes. A crash leaves a file
+-- of the list that they replay to, or after FAIL unknown of that, or of that and the report that is pending.
+pub record IsEnded {D : Type 0} (keeps : D → Type 0) (view : D → View) (opening : Held) (passes : List PassState) (turns front : ℕ) (disk : D) : Type 0 where
+  pub list : List Turn
+  pub held : Held
+  pub replay : Replays opening list held
+  pub turns_are : turns ≡ length list
+  pub front_is : front ≡ length held.accepted
+  pub running : held.stopped ≡ false → keeps disk → (c : List ℕ) → Leaves (view disk) c → StandsFor held.accepted c
+  pub left : keeps disk → (c : List ℕ) → Leaves (view disk) c → MayStandFor held.accepted list c
+  pub audited : IsAudited opening list passes

@@ -1,0 +1,7 @@
+pub mod Passes
+pub mod Calls
+pub mod Closing
+pub mod Codes
+pub mod Parts
+pub mod Marks
+pub mod Checks

@@ -1,0 +1,164 @@
+//! The test at the end: the turns are those of the passes, each once, and each shown line is right.
+
+ghost use Rattle.std.specs.Prelude.{◌≡◌, ◌^◌, ◌≤◌, ◌<◌, [], length, sum, slice_get, IfErr, OnOk, IsTrue, ◌↔◌};
+ghost use Rattle.chains.specs.Held.{Held, held_of};
+ghost use Rattle.desk.specs.Replays.{Replays};
+ghost use Rattle.coordinator.specs.Closing.{IsAudited, IsCause, IsAuditCause, entries_of};
+ghost use Rattle.coordinator.specs.Marks.{IsMarked, AreOwned};
+
+use crate::fault::CloseFault;
+use crate::marking::{Owner, mark};
+use crate::pass::Pass;
+use crate::replaying::check_lines;
+use chains::Chains;
+use desk::{Desk, Turn};
+use line_disk::Disk;
+use std::sync::ledger::Ledger;
+
+/// Whether both have accepted the same report there, or none.
+fn is_same_report(a: &Chains, b: &Chains, i: u32) -> bool
+    ensures { IsTrue result ↔ (slice_get a.now.accepted i ≡ slice_get b.now.accepted i) }
+{
+    match a.report(i) {
+        None => match b.report(i) {
+            None => true,
+            Some(_) => false,
+        },
+        Some(mine) => match b.report(i) {
+            None => false,
+            Some(other) => mine.equal(other),
+        },
+    }
+}
+
+/// Whether both have accepted the same list.
+fn have_same_reports(a: &Chains, b: &Chains) -> bool
+    ensures { IsTrue result ↔ (a.now.accepted ≡ b.now.accepted) }
+{
+    a.lawful();
+    b.lawful();
+    if a.front() != b.front() {
+        return false;
+    }
+    for i in 0..a.front() {
+        if !is_same_report(a, b, i) {
+            return false;
+        }
+    }
+    true
+}
+
+/// Marks the turns of all passes.
+fn mark_all<L: Ledger>(
+    turns: &[Turn],
+    passes: &[Pass<L>],
+    marks: &mut [u64],
+    owners: &mut [Owner],
+) -> Result<(), CloseFault>
+    requires length { length marks.old ≡ length turns.now }
+    requires owners_length { length owners.old ≡ length turns.now }
+    requires marked { IsMarked turns.now marks.old [] }
+    ensures length { OnOk result (length marks.new ≡ length turns.now) }
+    ensures owners_length { OnOk result (length owners.new ≡ length turns.now) }
+    ensures ok { OnOk result (IsMarked turns.now marks.new (entries_of passes.now)) }
+    ensures owned { OnOk result (AreOwned turns.now passes.now marks.new owners.new (length passes.now) 0) }
+    ensures err { IfErr result (λ fault. (opening : Held) → IsCause opening turns.now passes.now fault) }
+{
+    for place in 0..passes.len() {
+        match mark(turns, passes, place, marks, owners) {
+            Ok(()) => {}
+            Err(fault) => return Err(fault),
+        }
+    }
+    Ok(())
+}
+
+fn total(marks: &[u64]) -> u64
+    requires { sum marks.now < 2 ^ 64 }
+    ensures { result ≡ sum marks.now }
+{
+    marks.iter().sum()
+}
+
+/// Marks the turns, and tests them and the shown lines.
+fn audit_marked<L: Ledger>(
+    opening: &Chains,
+    chains: &mut Chains,
+    turns: &[Turn],
+    passes: &[Pass<L>],
+    marks: &mut [u64],
+    owners: &mut [Owner],
+) -> Result<(), CloseFault>
+    requires same { held_of chains.old ≡ held_of opening.now }
+    requires few { length turns.now ≤ 65536 }
+    requires replays { (end : Held) × Replays (held_of opening.now) turns.now end }
+    requires length { length marks.old ≡ length turns.now }
+    requires owners_length { length owners.old ≡ length turns.now }
+    requires marked { IsMarked turns.now marks.old [] }
+    ensures ok { OnOk result (IsAudited (held_of opening.now) turns.now passes.now) }
+    ensures err { IfErr result (IsCause (held_of opening.now) turns.now passes.now) }
+{
+    match mark_all(turns, passes, marks, owners) {
+        Ok(()) => {}
+        Err(fault) => return Err(fault),
+    }
+    match check_lines(opening, chains, turns, passes, owners) {
+        Ok(()) => {}
+        Err(fault) => return Err(fault),
+    }
+    let shares = total(marks);
+    let turns = turns.len() as u64;
+    if shares < turns {
+        return Err(CloseFault::Missing {
+            shares: shares as u32,
+            turns: turns as u32,
+        });
+    }
+    Ok(())
+}
+
+/// Whether these turns are those of the passes, each once, and each shown line is right over what the turns before it replay to.
+fn audit_turns<L: Ledger>(
+    opening: &Chains,
+    chains: &mut Chains,
+    turns: &[Turn],
+    passes: &[Pass<L>],
+) -> Result<(), CloseFault>
+    requires same { held_of chains.old ≡ held_of opening.now }
+    requires few { length turns.now ≤ 65536 }
+    requires replays { (end : Held) × Replays (held_of opening.now) turns.now end }
+    ensures ok { OnOk result (IsAudited (held_of opening.now) turns.now passes.now) }
+    ensures err { IfErr result (IsCause (held_of opening.now) turns.now passes.now) }
+{
+    let alloc = opening.alloc();
+    let Ok(mut marks) = Vec::from_elem(alloc, 0u64, turns.len()) else {
+        return Err(CloseFault::Memory);
+    };
+    let nowhere = Owner { pass: 0, entry: 0 };
+    let Ok(mut owners) = Vec::from_elem(alloc, nowhere, turns.len()) else {
+        return Err(CloseFault::Memory);
+    };
+    audit_marked(opening, chains, turns, passes, &mut marks, &mut owners)
+}
+
+/// Whether the desk was opened with the list that these chains have, its turns are those of the passes, each once, and each line
+/// that a pass shows is the one that was asked for over what the turns before its own replay to.
+pub fn audit<L: Ledger, D: Disk>(
+    opening: &Chains,
+    desk: &Desk<D>,
+    passes: &[Pass<L>],
+) -> Result<(), CloseFault>
+    ensures opening { OnOk result (opening.now.accepted ≡ desk.now.opening.accepted) }
+    ensures ok { OnOk result (IsAudited desk.now.opening desk.now.turns passes.now) }
+    ensures err { IfErr result (IsAuditCause opening.now.accepted desk.now passes.now) }
+{
+    desk.lawful();
+    opening.lawful();
+    let Ok(mut chains) = desk.opening() else {
+        return Err(CloseFault::Memory);
+    };
+    if !have_same_reports(opening, &chains) {
+        return Err(CloseFault::Stranger(0));
+    }
+    audit_turns(opening, &mut chains, desk.turns(), passes)
+}

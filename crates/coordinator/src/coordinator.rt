@@ -1,0 +1,224 @@
+//! The desk under one lock, and what clients call.
+
+ghost use Rattle.std.specs.Prelude.{◌≡◌, [], IfOk, IfErr, OnOk, OnErr};
+ghost use Rattle.report_line.specs.declared.call.Call.TheVariants as calls;
+ghost use Rattle.desk.specs.Files.{IsShort};
+ghost use Rattle.coordinator.specs.Passes.{IsPlain, IsAnswered, IsNewPass, line_call};
+ghost use Rattle.coordinator.specs.Calls.{IsForeignOnly};
+ghost use Rattle.coordinator.specs.Closing.{IsEnded};
+
+use crate::auditing::audit;
+use crate::fault::{CallFault, CloseFault, PassFault};
+use crate::line::show_line;
+use crate::locked::Locked;
+use crate::pass::Pass;
+use chains::Chains;
+use desk::Desk;
+use line_disk::Disk;
+use report_line::{Call, Names};
+use std::alloc::Global;
+use std::marker::Model;
+use std::sync::ledger::{Blank, Ledger};
+use std::sync::{Mutex, Wait};
+
+/// What is called before a line is computed. No lock is held then.
+pub trait Gate {
+    /// The line of the pass of this number comes next.
+    fn before_line(&self, pass: u64);
+}
+
+/// A gate that does nothing.
+#[derive(Clone, Copy, Debug, Drop)]
+pub struct OpenGate;
+
+impl Gate for OpenGate {
+    fn before_line(&self, _pass: u64) {}
+}
+
+/// What is handed back where memory was wanting for a coordinator.
+#[derive(Drop)]
+pub struct Refused<D: Disk> {
+    /// The ledger's parts, as they were.
+    pub blank: Blank,
+    /// The desk, as it was.
+    pub desk: Desk<D>,
+}
+
+/// What is left of a coordinator.
+#[derive(Drop)]
+pub struct Ended<D: Disk> {
+    /// The desk's disk.
+    pub disk: D,
+    /// The number of accepted reports.
+    pub front: u32,
+    /// The number of turns.
+    pub turns: u32,
+}
+
+/// What is handed back where a coordinator does not end.
+#[derive(Drop)]
+pub struct Unclosed<L: Ledger, D: Disk> {
+    /// Why not.
+    pub fault: CloseFault,
+    /// The coordinator, as it was.
+    pub coordinator: Coordinator<L, D>,
+    /// The passes, as they were.
+    pub passes: Vec<Pass<L>>,
+}
+
+/// A desk that threads share. It is seen as what was held when the desk was opened.
+#[derive(Drop)]
+pub struct Coordinator<L: Ledger, D: Disk> {
+    alloc: Global,
+    opening: Chains,
+    locked: Mutex<Locked<L, D>>,
+}
+
+impl<L: Ledger, D: Disk> Model for Coordinator<L, D> {
+    ghost use Rattle.chains.specs.Held.{Held, held_of};
+    ghost use Rattle.desk.specs.Codes.{held_code};
+
+    ghost Value = { Held };
+
+    ghost coded = { held_code };
+
+    ghost view = { λ c. held_of c.opening };
+}
+
+impl<L: Ledger, D: Disk> Coordinator<L, D> {
+    /// The desk under a lock, with a ledger of 8,193 parts that L names: one for each pass, and one that stays. The desk has
+    /// made no turn. What was held when it was opened is kept beside the lock. Where memory is wanting for that, both come back.
+    pub fn new(alloc: Global, blank: Blank, desk: Desk<D>) -> Result<Coordinator<L, D>, Refused<D>>
+        requires name { blank.name ≡ L.name }
+        requires parts { (blank.parts ≡ L.parts) × (blank.parts ≡ 8193) }
+        requires fresh { desk.turns ≡ [] }
+        ensures ok { IfOk result (λ c. c ≡ desk.opening) }
+        ensures err { IfErr result (λ r. (r.blank ≡ blank) × (r.desk ≡ desk)) }
+    {
+        let Ok(opening) = desk.opening() else {
+            return Err(Refused { blank, desk });
+        };
+        Ok(Coordinator {
+            alloc,
+            opening,
+            locked: Mutex::new(Locked::new(blank, desk)),
+        })
+    }
+
+    /// The next pass: 8,192 are handed out at most.
+    pub fn pass<R: Wait>(&self, rt: &R) -> Result<Pass<L>, PassFault>
+        ensures { IfOk result IsNewPass }
+    {
+        match self.locked.lock(rt).pass(self.alloc) {
+            Some(pass) => Ok(pass),
+            None => Err(PassFault::Worn),
+        }
+    }
+
+    /// Makes one turn for a call other than a question for a line, and adds it to the pass. Where there is a fault, no turn was
+    /// made, and the pass is as it was.
+    pub fn call<R: Wait>(&self, rt: &R, pass: &mut Pass<L>, call: Call) -> Result<(), CallFault>
+        requires plain { IsPlain call }
+        requires short { IsShort call }
+        ensures ok { OnOk result (IsAnswered pass.old call pass.new) }
+        ensures err { OnErr result (pass.new ≡ pass.old) }
+        ensures foreign { IfErr result (λ fault. IsForeignOnly pass.old fault) }
+    {
+        let Ok(copy) = call.copy(self.alloc) else {
+            return Err(CallFault::Memory);
+        };
+        self.locked.lock(rt).turn(pass, call, copy)?;
+        Ok(())
+    }
+
+    /// Makes one turn for the question for the line of these failed processes, and computes the line with the lock given up,
+    /// behind the gate. The pass shows the line, or that memory was wanting for it, or the turn's own reply where no line was
+    /// taken.
+    pub fn line<R: Wait, G: Gate>(
+        &self,
+        rt: &R,
+        pass: &mut Pass<L>,
+        gate: &G,
+        names: Names,
+    ) -> Result<(), CallFault>
+        ensures ok { OnOk result (IsAnswered pass.old (line_call names) pass.new) }
+        ensures err { OnErr result (pass.new ≡ pass.old) }
+        ensures foreign { IfErr result (λ fault. IsForeignOnly pass.old fault) }
+    {
+        self.ask(rt, pass, gate, Call::Line(names))
+    }
+
+    /// Makes one turn for the question for the line with every process failed, and computes it as `line` does.
+    pub fn garbage_line<R: Wait, G: Gate>(
+        &self,
+        rt: &R,
+        pass: &mut Pass<L>,
+        gate: &G,
+    ) -> Result<(), CallFault>
+        ensures ok { OnOk result (IsAnswered pass.old calls.Garbage pass.new) }
+        ensures err { OnErr result (pass.new ≡ pass.old) }
+        ensures foreign { IfErr result (λ fault. IsForeignOnly pass.old fault) }
+    {
+        self.ask(rt, pass, gate, Call::Garbage)
+    }
+
+    /// Makes one turn for a question, and computes the line that was taken with the lock given up.
+    fn ask<R: Wait, G: Gate>(
+        &self,
+        rt: &R,
+        pass: &mut Pass<L>,
+        gate: &G,
+        call: Call,
+    ) -> Result<(), CallFault>
+        requires { IsShort call }
+        ensures ok { OnOk result (IsAnswered pass.old call pass.new) }
+        ensures err { OnErr result (pass.new ≡ pass.old) }
+        ensures foreign { IfErr result (λ fault. IsForeignOnly pass.old fault) }
+    {
+        let Ok(asked) = call.copy(self.alloc) else {
+            return Err(CallFault::Memory);
+        };
+        let Ok(kept) = call.copy(self.alloc) else {
+            return Err(CallFault::Memory);
+        };
+        let snapshot = self.locked.lock(rt).take(pass, asked, kept)?;
+        gate.before_line(u64::from(pass.number()));
+        let Some(chains) = snapshot else {
+            return Ok(());
+        };
+        show_line(pass, &chains, &call);
+        Ok(())
+    }
+
+    /// Ends where the passes show each turn once, and the right lines. A refusal hands all back.
+    pub fn close(self, passes: Vec<Pass<L>>) -> Result<Ended<D>, Unclosed<L, D>>
+        ensures ok { IfOk result (λ e. IsEnded D.keeps D.view self passes.items e.turns e.front e.disk) }
+        ensures err { IfErr result (λ u. (u.coordinator ≡ self) × (u.passes.items ≡ passes.items)) }
+    {
+        let Coordinator {
+            alloc,
+            opening,
+            locked,
+        } = self;
+        opening.lawful();
+        let locked = locked.into_inner();
+        if let Err(fault) = audit(&opening, locked.desk(), passes.as_slice()) {
+            let coordinator = Coordinator {
+                alloc,
+                opening,
+                locked: Mutex::new(locked),
+            };
+            return Err(Unclosed {
+                fault,
+                coordinator,
+                passes,
+            });
+        }
+        let desk = locked.into_desk();
+        desk.lawful();
+        let turns = desk.turns().len() as u32;
+        let front = desk.front();
+        let disk = desk.close();
+        Ok(Ended { disk, front, turns })
+    }
+}

@@ -1,0 +1,88 @@
+//! The line that is shown for a question.
+
+ghost use Rattle.std.specs.Prelude.{◌≡◌, ℕ, List, IfOk, IfSome};
+ghost use Rattle.chains.specs.Processes.{known};
+ghost use Rattle.chains.specs.Held.{held_of};
+ghost use Rattle.chains.specs.Failures.{IsFailedSet};
+ghost use Rattle.reasons.specs.CertificateText.{certificate_text};
+ghost use Rattle.reasons.specs.Shown.{IsLineText};
+ghost use Rattle.coordinator.specs.Passes.{IsLineFor};
+ghost use Rattle.coordinator.specs.Parts.{LastTaken, MayShowLine};
+
+use crate::pass::Pass;
+use chains::{Chains, Failed};
+use garbage_line::garbage;
+use propagate::certificate;
+use reasons::{Certificate, to_json};
+use report_line::{Call, Name, Text};
+use std::alloc::AllocError;
+use std::sync::ledger::Ledger;
+
+/// The text of a certificate.
+fn written(chains: &Chains, certificate: &Certificate) -> Result<Text, AllocError>
+    ensures { IfOk result (λ text. text ≡ certificate_text chains.now.accepted certificate.now) }
+{
+    let text = to_json(chains, certificate)?;
+    Ok(Text::from_vec(text.into_bytes()))
+}
+
+/// The text of the line of these failed processes.
+fn line_text(chains: &Chains, failed: &Failed) -> Result<Text, AllocError>
+    ensures { IfOk result (λ text. (names : List (List ℕ)) → IsFailedSet chains.now.accepted names failed.now → IsLineText (held_of chains.now) names text) }
+{
+    let certificate = certificate(chains, failed)?;
+    written(chains, &certificate)
+}
+
+/// The text of the line of all processes.
+fn garbage_text(chains: &Chains) -> Result<Text, AllocError>
+    ensures { IfOk result (λ text. IsLineText (held_of chains.now) (known chains.now.accepted) text) }
+{
+    let certificate = garbage(chains)?;
+    written(chains, &certificate)
+}
+
+/// The text of the line for these names, if they are known and memory suffices for it.
+fn text_for(chains: &Chains, names: &[Name]) -> Option<Text>
+    ensures { IfSome result (λ text. IsLineText (held_of chains.now) names.now text) }
+{
+    let Ok(failed) = Failed::from_names(chains, names) else {
+        return None;
+    };
+    match line_text(chains, &failed) {
+        Ok(text) => Some(text),
+        Err(_) => None,
+    }
+}
+
+/// The text of the line with every process failed, if memory suffices for it.
+fn garbage_for(chains: &Chains) -> Option<Text>
+    ensures { IfSome result (λ text. IsLineText (held_of chains.now) (known chains.now.accepted) text) }
+{
+    match garbage_text(chains) {
+        Ok(text) => Some(text),
+        Err(_) => None,
+    }
+}
+
+/// The text of the line that the call asks for, if it asks for one and memory suffices for it.
+fn line_for(chains: &Chains, call: &Call) -> Option<Text>
+    ensures { IfSome result (λ text. IsLineFor (held_of chains.now) call.now text) }
+{
+    match call {
+        Call::Line(names) => text_for(chains, names.as_slice()),
+        Call::Garbage => garbage_for(chains),
+        Call::Report(_) | Call::State(_) | Call::Bye | Call::Bad(_) | Call::Unread => None,
+    }
+}
+
+/// Shows the line that was taken last, if memory suffices for it.
+pub(crate) fn show_line<L: Ledger>(pass: &mut Pass<L>, chains: &Chains, call: &Call)
+    requires { (front : ℕ) × LastTaken pass.old.entries front }
+    ensures { MayShowLine (held_of chains.now) call.now pass.old pass.new }
+{
+    chains.lawful();
+    if let Some(text) = line_for(chains, call) {
+        pass.show(text);
+    }
+}

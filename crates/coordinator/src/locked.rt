@@ -1,0 +1,167 @@
+//! What lies under the lock.
+
+ghost use Rattle.std.specs.Prelude.{◌≡◌, ◌+◌, ◌≤◌, length, unwrap_or};
+ghost use Rattle.coordinator.specs.Passes.{front_of};
+
+use crate::entry::Entry;
+use crate::fault::CallFault;
+use crate::pass::Pass;
+use chains::Chains;
+use desk::{Desk, TurnFault};
+use line_disk::Disk;
+use report_line::{Call, Reply};
+use std::alloc::Global;
+use std::sync::ledger::{Blank, Book, Ledger, Share};
+
+/// How many passes a coordinator hands out.
+const PASSES: u32 = 8_192;
+
+/// The desk, the book that counts its turns, and the share that no pass has.
+#[derive(Drop)]
+pub struct Locked<L: Ledger, D: Disk> {
+    desk: Desk<D>,
+    book: Book<L>,
+    rest: Share<L>,
+    passes: u32,
+    ghost counted: { book.total ≡ length desk.turns },
+    ghost unused: { rest.amount ≡ 0 },
+    ghost parts: { rest.parts + passes ≡ 8193 },
+    ghost few: { passes ≤ 8192 },
+}
+
+impl<L: Ledger, D: Disk> Locked<L, D> {
+    ghost use Rattle.std.specs.Prelude.{◌≡◌, ◌+◌, ◌<◌, ◌≤◌, [], length, IfOk, IfErr, OnOk, OnErr, IfSome, IfNone, OnSome, Some, None};
+    ghost use Rattle.desk.specs.Files.{IsShort};
+    ghost use Rattle.coordinator.specs.Passes.{new_pass};
+    ghost use Rattle.coordinator.specs.Calls.{IsTurnFor, IsDue, IsTakenFor};
+
+    /// The desk under a new book.
+    pub fn new(blank: Blank, desk: Desk<D>) -> Locked<L, D>
+        requires name { blank.name ≡ L.name }
+        requires parts { (blank.parts ≡ L.parts) × (blank.parts ≡ 8193) }
+        requires fresh { desk.turns ≡ [] }
+        ensures { result.desk ≡ desk }
+    {
+        let (book, rest) = blank.open::<L>();
+        Locked {
+            desk,
+            book,
+            rest,
+            passes: 0,
+        }
+    }
+
+    /// The desk.
+    pub fn into_desk(self) -> Desk<D>
+        ensures { result ≡ self.desk }
+    {
+        let Locked {
+            desk,
+            book: _,
+            rest: _,
+            passes: _,
+        } = self;
+        desk
+    }
+
+    /// The desk behind a reference.
+    pub fn desk(&self) -> &Desk<D>
+        ensures { result.now ≡ self.now.desk }
+    {
+        &self.desk
+    }
+
+    /// A pass with the next number, while there are some.
+    pub fn pass(&mut self, alloc: Global) -> Option<Pass<L>>
+        ensures some { IfSome result (λ p. p ≡ new_pass (self.old.passes + 1)) }
+        ensures counted { OnSome result (self.new.passes ≡ self.old.passes + 1) }
+        ensures none { IfNone result (self.new.passes ≡ 8192) }
+        ensures desk { self.new.desk ≡ self.old.desk }
+    {
+        if self.passes >= PASSES {
+            return None;
+        }
+        let share = self.rest.split_off(1, 0);
+        self.passes += 1;
+        Some(Pass {
+            number: self.passes,
+            front: 0,
+            share,
+            entries: Vec::new(alloc),
+        })
+    }
+
+    /// Makes one turn, and adds one entry to the pass.
+    pub fn turn(&mut self, pass: &mut Pass<L>, call: Call, copy: Call) -> Result<(), CallFault>
+        requires copy { copy ≡ call }
+        requires short { IsShort call }
+        ensures ok { OnOk result (IsTurnFor self.old.desk self.new.desk pass.old call pass.new) }
+        ensures err { OnErr result ((self.new.desk ≡ self.old.desk) × (pass.new ≡ pass.old)) }
+        ensures due { IfErr result (λ f. IsDue self.old.desk pass.old f) }
+    {
+        self.desk.lawful();
+        let front = self.desk.front();
+        let turns = self.desk.turns().len() as u32;
+        let last = pass.last_turn();
+        if pass.front > front || last > turns {
+            return Err(CallFault::Foreign {
+                front,
+                seen: pass.front,
+                turns,
+                last,
+            });
+        }
+        let Pass {
+            number: _,
+            front: seen,
+            share,
+            entries,
+        } = pass;
+        if entries.reserve(1).is_err() {
+            return Err(CallFault::Memory);
+        }
+        let Locked { desk, book, .. } = self;
+        let receipt = match desk.turn(call) {
+            Ok(receipt) => receipt,
+            Err(TurnFault::Worn) => return Err(CallFault::Worn),
+            Err(TurnFault::Memory) => return Err(CallFault::Memory),
+        };
+        book.add(share, 1);
+        *seen = seen_after(*seen, &receipt.reply);
+        entries.push_reserved(Entry::new(copy, receipt));
+        Ok(())
+    }
+
+    /// Makes the turn of a question for a line. Where its line is to be computed, and memory is there, the chains come with it.
+    pub fn take(
+        &mut self,
+        pass: &mut Pass<L>,
+        call: Call,
+        copy: Call,
+    ) -> Result<Option<Chains>, CallFault>
+        requires copy { copy ≡ call }
+        requires short { IsShort call }
+        ensures ok { IfOk result (λ s. IsTakenFor self.old.desk self.new.desk pass.old call s pass.new) }
+        ensures err { OnErr result ((self.new.desk ≡ self.old.desk) × (pass.new ≡ pass.old)) }
+        ensures due { IfErr result (λ f. IsDue self.old.desk pass.old f) }
+    {
+        self.turn(pass, call, copy)?;
+        let Some(_front) = pass.taken() else {
+            return Ok(None);
+        };
+        match self.desk.snapshot() {
+            Ok(chains) => Ok(Some(chains)),
+            Err(_) => Ok(None),
+        }
+    }
+}
+
+/// The front of a reply, or else the one seen before.
+fn seen_after(seen: u32, reply: &Reply) -> u32
+    ensures { result ≡ unwrap_or (front_of reply.now) seen }
+{
+    match reply {
+        Reply::Accepted(front) | Reply::Old(front) | Reply::Taken(front) => *front,
+        _ => seen,
+    }
+}

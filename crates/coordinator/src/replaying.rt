@@ -1,0 +1,99 @@
+//! One replay of the turns, in which each shown line is tested at its place.
+
+ghost use Rattle.std.specs.Prelude.{◌≡◌, ◌≤◌, ◌<◌, length, IfErr, OnOk};
+ghost use Rattle.report_line.specs.declared.report.Report.{Report as AnyReport};
+ghost use Rattle.chains.specs.Held.{Held, held_of, with_report};
+ghost use Rattle.chains.specs.Turns.{IsTurn};
+ghost use Rattle.desk.specs.Replays.{Replays};
+ghost use Rattle.coordinator.specs.Checks.{HaveSame, IsCheckedOver, IsWrongOver, AreCheckedTo, IsWrongThere};
+
+use crate::fault::CloseFault;
+use crate::marking::Owner;
+use crate::pass::Pass;
+use crate::shown_lines::is_right;
+use chains::{Admitted, Chains};
+use desk::Turn;
+use report_line::{Call, PackedReport, Reply, Shared};
+use std::alloc::AllocError;
+use std::sync::ledger::Ledger;
+
+/// Tests the entry that has this turn, if it is there.
+fn check_entry<L: Ledger>(
+    chains: &Chains,
+    passes: &[Pass<L>],
+    owner: Owner,
+    turn: usize,
+) -> Result<(), CloseFault>
+    ensures ok { OnOk result (IsCheckedOver (held_of chains.now) passes.now owner turn) }
+    ensures err { IfErr result (IsWrongOver (held_of chains.now) passes.now owner turn) }
+{
+    if owner.pass >= passes.len() {
+        return Ok(());
+    }
+    let pass = &passes[owner.pass];
+    let entries = pass.entries();
+    if owner.entry >= entries.len() {
+        return Ok(());
+    }
+    let entry = &entries[owner.entry];
+    if entry.receipt().turn as usize != turn {
+        return Ok(());
+    }
+    match is_right(chains, entry) {
+        Ok(true) => Ok(()),
+        Ok(false) => Err(CloseFault::Stranger(pass.number())),
+        Err(_) => Err(CloseFault::Memory),
+    }
+}
+
+/// Accepts a report that was accepted over the same list before: memory aside it is accepted again.
+fn accept_again(chains: &mut Chains, report: &Shared<PackedReport>) -> Result<(), AllocError>
+    ensures { OnOk result (held_of chains.new ≡ with_report (held_of chains.old) report.now) }
+{
+    match chains.admit_shared(report.share()?) {
+        Ok(Admitted::Accepted(_)) => Ok(()),
+        _ => Err(AllocError),
+    }
+}
+
+/// Replays one turn.
+fn replay(chains: &mut Chains, turn: &Turn) -> Result<(), AllocError>
+    ensures { (held after : Held) → HaveSame chains.old held → IsTurn held turn.now.call turn.now.receipt.reply after → OnOk result (HaveSame chains.new after) }
+{
+    let Reply::Accepted(_) = &turn.receipt.reply else {
+        return Ok(());
+    };
+    let Call::Report(report) = &turn.call else {
+        return Ok(());
+    };
+    accept_again(chains, report)
+}
+
+/// Replays the turns over what was held at the opening, and tests at each the entry that has it.
+pub(crate) fn check_lines<L: Ledger>(
+    opening: &Chains,
+    chains: &mut Chains,
+    turns: &[Turn],
+    passes: &[Pass<L>],
+    owners: &[Owner],
+) -> Result<(), CloseFault>
+    requires same { held_of chains.old ≡ held_of opening.now }
+    requires length { length owners.now ≡ length turns.now }
+    requires replays { (end : Held) × Replays (held_of opening.now) turns.now end }
+    ensures ok { OnOk result (AreCheckedTo (held_of opening.now) turns.now passes.now owners.now (length turns.now)) }
+    ensures err { IfErr result (IsWrongThere (held_of opening.now) turns.now passes.now) }
+{
+    let _opening = opening;
+    for i in 0..turns.len() {
+        let owner = owners[i];
+        match check_entry(chains, passes, owner, i + 1) {
+            Ok(()) => {}
+            Err(fault) => return Err(fault),
+        }
+        let turn = &turns[i];
+        let Ok(()) = replay(chains, turn) else {
+            return Err(CloseFault::Memory);
+        };
+    }
+    Ok(())
+}

@@ -1,0 +1,166 @@
+//! Whether a line that was shown is the one that was asked for.
+
+ghost use Rattle.std.specs.Prelude.{◌≡◌, ◌≢◌, ◌↔◌, ◌<◌, false, Some, None, Contains, IfOk, IfSome, IsTrue, length};
+ghost use Rattle.chains.specs.Processes.{Name as AnyName, known};
+ghost use Rattle.chains.specs.Elements.{name_of};
+ghost use Rattle.chains.specs.Held.{held_of};
+ghost use Rattle.reasons.specs.declared.certificate.Certificate.{Certificate as AnyCertificate};
+ghost use Rattle.reasons.specs.declared.fault.CertificateFault.TheVariants as faults;
+ghost use Rattle.reasons.specs.Certificates.{Certifies, IsForNames};
+ghost use Rattle.reasons.specs.CertificateText.{certificate_text};
+ghost use Rattle.reasons.specs.Shown.{IsLineText};
+ghost use Rattle.coordinator.specs.Passes.{IsLineFor};
+ghost use Rattle.coordinator.specs.Checks.{RightOver, WrongOver};
+
+use crate::entry::Entry;
+use chains::Chains;
+use reason_check::{Verdict, check};
+use reasons::{Certificate, CertificateFault, from_json, to_json, written_certificates_are_read};
+use report_line::{Call, Name, Reply};
+use std::alloc::AllocError;
+
+fn certifies(chains: &Chains, certificate: &Certificate) -> bool
+    ensures { IsTrue result ↔ Certifies (held_of chains.now) certificate.now }
+{
+    match check(chains, certificate) {
+        Verdict::Yes => true,
+        Verdict::No(_) => false,
+    }
+}
+
+/// Whether this is the text of the certificate.
+fn is_its_text(chains: &Chains, certificate: &Certificate, text: &[u8]) -> Result<bool, AllocError>
+    ensures { IfOk result (λ b. IsTrue b ↔ (text.now ≡ certificate_text chains.now.accepted certificate.now)) }
+{
+    let written = to_json(chains, certificate)?;
+    Ok(text == written.as_bytes())
+}
+
+/// Nothing was read, other than for want of memory.
+fn not_read(fault: CertificateFault) -> Result<Option<Certificate>, AllocError>
+    ensures { IfOk result (λ found. (found ≡ None) × (fault ≢ faults.Memory)) }
+{
+    match fault {
+        CertificateFault::Memory => Err(AllocError),
+        CertificateFault::NotJson | CertificateFault::Shape | CertificateFault::Unknown(_) => {
+            Ok(None)
+        }
+    }
+}
+
+/// The certificate of which this may be the text: no other one that certifies has it.
+fn read_in(chains: &Chains, text: &[u8]) -> Result<Option<Certificate>, AllocError>
+    ensures { IfOk result (λ found. (c : AnyCertificate) → Certifies (held_of chains.now) c → text.now ≡ certificate_text chains.now.accepted c → found ≡ Some c) }
+{
+    chains.lawful();
+    written_certificates_are_read(chains);
+    match from_json(chains, text) {
+        Ok(certificate) => Ok(Some(certificate)),
+        Err(fault) => not_read(fault),
+    }
+}
+
+/// The certificate of which this is the text, if it certifies.
+fn certified_in(chains: &Chains, text: &[u8]) -> Result<Option<Certificate>, AllocError>
+    ensures some { IfOk result (λ found. IfSome found (λ c. Certifies (held_of chains.now) c × (text.now ≡ certificate_text chains.now.accepted c))) }
+    ensures only { IfOk result (λ found. (c : AnyCertificate) → Certifies (held_of chains.now) c → text.now ≡ certificate_text chains.now.accepted c → found ≡ Some c) }
+{
+    let Some(certificate) = read_in(chains, text)? else {
+        return Ok(None);
+    };
+    if !certifies(chains, &certificate) {
+        return Ok(None);
+    }
+    if !is_its_text(chains, &certificate, text)? {
+        return Ok(None);
+    }
+    Ok(Some(certificate))
+}
+
+fn has_name(names: &[Name], name: &Name) -> bool
+    ensures { IsTrue result ↔ Contains names.now name.now }
+{
+    names.contains(name)
+}
+
+fn has_number(numbers: &[u32], number: u32) -> bool
+    ensures { IsTrue result ↔ Contains numbers.now number }
+{
+    numbers.contains(&number)
+}
+
+/// Whether a process is failed just where it is named.
+fn is_told(chains: &Chains, names: &[Name], failed: &[u32], process: u32) -> bool
+    requires { process < length (known chains.now.accepted) }
+    ensures { IsTrue result ↔ ((name : AnyName) → name_of chains.now.accepted process ≡ Some name → (Contains failed.now process ↔ Contains names.now name)) }
+{
+    has_number(failed, process) == has_name(names, chains.name_of(process))
+}
+
+/// Whether the failed processes are just those that are named.
+fn is_for_names(chains: &Chains, names: &[Name], certificate: &Certificate) -> bool
+    ensures { IsTrue result ↔ IsForNames chains.now.accepted names.now certificate.now }
+{
+    let failed = certificate.failed.as_slice();
+    for process in 0..chains.count() {
+        if !is_told(chains, names, failed, process) {
+            return false;
+        }
+    }
+    true
+}
+
+/// Whether all processes failed.
+fn is_for_all(chains: &Chains, certificate: &Certificate) -> bool
+    ensures { IsTrue result ↔ IsForNames chains.now.accepted (known chains.now.accepted) certificate.now }
+{
+    let failed = certificate.failed.as_slice();
+    for process in 0..chains.count() {
+        if !has_number(failed, process) {
+            return false;
+        }
+    }
+    true
+}
+
+/// Whether the text is that of the line for these names.
+fn is_line_of(chains: &Chains, names: &[Name], text: &[u8]) -> Result<bool, AllocError>
+    ensures { IfOk result (λ b. IsTrue b ↔ IsLineText (held_of chains.now) names.now text.now) }
+{
+    match certified_in(chains, text)? {
+        None => Ok(false),
+        Some(certificate) => Ok(is_for_names(chains, names, &certificate)),
+    }
+}
+
+/// Whether the text is that of the line with every process failed.
+fn is_garbage_line(chains: &Chains, text: &[u8]) -> Result<bool, AllocError>
+    ensures { IfOk result (λ b. IsTrue b ↔ IsLineText (held_of chains.now) (known chains.now.accepted) text.now) }
+{
+    match certified_in(chains, text)? {
+        None => Ok(false),
+        Some(certificate) => Ok(is_for_all(chains, &certificate)),
+    }
+}
+
+/// Whether the text is that of the line that the call asks for.
+fn is_line_for(chains: &Chains, call: &Call, text: &[u8]) -> Result<bool, AllocError>
+    ensures { IfOk result (λ b. IsTrue b ↔ IsLineFor (held_of chains.now) call.now text.now) }
+{
+    match call {
+        Call::Line(names) => is_line_of(chains, names.as_slice(), text),
+        Call::Garbage => is_garbage_line(chains, text),
+        Call::Report(_) | Call::State(_) | Call::Bye | Call::Bad(_) | Call::Unread => Ok(false),
+    }
+}
+
+/// Whether the entry shows no line, or the one that its call asked for.
+pub(crate) fn is_right(chains: &Chains, entry: &Entry) -> Result<bool, AllocError>
+    ensures right { IfOk result (λ b. IsTrue b → RightOver (held_of chains.now) entry.now) }
+    ensures wrong { IfOk result (λ b. b ≡ false → WrongOver (held_of chains.now) entry.now) }
+{
+    match entry.shown() {
+        Reply::Line(text) => is_line_for(chains, entry.call(), text.as_bytes()),
+        _ => Ok(true),
+    }
+}

@@ -1,0 +1,116 @@
+//! A line that is computed while another thread makes its turn.
+
+ghost use Rattle.std.specs.Prelude.{◌≡◌};
+
+use crate::helpers::{accepted, ended, handed_out, opened, report, shows_line};
+use coordinator::{CallFault, Coordinator, Gate, Pass};
+use line_disk::MemoryDisk;
+use report_line::Names;
+use std::alloc::Global;
+use std::marker::Brand;
+use std::process::Abort;
+use std::sync::Wait;
+use std::sync::atomic::{AtomicU64, Ordering};
+use std::sync::ledger::{Blank, Ledger};
+use std::test::Fail;
+use std::thread;
+use std::thread::{Threads, join};
+
+/// A gate that waits for another thread.
+#[derive(Drop)]
+struct HeldGate {
+    reached: AtomicU64,
+    opened: AtomicU64,
+}
+
+impl Gate for HeldGate {
+    fn before_line(&self, _pass: u64) {
+        self.reached.store(1, Ordering::SeqCst);
+        wait_for(&self.opened);
+    }
+}
+
+/// Waits until the number is not 0, or for ten million turns.
+fn wait_for(word: &AtomicU64) -> bool {
+    for _ in 0..10_000_000u64 {
+        if word.load(Ordering::SeqCst) != 0 {
+            return true;
+        }
+        thread::yield_now();
+    }
+    false
+}
+
+#[test]
+fn a_line_holds_no_lock(rt: HostRuntime) -> Result<(), Fail> {
+    let alloc = rt.alloc();
+    line_beside_report::<Brand, _>(&rt, alloc, Blank::new(8193))
+}
+
+fn line_beside_report<L: Ledger + Send + Sync, R: Threads + Wait + Abort + Sync>(
+    rt: &R,
+    alloc: Global,
+    blank: Blank,
+) -> Result<(), Fail>
+    requires name { blank.name ≡ L.name }
+    requires parts { (blank.parts ≡ L.parts) × (blank.parts ≡ 8193) }
+{
+    let coordinator = opened::<L>(rt, alloc, blank)?;
+    let mut one = handed_out(rt, &coordinator);
+    let two = handed_out(rt, &coordinator);
+    report(rt, alloc, &coordinator, &mut one, b"BEGIN a")?;
+    let (one, two) = beside(rt, alloc, &coordinator, one, two)?;
+    let text = b"{\"failed\":[],\"front\":1,\"line\":[[\"a\",1]],\"reasons\":[]}".as_slice();
+    assert!(rt; shows_line(&one, text));
+    assert_eq!(rt; accepted(&two), Some(2));
+    let mut passes = Vec::new(alloc);
+    passes.push(one)?;
+    passes.push(two)?;
+    assert_eq!(rt; ended(rt, coordinator, passes), (3, 2));
+    Ok(())
+}
+
+/// One pass asks for a line, and is held at its gate until the report of the other one was accepted.
+fn beside<L: Ledger + Send + Sync, R: Threads + Wait + Abort + Sync>(
+    rt: &R,
+    alloc: Global,
+    coordinator: &Coordinator<L, MemoryDisk>,
+    one: Pass<L>,
+    two: Pass<L>,
+) -> Result<(Pass<L>, Pass<L>), CallFault> {
+    let gate = HeldGate {
+        reached: AtomicU64::new(0),
+        opened: AtomicU64::new(0),
+    };
+    let door = &gate;
+    let (one, two) = join(
+        rt,
+        move || asks(rt, alloc, coordinator, door, one),
+        move || reports(rt, alloc, coordinator, door, two),
+    );
+    Ok((one?, two?))
+}
+
+fn asks<L: Ledger, R: Wait>(
+    rt: &R,
+    alloc: Global,
+    coordinator: &Coordinator<L, MemoryDisk>,
+    gate: &HeldGate,
+    mut pass: Pass<L>,
+) -> Result<Pass<L>, CallFault> {
+    coordinator.line(rt, &mut pass, gate, Names::new(alloc))?;
+    Ok(pass)
+}
+
+fn reports<L: Ledger, R: Wait + Abort>(
+    rt: &R,
+    alloc: Global,
+    coordinator: &Coordinator<L, MemoryDisk>,
+    gate: &HeldGate,
+    mut pass: Pass<L>,
+) -> Result<Pass<L>, CallFault> {
+    wait_for(&gate.reached);
+    report(rt, alloc, coordinator, &mut pass, b"CHECK a 1 1;1")?;
+    gate.opened.store(1, Ordering::SeqCst);
+    Ok(pass)
+}

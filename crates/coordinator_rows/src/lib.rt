@@ -1,0 +1,13 @@
+//! Tests of coordinators over disks in memory: passes that are missing at the end, passes and turns that wear out, and a line
+//! that is computed while another thread makes its turn. They stand here and not in the crate, since a crate with tests is proved
+//! once more for them.
+#![tactic(auto)]
+
+#[cfg(test)]
+mod gates;
+#[cfg(test)]
+mod helpers;
+#[cfg(test)]
+mod passes;
+#[cfg(test)]
+mod worn;

@@ -60,10 +60,13 @@ pub fn report<L: Ledger, R: Wait + Abort>(
 ) -> Result<(), CallFault>
     requires { length line.now ≤ 8192 }
 {
-    let Ok(Call::Report(report)) = read_line(alloc, line) else {
-        panic!(rt; "it is a report");
+    let Ok(call) = read_line(alloc, line) else {
+        panic!(rt; "it is a call");
     };
-    coordinator.call(rt, pass, Call::Report(report))
+    match call {
+        Call::Report(report) => coordinator.call(rt, pass, Call::Report(report)),
+        _ => panic!(rt; "it is a report"),
+    }
 }
 
 /// The front of the reply that was shown last, where a report was accepted.

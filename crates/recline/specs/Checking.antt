@@ -89,14 +89,16 @@ pub record Checks {K F : Type 0} (client_told : K → LinkState) (faults_told : 
   pub status_is : status ≡ check_status end
   pub faults_are : Tells (faults_told faults) (faults_told faults_after) (check_fault end)
 
--- The file on this disk was opened, and a certificate checked over the desk of it. The check makes no call of the disk.
-pub record ChecksOpened {D K F : Type 0} (keeps : D → Type 0) (view : D → View) (client_told : K → LinkState) (faults_told : F → LinkState) (disk : D) (client client_after : K) (faults faults_after : F) (status : ℕ) : Type 0 where
+-- The file on this disk was opened, and a certificate checked over the desk of it. The disk that is handed back is the desk's, on which
+-- the check made no call.
+pub record ChecksOpened {D K F : Type 0} (keeps : D → Type 0) (view : D → View) (client_told : K → LinkState) (faults_told : F → LinkState) (disk disk_after : D) (client client_after : K) (faults faults_after : F) (status : ℕ) : Type 0 where
   pub desk : DeskState D
   pub opened : IsOpened keeps view disk desk
   pub checks : Checks client_told faults_told desk.held client client_after faults faults_after status
   pub lawful : IsLawful keeps view desk
+  pub disk_is : disk_after ≡ desk.disk
 
-abbrev pub ChecksOn : {D K F : Type 0} → (D → Type 0) → (D → View) → (K → LinkState) → (F → LinkState) → D → K → K → F → F → ℕ → Type 0
-ChecksOn keeps view client_told faults_told disk client client_after faults faults_after status =
-    ChecksOpened keeps view client_told faults_told disk client client_after faults faults_after status
-    ⊎ IsNotOpened keeps view faults_told disk client client_after faults faults_after status
+abbrev pub ChecksOn : {D K F : Type 0} → (D → Type 0) → (D → View) → (D → ℕ) → (K → LinkState) → (F → LinkState) → D → D → K → K → F → F → ℕ → Type 0
+ChecksOn keeps view failed client_told faults_told disk disk_after client client_after faults faults_after status =
+    ChecksOpened keeps view client_told faults_told disk disk_after client client_after faults faults_after status
+    ⊎ IsNotOpened keeps view failed faults_told disk disk_after client client_after faults faults_after status

@@ -7,7 +7,7 @@ use Rattle.record_file.specs.Opening.{KeepsFile, IsSynced}
 use Rattle.desk.specs.Desks.{DeskState}
 use Rattle.desk.specs.Files.{StandsFor}
 use Rattle.desk.specs.Lawful.{IsLawful}
-use Rattle.desk.specs.Openings.{RefusesFile, LeavesFile}
+use Rattle.desk.specs.Openings.{CountsDeskFault, RefusesFile, LeavesFile}
 use Rattle.desk.specs.declared.fault.DeskFault.{DeskFault}
 use Rattle.desk.specs.declared.fault.DeskFault.TheVariants as opening
 use Rattle.report_line.specs.Cutting.{ended}
@@ -68,26 +68,29 @@ pub record IsOpened {D : Type 0} (keeps : D → Type 0) (view : D → View) (dis
   pub fresh : (desk.held ≡ desk.opening) × (desk.turns ≡ []) × (desk.held.stopped ≡ false)
   pub premise : keeps desk.disk ↔ keeps disk
 
--- The file on this disk was opened, and a session with the client ended over the desk of it. What a crash leaves then is told by
--- what holds of each desk.
-pub record RunsOpened {D K F : Type 0} (keeps : D → Type 0) (view : D → View) (client_told : K → LinkState) (faults_told : F → LinkState) (disk : D) (client client_after : K) (faults faults_after : F) (status : ℕ) : Type 0 where
+-- The file on this disk was opened, and a session with the client ended over the desk of it, whose disk is handed back. What a crash
+-- leaves of it is told by what holds of each desk.
+pub record RunsOpened {D K F : Type 0} (keeps : D → Type 0) (view : D → View) (client_told : K → LinkState) (faults_told : F → LinkState) (disk disk_after : D) (client client_after : K) (faults faults_after : F) (status : ℕ) : Type 0 where
   pub desk : DeskState D
   pub after : DeskState D
   pub opened : IsOpened keeps view disk desk
   pub runs : Runs keeps client_told faults_told client client_after faults faults_after desk after status
   pub lawful : IsLawful keeps view after
+  pub disk_is : disk_after ≡ after.disk
 
--- The file on this disk was not opened: nothing was read of the client, or written to it.
-pub record IsNotOpened {D K F : Type 0} (keeps : D → Type 0) (view : D → View) (faults_told : F → LinkState) (disk : D) (client client_after : K) (faults faults_after : F) (status : ℕ) : Type 0 where
+-- The file on this disk was not opened: nothing was read of the client, or written to it. A fault of the device is told only where a
+-- call of it failed.
+pub record IsNotOpened {D K F : Type 0} (keeps : D → Type 0) (view : D → View) (failed : D → ℕ) (faults_told : F → LinkState) (disk disk_after : D) (client client_after : K) (faults faults_after : F) (status : ℕ) : Type 0 where
   pub fault : DeskFault
-  pub disk_after : D
   pub refused : keeps disk → RefusesFile (view disk).seen fault
   pub any_moment : keeps disk → LeavesFile fault (view disk) (view disk_after)
+  pub cause : CountsDeskFault fault (failed disk) (failed disk_after)
+  pub premise : keeps disk_after ↔ keeps disk
   pub client_rests : client_after ≡ client
   pub status_is : status ≡ 3
   pub faults_are : Tells (faults_told faults) (faults_told faults_after) (open_fault_line fault)
 
-abbrev pub RunsOn : {D K F : Type 0} → (D → Type 0) → (D → View) → (K → LinkState) → (F → LinkState) → D → K → K → F → F → ℕ → Type 0
-RunsOn keeps view client_told faults_told disk client client_after faults faults_after status =
-    RunsOpened keeps view client_told faults_told disk client client_after faults faults_after status
-    ⊎ IsNotOpened keeps view faults_told disk client client_after faults faults_after status
+abbrev pub RunsOn : {D K F : Type 0} → (D → Type 0) → (D → View) → (D → ℕ) → (K → LinkState) → (F → LinkState) → D → D → K → K → F → F → ℕ → Type 0
+RunsOn keeps view failed client_told faults_told disk disk_after client client_after faults faults_after status =
+    RunsOpened keeps view client_told faults_told disk disk_after client client_after faults faults_after status
+    ⊎ IsNotOpened keeps view failed faults_told disk disk_after client client_after faults faults_after status

@@ -136,24 +136,25 @@ fn check_chains<K: Link, F: Link>(chains: &Chains, client: &mut K, faults: &mut 
 }
 
 /// The command `check`: opens the record file on a disk, reads a certificate from the client, writes to the client whether it
-/// certifies for the accepted reports, tells what went wrong, and answers the status of the process. The file is opened before
-/// the client is read. The disk is dropped then.
-pub fn check_on<D: Disk + Drop, K: Link, F: Link>(
+/// certifies for the accepted reports, tells what went wrong, and answers the status of the process and the disk. The file is opened
+/// before the client is read.
+pub fn check_on<D: Disk, K: Link, F: Link>(
     alloc: Global,
     disk: D,
     client: &mut K,
     faults: &mut F,
-) -> u8
-    ensures { ChecksOn D.keeps D.view K.told F.told disk client.old client.new faults.old faults.new result }
+) -> (u8, D)
+    ensures { ChecksOn D.keeps D.view D.failed K.told F.told disk result.1 client.old client.new faults.old faults.new result.0 }
 {
     match Desk::open(alloc, disk) {
         Ok(desk) => {
             desk.lawful();
-            check_chains(desk.chains(), client, faults)
+            let status = check_chains(desk.chains(), client, faults);
+            (status, desk.close())
         }
-        Err((fault, _disk)) => {
+        Err((fault, disk)) => {
             tell_unopened(faults, fault);
-            3
+            (3, disk)
         }
     }
 }

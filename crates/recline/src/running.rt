@@ -117,25 +117,25 @@ pub(crate) fn tell_unopened<F: Link>(faults: &mut F, fault: DeskFault)
     }
 }
 
-/// The command `run`: opens the record file on a disk, serves one client over the desk of it, and answers the status of the process.
-/// The disk is dropped then.
-pub fn run_on<D: Disk + Drop, K: Link, F: Link>(
+/// The command `run`: opens the record file on a disk, serves one client over the desk of it, and answers the status of the process
+/// and the disk.
+pub fn run_on<D: Disk, K: Link, F: Link>(
     alloc: Global,
     disk: D,
     client: &mut K,
     faults: &mut F,
-) -> u8
-    ensures { RunsOn D.keeps D.view K.told F.told disk client.old client.new faults.old faults.new result }
+) -> (u8, D)
+    ensures { RunsOn D.keeps D.view D.failed K.told F.told disk result.1 client.old client.new faults.old faults.new result.0 }
 {
     match Desk::open(alloc, disk) {
         Ok(mut desk) => {
             let status = run_over(&mut desk, client, faults);
             desk.lawful();
-            status
+            (status, desk.close())
         }
-        Err((fault, _disk)) => {
+        Err((fault, disk)) => {
             tell_unopened(faults, fault);
-            3
+            (3, disk)
         }
     }
 }

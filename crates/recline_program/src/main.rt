@@ -89,10 +89,14 @@ fn run_over_file<K: Link, F: Link>(
     faults: &mut F,
 ) -> u8 {
     let Some(path) = file else {
-        return run_on(rt.alloc(), NullDisk::new(), client, faults);
+        let (status, _disk) = run_on(rt.alloc(), NullDisk::new(), client, faults);
+        return status;
     };
     match open_file(rt, path) {
-        Ok(disk) => run_on(rt.alloc(), disk, client, faults),
+        Ok(disk) => {
+            let (status, _disk) = run_on(rt.alloc(), disk, client, faults);
+            status
+        }
         Err(status) => status,
     }
 }
@@ -105,7 +109,10 @@ fn check_over_file<K: Link, F: Link>(
     faults: &mut F,
 ) -> u8 {
     match open_file(rt, path) {
-        Ok(disk) => check_on(rt.alloc(), disk, client, faults),
+        Ok(disk) => {
+            let (status, _disk) = check_on(rt.alloc(), disk, client, faults);
+            status
+        }
         Err(status) => status,
     }
 }

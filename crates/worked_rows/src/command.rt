@@ -64,10 +64,8 @@ fn a_failed_read_ends_a_run(rt: HostRuntime) -> Result<(), Fail> {
     let written = BufWriter::new(rt.alloc(), Vec::new(rt.alloc()))?;
     let mut client = Streams::new(Broken { reads: 0 }, written);
     let mut faults = sink_of(rt.alloc(), Vec::new(rt.alloc()))?;
-    assert_eq!(rt;
-        run_on(rt.alloc(), NullDisk::new(), &mut client, &mut faults),
-        3
-    );
+    let (status, _disk) = run_on(rt.alloc(), NullDisk::new(), &mut client, &mut faults);
+    assert_eq!(rt; status, 3);
     let (reader, written) = client.into_inner();
     assert_eq!(rt; reader.reads, 2);
     assert_eq!(rt; written.get_ref().as_slice(), b"OK 1\n".as_slice());
@@ -89,10 +87,8 @@ fn a_failed_hand_on_ends_a_run(rt: HostRuntime) -> Result<(), Fail> {
         let written = BufWriter::new(rt.alloc(), writer)?;
         let mut client = Streams::new(b"BEGIN a\n".as_slice(), written);
         let mut faults = sink_of(rt.alloc(), Vec::new(rt.alloc()))?;
-        assert_eq!(rt;
-            run_on(rt.alloc(), NullDisk::new(), &mut client, &mut faults),
-            3
-        );
+        let (status, _disk) = run_on(rt.alloc(), NullDisk::new(), &mut client, &mut faults);
+        assert_eq!(rt; status, 3);
         let (rest, written) = client.into_inner();
         assert_eq!(rt; rest.len(), left);
         assert_eq!(rt; written.get_ref().writes, writes);

@@ -13,6 +13,7 @@ returns-in-Ok g c =
       opened = record { records = opened.records; any_moment = opened.any_moment; fresh = opened.fresh; premise = opened.premise };
       checks =
           subst
-          (λ (h : Held). Checks g.K.Link.told g.F.Link.told h c.args.client.now c.check_chains.new.client c.args.faults.now c.check_chains.new.faults c.check_chains.result) held c.check_chains.ensures;
+          (λ (h : Held). Checks g.K.Link.told g.F.Link.told h c.args.client.now c.check_chains-status.new.client c.args.faults.now c.check_chains-status.new.faults c.check_chains-status.result) held c.check_chains-status.ensures;
       lawful = c.lawful.ensures.lawful;
+      disk_is = c.close.ensures.disk;
     })

@@ -10,4 +10,5 @@ returns-in-Ok g c =
       opened = record { records = opened.records; any_moment = opened.any_moment; fresh = opened.fresh; premise = opened.premise };
       runs = c.run_over-status.ensures;
       lawful = c.lawful.ensures.lawful;
+      disk_is = c.close.ensures.disk;
     })

@@ -1,1 +1,2 @@
-$records "BEGIN a" "CHECK a 1 1;1" | head -c 30 >"$file"
+$records "BEGIN a" "CHECK a 1 1;1" >"$file"
+truncate -s 30 "$file"

@@ -1,1 +1,2 @@
-$records "BEGIN a" | head -c 18 >"$file"
+$records "BEGIN a" >"$file"
+truncate -s 18 "$file"

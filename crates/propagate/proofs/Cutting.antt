@@ -5,7 +5,6 @@ use Rattle.std.specs.List.{range_with_len}
 use Rattle.std.proofs.Math.Seq.{drop-cons}
 use Rattle.std.proofs.lemmas.Bool.{cases_lt, lt-ltb, le-ltb, cond-true, cond-false}
 use Rattle.std.proofs.lemmas.List.{ext_get_or, get_or-map, length-map, append_assoc, append-nil, drop_all}
-use Rattle.std.proofs.lemmas.List.Elements.{All-get_or}
 use Rattle.std.proofs.lemmas.List.Sums.{sum_by-le}
 use Rattle.report_line.specs.declared.report.Report.{Report}
 use Rattle.chains.specs.declared.position.Place.{Place}
@@ -13,27 +12,13 @@ use Rattle.chains.specs.Admission.{report_limit, process_limit}
 use Rattle.chains.specs.Processes.{known}
 use Rattle.chains.specs.Positions.{position_at}
 use Rattle.reasons.specs.Certificates.{positions_of}
-use Rattle.propagate.specs.Ranks.{AreNextRanks, AreFallen, AreBounds, AreAllBounds, IsStage, positions_from, places_from}
+use Rattle.propagate.specs.Ranks.{AreNextRanks, AreFallen, IsStage, positions_from, places_from}
 use Rattle.propagate.specs.Rounds.{AreTops}
-use Rattle.propagate.specs.Stages.{IsStanding, AreGroundedBy, AreThere, AreRunning, chains_at, chains_due}
+use Rattle.propagate.specs.Thresholds.{IsLoweredFrom}
+use Rattle.propagate.specs.Stages.{IsStanding, AreGroundedBy, AreThere, AreChosenBy, AreRunning, chains_at, chains_due}
 use Rattle.propagate.proofs.Ranked.{rank_at}
 use Rattle.propagate.proofs.Fallen.{member_first}
 use Rattle.propagate.proofs.Rounding.{sum_falls, in_order_from, positions_from_places}
-
--- ---- bounds of all places
-
--- a bound of each process's elements, whatever the place
-abbrev pub AreWide : List Report → List ℕ → Type 0
-AreWide accepted row = (length row ≡ length (known accepted)) × ((p x : ℕ) → AreBounds accepted p x row)
-
-pub all_wide : (accepted : List Report) (cut : List ℕ) (rows : List (List ℕ)) → length rows ≡ length (known accepted) → All (AreWide accepted) rows
-    → length cut ≡ length (known accepted) → AreAllBounds accepted cut rows
-all_wide accepted cut rows complete wide same = record {
-  complete = complete ∙ sym same;
-  each = λ p lt.
-      let row = All-get_or (AreWide accepted) rows p [] (omega (arith, lt, complete, same)) wide in
-      (row.0 ∙ sym same, row.1 p (slice_index cut p));
-}
 
 -- ---- the chains that are due
 
@@ -86,27 +71,28 @@ has_settled accepted cut next fell ranks h none = ext_get_or 0 cut next (sym ran
 
 module _ (accepted : List Report) (tops : List ℕ) where
   -- before the first round no process is below its last surviving rank
-  pub running_first : (cut heads fell : List ℕ) (arena : List (List Place)) (rows : List (List ℕ)) → cut ≡ tops → IsStanding accepted tops cut heads fell
-      → AreThere tops cut heads arena → AreAllBounds accepted cut rows → AreRunning accepted tops cut heads fell arena rows 1
-  running_first cut heads fell arena rows first standing there bounds = record {
+  pub running_first : (before cut heads fell : List ℕ) (arena : List (List Place)) → cut ≡ tops → IsStanding accepted tops cut heads fell
+      → AreThere tops cut heads arena → IsLoweredFrom accepted before cut → AreChosenBy accepted tops 0 cut heads arena → AreRunning accepted tops before cut heads fell arena 1
+  running_first before cut heads fell arena first standing there from chosen = record {
     standing = standing;
     grounded = λ failed h p lt below. absurd (omega (arith, below, ap (λ (xs : List ℕ). slice_index xs p) first));
     there = there;
-    bounds = bounds;
-    rounds = (0, refl, first);
+    from = from;
+    rounds = (0, refl, first, chosen);
     few = omega (arith, ap sum first);
   }
 
-  pub running_more : (cut heads fell : List ℕ) (arena : List (List Place)) (rows : List (List ℕ)) (n : ℕ) → AreRunning accepted tops cut heads fell arena rows n
-      → (next heads2 fell2 : List ℕ) (arena2 : List (List Place)) (rows2 : List (List ℕ)) → AreNextRanks accepted cut next → cut ≢ next
-      → IsStanding accepted tops next heads2 fell2 → AreGroundedBy accepted tops next heads2 arena2 → AreThere tops next heads2 arena2 → AreAllBounds accepted next rows2
-      → AreRunning accepted tops next heads2 fell2 arena2 rows2 (n + 1)
-  running_more cut heads fell arena rows n h next heads2 fell2 arena2 rows2 ranks changed standing grounded there bounds = record {
+  pub running_more : (before cut heads fell : List ℕ) (arena : List (List Place)) (n : ℕ) → AreRunning accepted tops before cut heads fell arena n
+      → (before2 next heads2 fell2 : List ℕ) (arena2 : List (List Place)) → AreNextRanks accepted cut next → cut ≢ next
+      → IsStanding accepted tops next heads2 fell2 → AreGroundedBy accepted tops next heads2 arena2 → AreThere tops next heads2 arena2 → IsLoweredFrom accepted before2 next
+      → ((t : ℕ) → AreChosenBy accepted tops t cut heads arena → AreChosenBy accepted tops (suc t) next heads2 arena2)
+      → AreRunning accepted tops before2 next heads2 fell2 arena2 (n + 1)
+  running_more before cut heads fell arena n h before2 next heads2 fell2 arena2 ranks changed standing grounded there from chosen = record {
     standing = standing;
     grounded = grounded;
     there = there;
-    bounds = bounds;
-    rounds = (suc h.rounds.0, omega (arith, h.rounds.1), (cut, h.rounds.2, ranks, changed));
+    from = from;
+    rounds = (suc h.rounds.0, omega (arith, h.rounds.1), (cut, h.rounds.2, ranks, changed), chosen h.rounds.0 h.rounds.3);
     few = omega (arith, h.few, sum_falls accepted cut next ranks changed);
   }
 

@@ -12,7 +12,7 @@ fallen_from i (top ∷ tops) (r ∷ rs) = cond (nat_lt r top) (i ∷ fallen_from
 
 -- ---- what a list contains
 
-no_member : (q : ℕ) → ¬ Contains [] q
+pub no_member : (q : ℕ) → ¬ Contains [] q
 no_member q h = omega (arith, h.1)
 
 pub member_first : (x : ℕ) (xs : List ℕ) → Contains (x ∷ xs) x

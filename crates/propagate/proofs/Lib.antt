@@ -8,6 +8,9 @@ pub mod Rounding
 pub mod Grounding
 pub mod Unwinding
 pub mod Placing
-pub mod Bounding
+pub mod Lowering
+pub mod Thresholding
 pub mod Staging
 pub mod Cutting
+pub mod Choosing
+pub mod Once

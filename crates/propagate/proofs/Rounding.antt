@@ -14,7 +14,7 @@ use Rattle.knows_row.specs.Knowing.{KnowsRank, IsLawful}
 use Rattle.reasons.specs.Certificates.{positions_of}
 use Rattle.propagate.specs.Greatest.{IsGreatestCut}
 use Rattle.propagate.specs.Rounds.{AreTops, AreRounds, AfterRounds, IsRound, IsLowered}
-use Rattle.propagate.specs.Ranks.{IsClearRank, IsNextRank, AreNextRanks, RanksAfter, IsClearBut, AreBounds, positions_from, places_from}
+use Rattle.propagate.specs.Ranks.{IsClearRank, IsNextRank, AreNextRanks, RanksAfter, IsClearBut, positions_from, places_from}
 use Rattle.std.specs.Prelude.{sum}
 use Rattle.propagate.proofs.Ranked.{rank_at, has_position, chosen_position, position_in_positions, length_positions}
 use Rattle.propagate.proofs.Settling.{after_complete, after_within, after_chosen, stays_below, same_ranks}
@@ -66,7 +66,7 @@ is_lowered accepted before cut p complete lt within next = record {
     here : position_in (positions_from accepted 0 before) p ≡ position_at accepted p (slice_index before p)
     here = position_in_positions accepted p before lt
 
-is_round : (accepted : List Report) (before cut : List ℕ) → length before ≡ length (known accepted) → ((p : ℕ) → p < length before → slice_index before p ≤ last_rank accepted p)
+pub is_round : (accepted : List Report) (before cut : List ℕ) → length before ≡ length (known accepted) → ((p : ℕ) → p < length before → slice_index before p ≤ last_rank accepted p)
     → AreNextRanks accepted before cut → IsRound accepted (positions_from accepted 0 before) (positions_from accepted 0 cut)
 is_round accepted before cut complete within next = record {
   complete = length_positions accepted 0 cut ∙ next.complete ∙ complete;
@@ -75,7 +75,7 @@ is_round accepted before cut complete within next = record {
       rw (position_in_positions accepted p cut (omega (arith, next.complete, lt))) (is_lowered accepted before cut p complete lt (within p lt) (next.each p lt));
 }
 
-after_rounds : (accepted : List Report) (failed tops cut : List ℕ) (t : ℕ) → AreTops accepted failed tops → RanksAfter accepted tops t cut → AfterRounds accepted failed t (positions_from accepted 0 cut)
+pub after_rounds : (accepted : List Report) (failed tops cut : List ℕ) (t : ℕ) → AreTops accepted failed tops → RanksAfter accepted tops t cut → AfterRounds accepted failed t (positions_from accepted 0 cut)
 after_rounds accepted failed tops cut zero h after = rw after (record {
   complete = length_positions accepted 0 tops ∙ h.complete;
   each = λ p pin. rw (position_in_positions accepted p tops (omega (arith, h.complete, pin))) (h.last p (omega (arith, h.complete, pin)));
@@ -144,8 +144,3 @@ pub clear_but_fallen : (accepted : List Report) (cut next fell : List ℕ) → A
 clear_but_fallen accepted cut next fell h same p q pin qin standing =
     let in_cut : q < length cut = omega (arith, h.complete, qin) in
     rw (same q in_cut standing) ((h.each p (omega (arith, h.complete, pin))).clear q in_cut)
-
--- bounds of a place are bounds of each earlier one
-pub bounds_below : (accepted : List Report) (p x y : ℕ) (bounds : List ℕ) → IsLawful accepted → x ≤ y → y ≤ last_rank accepted p
-    → AreBounds accepted p y bounds → AreBounds accepted p x bounds
-bounds_below accepted p x y bounds laws le within h q k qin above knows = h q k qin above (laws.later_at p x y q k le within knows)

@@ -1,8 +1,8 @@
 -- What a round has made of the processes before the i-th, and what it leaves of the others.
-use Rattle.std.proofs.Common.{◌≡◌, ◌≢◌, inl, inr, ℕ, ◌+◌, ◌≤◌, ◌<◌, Some, List, [], ◌∷◌, ◌++◌, length, get_or, set, Contains, refl, sym, ap, subst, ◌∙◌, arith}
+use Rattle.std.proofs.Common.{◌≡◌, ◌≢◌, inl, inr, ℕ, ◌+◌, ◌≤◌, ◌<◌, Some, List, [], ◌∷◌, ◌++◌, length, get_or, Contains, refl, sym, ap, subst, ◌∙◌, arith}
 use Rattle.std.specs.Prelude.{slice_index, ⊤}
-use Rattle.std.proofs.lemmas.Bool.{cases_lt, cases_eq}
-use Rattle.std.proofs.lemmas.List.{get_or_append_left, get_or_default, get_or_push, length_push, length-append, get_or-map, length-set, get_or-set_same, get_or-set_other}
+use Rattle.std.proofs.lemmas.Bool.{cases_lt}
+use Rattle.std.proofs.lemmas.List.{get_or_append_left, get_or_push, length_push, length-append, get_or-map}
 use Rattle.std.proofs.lemmas.List.Elements.{All-weaker, All-contains_itself}
 use Rattle.report_line.specs.declared.report.Report.{Report}
 use Rattle.chains.specs.declared.position.Place.{Place}
@@ -10,9 +10,11 @@ use Rattle.chains.specs.Processes.{known}
 use Rattle.chains.specs.Positions.{place_at, last_rank}
 use Rattle.chains.proofs.Listing.{AreListedTo, listed_none, listed_more, listed_other, listed_same}
 use Rattle.knows_row.specs.Knowing.{KnowsRank, IsLawful}
-use Rattle.propagate.specs.Ranks.{IsNextRank, AreNextRanks, AreFallen, AreBounds, AreAllBounds, IsGrounded, IsCauseOf}
+use Rattle.propagate.specs.Ranks.{IsNextRank, AreNextRanks, AreFallen, IsGrounded, IsCauseOf}
+use Rattle.propagate.specs.Thresholds.{ArePastAll, IsLoweredFrom}
 use Rattle.propagate.specs.Rounds.{AreTops}
 use Rattle.propagate.specs.Stages.{IsStanding, AreGroundedBy, AreThere}
+use Rattle.propagate.proofs.Ranked.{last_below}
 use Rattle.propagate.proofs.Rounding.{clear_but_fallen}
 use Rattle.propagate.proofs.Grounding.{grounded_first, grounded_more, grounded_still, falls_everywhere}
 
@@ -31,10 +33,14 @@ first_standing accepted tops heads fell complete within headed listed = record {
   clear = λ p q pin qin standing. absurd (standing ((listed.just_these q).1 (qin, tt)));
 }
 
+-- no rank is past the last one
+pub below_last : (accepted : List Report) (tops cut heads fell : List ℕ) → IsStanding accepted tops cut heads fell → (p : ℕ) → p < length cut → slice_index cut p ≤ last_rank accepted p
+below_last accepted tops cut heads fell s p lt = omega (arith, s.within p lt, s.surviving p lt)
+
 -- ---- lists with one more
 
 -- what holds of each two numbers at one place
-each_push : (P : ℕ → ℕ → ℕ → Type 0) (xs ys : List ℕ) (x y i : ℕ) → length xs ≡ i → length ys ≡ i → ((p : ℕ) → p < i → P p (slice_index xs p) (slice_index ys p)) → P i x y
+pub each_push : (P : ℕ → ℕ → ℕ → Type 0) (xs ys : List ℕ) (x y i : ℕ) → length xs ≡ i → length ys ≡ i → ((p : ℕ) → p < i → P p (slice_index xs p) (slice_index ys p)) → P i x y
     → (p : ℕ) → p < i + 1 → P p (slice_index (xs ++ x ∷ []) p) (slice_index (ys ++ y ∷ []) p)
 each_push P xs ys x y i sx sy each one p lt = elim (cases_lt p i) [
   | inl below ↦
@@ -105,54 +111,24 @@ module _ (accepted : List Report) (cut : List ℕ) (i : ℕ) (next fell : List �
     ]);
   }
 
--- ---- bounds
+-- ---- the cut before
 
--- bounds of the places: of the processes before the i-th at their new ranks
-pub record AreBoundsTo (accepted : List Report) (cut : List ℕ) (i : ℕ) (next : List ℕ) (rows : List (List ℕ)) : Type 0 where
-  pub complete : length rows ≡ length cut
-  pub row : (p : ℕ) → p < length cut → length (get_or rows p []) ≡ length cut
-  pub before : (p : ℕ) → p < i → AreBounds accepted p (slice_index next p) (get_or rows p [])
-  pub after : (p : ℕ) → i ≤ p → p < length cut → AreBounds accepted p (slice_index cut p) (get_or rows p [])
-
-pub bounds_first : (accepted : List Report) (cut : List ℕ) (rows : List (List ℕ)) → AreAllBounds accepted cut rows → AreBoundsTo accepted cut 0 [] rows
-bounds_first accepted cut rows h = record {
-  complete = h.complete;
-  row = λ p lt. (h.each p lt).0;
-  before = λ p lt. absurd (omega arith);
-  after = λ p le lt. (h.each p lt).1;
+-- before the first round it is behind everything
+pub first_lowered : (accepted : List Report) (tops before : List ℕ) → IsLawful accepted → length tops ≡ length (known accepted) → ((p : ℕ) → p < length tops → slice_index tops p ≤ last_rank accepted p)
+    → ArePastAll accepted before → IsLoweredFrom accepted before tops
+first_lowered accepted tops before laws complete within past = record {
+  complete = past.0 ∙ sym complete;
+  falls = λ q lt. omega (arith, within q lt, last_below accepted q, past.1 q (omega (arith, lt, past.0, complete)));
+  unknown = λ p q pin qin. laws.ended p (slice_index tops p) q (slice_index before q) (omega (arith, past.1 q (omega (arith, qin, past.0, complete))));
 }
 
-pub bounds_more : (accepted : List Report) (cut : List ℕ) (i : ℕ) (next : List ℕ) (rows : List (List ℕ)) (r : ℕ) (lower : List ℕ) → AreBoundsTo accepted cut i next rows
-    → length next ≡ i → i < length cut → length lower ≡ length (get_or rows i []) → AreBounds accepted i r lower
-    → AreBoundsTo accepted cut (i + 1) (next ++ r ∷ []) (set rows i lower)
-bounds_more accepted cut i next rows r lower h reached within same bounds = record {
-  complete = length-set rows i lower ∙ h.complete;
-  row = λ p lt. elim (cases_eq p i) [
-    | inl e ↦ subst (λ (j : ℕ). length (get_or (set rows i lower) j []) ≡ length cut) (sym e) (ap (λ (xs : List ℕ). length xs) here ∙ same ∙ h.row i within)
-    | inr other ↦ rw (get_or-set_other rows i p lower [] other) (h.row p lt)
-  ];
-  before = λ p lt. elim (cases_lt p i) [
-    | inl below ↦ rw (get_or_append_left next (r ∷ []) 0 p (omega arith), get_or-set_other rows i p lower [] (λ e. absurd (omega (arith, e, below)))) (h.before p below)
-    | inr past ↦
-        let e : i ≡ p = omega arith in
-        subst (λ (j : ℕ). AreBounds accepted j (slice_index (next ++ r ∷ []) j) (get_or (set rows i lower) j [])) e (rw (get_or_push next r 0 i reached, here) bounds)
-  ];
-  after = λ p le lt. rw (get_or-set_other rows i p lower [] (λ e. absurd (omega (arith, e, le)))) (h.after p (omega arith) lt);
+-- after one it is the cut that the round began with
+pub next_lowered : (accepted : List Report) (cut next : List ℕ) → AreNextRanks accepted cut next → IsLoweredFrom accepted cut next
+next_lowered accepted cut next h = record {
+  complete = sym h.complete;
+  falls = λ q lt. (h.each q (omega (arith, lt, h.complete))).before;
+  unknown = λ p q pin qin. (h.each p (omega (arith, pin, h.complete))).clear q (omega (arith, qin, h.complete));
 }
-  where
-    here : get_or (set rows i lower) i [] ≡ lower
-    here = get_or-set_same rows i lower [] (omega (arith, h.complete))
-
-pub bounds_all : (accepted : List Report) (cut : List ℕ) (i : ℕ) (next : List ℕ) (rows : List (List ℕ)) → AreBoundsTo accepted cut i next rows → length next ≡ i → i ≡ length cut
-    → AreAllBounds accepted next rows
-bounds_all accepted cut i next rows h reached all = record {
-  complete = h.complete ∙ sym (reached ∙ all);
-  each = λ p lt. (h.row p (omega arith) ∙ sym (reached ∙ all), h.before p (omega arith));
-}
-
--- a row as it is taken
-pub row_taken : (rows : List (List ℕ)) (i : ℕ) (row : List ℕ) → row ≡ get_or rows i row → i < length rows → row ≡ get_or rows i []
-row_taken rows i row e lt = e ∙ get_or_default rows i row [] lt
 
 -- ---- chains
 
@@ -176,7 +152,7 @@ heads_none accepted tops cut arena = record {
 }
 
 -- the chain of a number that is there stays where more chains come
-chain_stays : (arena more later : List (List Place)) (head : ℕ) → later ≡ arena ++ more → head < length arena → get_or later head [] ≡ get_or arena head []
+pub chain_stays : (arena more later : List (List Place)) (head : ℕ) → later ≡ arena ++ more → head < length arena → get_or later head [] ≡ get_or arena head []
 chain_stays arena more later head e lt = ap (λ (xs : List (List Place)). get_or xs head []) e ∙ get_or_append_left arena more [] head lt
 
 still_there : (arena more later : List (List Place)) (head : ℕ) → later ≡ arena ++ more → head < length arena → head < length later

@@ -6,7 +6,7 @@ use Rattle.report_line.specs.declared.report.Report.{Report}
 use Rattle.chains.specs.declared.position.Place.{Place}
 use Rattle.chains.specs.declared.position.Position.{Position}
 use Rattle.chains.specs.Positions.{rank, position_at, place_at}
-use Rattle.knows_row.specs.Knowing.{KnowsAt, KnowsRank}
+use Rattle.knows_row.specs.Knowing.{KnowsRank}
 use Rattle.reasons.specs.Certificates.{IsReasonChain}
 
 -- the positions and the places of a cut, for the processes from the i-th on
@@ -81,11 +81,6 @@ pub record AreFallen (cut next fell : List ℕ) : Type 0 where
   pub in_order : IsStrictlyIncreasing fell
   pub just_these : (q : ℕ) → (Contains fell q ↔ ((q < length cut) × (slice_index next q < slice_index cut q)))
 
--- the place of rank x of p knows no element of a process at or above its bound
-abbrev pub AreBounds : List Report → ℕ → ℕ → List ℕ → Type 0
-AreBounds accepted p x bounds = (q k : ℕ) → q < length bounds → slice_index bounds q ≤ k → ¬ KnowsAt accepted (place_at accepted p x) q k
-
--- bounds of each process's place in the cut
-pub record AreAllBounds (accepted : List Report) (cut : List ℕ) (rows : List (List ℕ)) : Type 0 where
-  pub complete : length rows ≡ length cut
-  pub each : (p : ℕ) → p < length cut → (length (get_or rows p []) ≡ length cut) × AreBounds accepted p (slice_index cut p) (get_or rows p [])
+-- rank x of p knows one of these processes after its rank in the cut
+abbrev pub KnowsOne : List Report → List ℕ → List ℕ → ℕ → ℕ → Type 0
+KnowsOne accepted fell cut p x = (q : ℕ) × Contains fell q × KnowsRank accepted p x q (slice_index cut q)

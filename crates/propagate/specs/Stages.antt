@@ -1,12 +1,14 @@
 -- Working definitions: where the rounds stand.
-use Rattle.std.specs.Prelude.{◌≡◌, ℕ, ◌+◌, ◌<◌, ◌≤◌, List, [], ◌∷◌, length, map, sum, All, slice_index, get_or, nat_lt, if◌then◌else◌}
+use Rattle.std.specs.Prelude.{◌≡◌, ◌⊎◌, ℕ, ◌+◌, ◌<◌, ◌≤◌, List, [], ◌∷◌, ◌++◌, length, map, sum, All, slice_index, get_or, Some, nat_lt, if◌then◌else◌}
 use Rattle.std.specs.List.Sorted.{IsStrictlyIncreasing}
 use Rattle.report_line.specs.declared.report.Report.{Report}
 use Rattle.chains.specs.declared.position.Place.{Place}
 use Rattle.chains.specs.Processes.{known}
-use Rattle.chains.specs.Positions.{last_rank}
-use Rattle.propagate.specs.Ranks.{AreGrounded, RanksAfter, IsClearBut, AreAllBounds}
+use Rattle.chains.specs.Positions.{last_rank, place_at}
+use Rattle.propagate.specs.Ranks.{AreGrounded, RanksAfter, IsClearBut, IsCauseOf, positions_from}
+use Rattle.propagate.specs.Thresholds.{IsLoweredFrom}
 use Rattle.propagate.specs.Rounds.{AreTops}
+use Rattle.propagate.specs.Choice.{ChainsAfter}
 
 -- the chains of these numbers
 abbrev pub chains_at : List (List Place) → List ℕ → List (List Place)
@@ -38,11 +40,40 @@ chains_due (top ∷ tops) [] chains = []
 chains_due (top ∷ tops) (r ∷ rs) [] = []
 chains_due (top ∷ tops) (r ∷ rs) (chain ∷ chains) = if nat_lt r top then chain ∷ chains_due tops rs chains else chains_due tops rs chains
 
--- where the rounds stand, with the chains, the bounds, and the number of the round to come
-pub record AreRunning (accepted : List Report) (tops cut heads fell : List ℕ) (arena : List (List Place)) (rows : List (List ℕ)) (number : ℕ) : Type 0 where
+-- the chain of each process below its last surviving rank, and none of the others
+abbrev pub shown : List ℕ → List ℕ → List (List Place) → List (List Place)
+shown [] cut chains = []
+shown (top ∷ tops) [] chains = []
+shown (top ∷ tops) (r ∷ rs) [] = []
+shown (top ∷ tops) (r ∷ rs) (chain ∷ chains) = (if nat_lt r top then chain else []) ∷ shown tops rs chains
+
+-- the chain goes on from q to the place of p above rank r
+abbrev pub GoesOnAt : List Report → List ℕ → List ℕ → List ℕ → List (List Place) → ℕ → ℕ → ℕ → List Place → Type 0
+GoesOnAt accepted tops cut heads arena p r q chain =
+    ((slice_index cut q ≡ slice_index tops q) × (chain ≡ place_at accepted q (slice_index cut q) ∷ place_at accepted p (r + 1) ∷ []))
+    ⊎ ((slice_index cut q < slice_index tops q) × (chain ≡ get_or arena (slice_index heads q) [] ++ place_at accepted p (r + 1) ∷ []))
+
+-- the chain of a process that a round leaves at rank r: its own where it stays, else from its cause to the place above
+abbrev pub IsChainAt : List Report → List ℕ → List ℕ → List ℕ → List (List Place) → ℕ → ℕ → List Place → Type 0
+IsChainAt accepted tops cut heads arena p r chain =
+    ((r ≡ slice_index cut p) × (r < slice_index tops p → chain ≡ get_or arena (slice_index heads p) []))
+    ⊎ ((q : ℕ) × IsCauseOf accepted cut p r (Some q) × GoesOnAt accepted tops cut heads arena p r q chain)
+
+-- such chains of all processes, after a round
+abbrev pub AreChainsAt : List Report → List ℕ → List ℕ → List ℕ → List (List Place) → List ℕ → List ℕ → List (List Place) → Type 0
+AreChainsAt accepted tops cut heads arena next after later =
+    (p : ℕ) → p < length next → IsChainAt accepted tops cut heads arena p (slice_index next p) (get_or later (slice_index after p) [])
+
+-- for each failed set that has these last surviving ranks, the chains are those that the rounds choose
+abbrev pub AreChosenBy : List Report → List ℕ → ℕ → List ℕ → List ℕ → List (List Place) → Type 0
+AreChosenBy accepted tops t cut heads arena =
+    (failed : List ℕ) → AreTops accepted failed tops → ChainsAfter accepted failed t (positions_from accepted 0 cut) (shown tops cut (chains_at arena heads))
+
+-- where the rounds stand, with the cut before, the chains and the number of the round to come
+pub record AreRunning (accepted : List Report) (tops before cut heads fell : List ℕ) (arena : List (List Place)) (number : ℕ) : Type 0 where
   pub standing : IsStanding accepted tops cut heads fell
   pub grounded : AreGroundedBy accepted tops cut heads arena
   pub there : AreThere tops cut heads arena
-  pub bounds : AreAllBounds accepted cut rows
-  pub rounds : (t : ℕ) × (number ≡ t + 1) × RanksAfter accepted tops t cut
+  pub from : IsLoweredFrom accepted before cut
+  pub rounds : (t : ℕ) × (number ≡ t + 1) × RanksAfter accepted tops t cut × AreChosenBy accepted tops t cut heads arena
   pub few : number + sum cut ≤ sum tops + 1

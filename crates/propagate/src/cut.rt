@@ -2,6 +2,7 @@
 
 ghost use Rattle.std.specs.Prelude.{◌≡◌, ◌<◌, ◌≤◌, ◌+◌, ◌-◌, ◌^◌, ◌↔◌, ℕ, List, IfOk, Contains, length, map, slice_index, sum};
 ghost use Rattle.std.specs.List.{range_with_len};
+ghost use Rattle.report_line.specs.declared.report.Report.{Report};
 ghost use Rattle.chains.specs.Processes.{known};
 ghost use Rattle.chains.specs.Positions.{last_rank};
 ghost use Rattle.chains.specs.Folded.{IsFolded};
@@ -12,11 +13,11 @@ ghost use Rattle.reasons.specs.Certificates.{AreReasons, Certifies, positions_of
 ghost use Rattle.history_law.specs.Headline.{IsLineOfHistories};
 ghost use Rattle.propagate.specs.Greatest.{IsGreatestCut};
 ghost use Rattle.propagate.specs.Rounds.{AreTops, AreRounds};
-ghost use Rattle.propagate.specs.Ranks.{AreNextRanks, RanksAfter, AreAllBounds};
-ghost use Rattle.propagate.specs.Stages.{IsStanding, AreGroundedBy, AreThere, chains_at, chains_due};
+ghost use Rattle.propagate.specs.Ranks.{AreNextRanks, RanksAfter};
+ghost use Rattle.propagate.specs.Stages.{IsStanding, AreGroundedBy, AreThere, AreChosenBy, chains_at, chains_due};
+ghost use Rattle.propagate.specs.Choice.{AreChosen, IsChosenCertificate};
 
 use crate::arena::Arena;
-use crate::bounds::Bounds;
 use crate::places::{last_surviving_ranks, line_at};
 use crate::rounds::{Stage, first_stage, round};
 use chains::{Chains, Failed, Line};
@@ -30,18 +31,6 @@ pub struct Cut {
     pub line: Line,
     pub reasons: Reasons,
     pub rounds: u32,
-}
-
-/// Bounds of all places, for each process.
-fn all_bounds(chains: &Chains) -> Result<Vec<Bounds>, AllocError>
-    ensures { IfOk result (λ rows. (cut : List ℕ) → length cut ≡ length (known chains.now.accepted) → AreAllBounds chains.now.accepted cut rows.items) }
-{
-    let widest = Bounds::widest(chains)?;
-    let mut rows = Vec::with_capacity(chains.alloc(), chains.count() as usize)?;
-    for _ in 0..chains.count() {
-        rows.push(widest.copy()?)?;
-    }
-    Ok(rows)
 }
 
 /// The chains of the processes below their last surviving ranks, in order of birth.
@@ -82,16 +71,16 @@ fn settle(chains: &Chains, tops: &[u32]) -> Result<Settled, AllocError>
     ensures standing { IfOk result (λ s. IsStanding chains.now.accepted tops.now s.stage.cut.items s.stage.heads.items s.stage.fell.items) }
     ensures grounded { IfOk result (λ s. AreGroundedBy chains.now.accepted tops.now s.stage.cut.items s.stage.heads.items s.arena) }
     ensures there { IfOk result (λ s. AreThere tops.now s.stage.cut.items s.stage.heads.items s.arena) }
-    ensures rounds { IfOk result (λ s. (t : ℕ) × (s.rounds ≡ t + 1) × RanksAfter chains.now.accepted tops.now t s.stage.cut.items) }
+    ensures rounds { IfOk result (λ s. (t : ℕ) × (s.rounds ≡ t + 1) × RanksAfter chains.now.accepted tops.now t s.stage.cut.items
+        × AreChosenBy chains.now.accepted tops.now t s.stage.cut.items s.stage.heads.items s.arena) }
     ensures settled { IfOk result (λ s. AreNextRanks chains.now.accepted s.stage.cut.items s.stage.cut.items) }
     ensures few { IfOk result (λ s. s.rounds ≤ sum tops.now + 1) }
 {
-    let mut rows = all_bounds(chains)?;
     let mut arena = Arena::new(chains.alloc());
     let mut stage = first_stage(chains, tops)?;
     let mut rounds = 1;
     loop {
-        let next = round(chains, &mut rows, &mut arena, tops, &stage)?;
+        let next = round(chains, &mut arena, tops, &stage)?;
         if next.fell.is_empty() {
             return Ok(Settled {
                 stage: next,
@@ -112,6 +101,7 @@ pub fn greatest_cut(chains: &Chains, failed: &Failed) -> Result<Cut, AllocError>
     ensures of_histories { IfOk result (λ cut. IsLineOfHistories chains.now.accepted failed.now (positions_of cut.line)) }
     ensures reasons { IfOk result (λ cut. AreReasons chains.now.accepted failed.now (positions_of cut.line) cut.reasons) }
     ensures rounds { IfOk result (λ cut. AreRounds chains.now.accepted failed.now cut.rounds (positions_of cut.line)) }
+    ensures chosen { IfOk result (λ cut. AreChosen chains.now.accepted failed.now cut.line cut.reasons cut.rounds) }
     // The sum counts the surviving positions above 0.
     ensures few { IfOk result (λ cut. (tops : List ℕ) → AreTops chains.now.accepted failed.now tops → cut.rounds ≤ sum tops + 1) }
 {
@@ -132,6 +122,7 @@ pub fn certificate(chains: &Chains, failed: &Failed) -> Result<Certificate, Allo
     ensures certifies { IfOk result (λ c. Certifies (held_of chains.now) c) }
     ensures of_histories { IfOk result (λ c. IsLineOfHistories chains.now.accepted c.failed (positions_of c.line)) }
     ensures failed { IfOk result (λ c. (p : ℕ) → (Contains c.failed p ↔ (Contains failed.now p × (p < length (known chains.now.accepted))))) }
+    ensures chosen { IfOk result (λ c. IsChosenCertificate (held_of chains.now) failed.now c) }
 {
     let failed = failed.known_to(chains)?;
     let cut = greatest_cut(chains, &failed)?;
@@ -148,4 +139,12 @@ pub fn certificate(chains: &Chains, failed: &Failed) -> Result<Certificate, Allo
 pub fn certified_lines_are_the_greatest()
     ensures cut { (held : Held) (c : AnyCertificate) → IsFolded held.accepted → Certifies held c → IsGreatestCut held.accepted c.failed (positions_of c.line) }
     ensures of_histories { (held : Held) (c : AnyCertificate) → IsFolded held.accepted → Certifies held c → IsLineOfHistories held.accepted c.failed (positions_of c.line) }
+{}
+
+/// What the rounds choose over a list for a failed set is one line, with one list of reason chains and one number of rounds;
+/// so there is one certificate of them.
+pub fn the_rounds_choose_once()
+    ensures cut { (accepted : List Report) (failed : List ℕ) (line other : List AnyPlace) (reasons others : List (List AnyPlace)) (n m : ℕ)
+        → AreChosen accepted failed line reasons n → AreChosen accepted failed other others m → (line ≡ other) × (reasons ≡ others) × (n ≡ m) }
+    ensures certificate { (held : Held) (failed : List ℕ) (c d : AnyCertificate) → IsChosenCertificate held failed c → IsChosenCertificate held failed d → c ≡ d }
 {}

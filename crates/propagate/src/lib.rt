@@ -2,9 +2,12 @@
 #![tactic(auto)]
 
 mod arena;
-mod bounds;
 mod cut;
+mod falls;
 mod places;
 mod rounds;
+mod thresholds;
 
-pub use cut::{Cut, certificate, certified_lines_are_the_greatest, greatest_cut};
+pub use cut::{
+    Cut, certificate, certified_lines_are_the_greatest, greatest_cut, the_rounds_choose_once,
+};

@@ -4,23 +4,37 @@ ghost use Rattle.std.specs.Prelude.{◌≡◌, ◌<◌, ◌≤◌, ◌+◌, ◌+
 ghost use Rattle.chains.specs.Processes.{known};
 ghost use Rattle.chains.specs.Positions.{place_at as place_of_rank, last_rank};
 ghost use Rattle.chains.specs.declared.position.Place.{Place as AnyPlace};
-ghost use Rattle.propagate.specs.Ranks.{AreNextRanks, IsGrounded, IsCauseOf, AreFallen, AreAllBounds};
+ghost use Rattle.propagate.specs.Ranks.{AreNextRanks, IsGrounded, IsCauseOf, AreFallen};
 ghost use Rattle.propagate.specs.Rounds.{AreTops};
-ghost use Rattle.propagate.specs.Stages.{IsStanding, AreGroundedBy, AreThere};
+ghost use Rattle.propagate.specs.Thresholds.{IsLoweredFrom, ArePastAll};
+ghost use Rattle.propagate.specs.Stages.{IsStanding, AreGroundedBy, AreThere, IsChainAt, AreChainsAt};
 
 use crate::arena::Arena;
-use crate::bounds::{Bounds, Lowered};
+use crate::falls::{Lowered, lower};
 use crate::places::place_at;
+use crate::thresholds::Thresholds;
 use chains::Chains;
 use std::alloc::AllocError;
 
-/// A cut after some rounds: the rank of each process, for those below their last surviving ranks the number of the chain
-/// that ends at the next position, and the processes that the last round lowered.
+/// A cut after some rounds: the rank of each process, before the last round and after it; for those below their last surviving
+/// ranks the number of the chain that ends at the next position; and the processes that the last round lowered.
 #[derive(Drop)]
 pub(crate) struct Stage {
+    pub(crate) before: Vec<u32>,
     pub(crate) cut: Vec<u32>,
     pub(crate) heads: Vec<usize>,
     pub(crate) fell: Vec<u32>,
+}
+
+/// For each process a rank behind all its elements.
+fn ranks_past_all(chains: &Chains) -> Result<Vec<u32>, AllocError>
+    ensures { IfOk result (λ ranks. ArePastAll chains.now.accepted ranks.items) }
+{
+    let mut ranks = Vec::with_capacity(chains.alloc(), chains.count() as usize)?;
+    for process in 0..chains.count() {
+        ranks.push(chains.elements(process).len() + 1)?;
+    }
+    Ok(ranks)
 }
 
 /// The first cut, of all last surviving ranks, from which any process may be known too far.
@@ -29,15 +43,22 @@ pub(crate) fn first_stage(chains: &Chains, tops: &[u32]) -> Result<Stage, AllocE
     requires within { (p : ℕ) → p < length tops.now → slice_index tops.now p ≤ last_rank chains.now.accepted p }
     ensures cut { IfOk result (λ s. s.cut.items ≡ tops.now) }
     ensures standing { IfOk result (λ s. IsStanding chains.now.accepted tops.now s.cut.items s.heads.items s.fell.items) }
+    ensures from { IfOk result (λ s. IsLoweredFrom chains.now.accepted s.before.items s.cut.items) }
     ensures there { IfOk result (λ s. (arena : List (List AnyPlace)) → AreThere tops.now s.cut.items s.heads.items arena) }
 {
     let cut = Vec::from_slice(chains.alloc(), tops)?;
     let heads = Vec::from_elem(chains.alloc(), 0, tops.len())?;
+    let before = ranks_past_all(chains)?;
     let mut fell = Vec::with_capacity(chains.alloc(), tops.len())?;
     for process in 0..chains.count() {
         fell.push(process)?;
     }
-    Ok(Stage { cut, heads, fell })
+    Ok(Stage {
+        before,
+        cut,
+        heads,
+        fell,
+    })
 }
 
 /// The number of the chain of a process after a round that brings it there.
@@ -60,6 +81,7 @@ fn next_head(
         → ((p : ℕ) → p < length next → slice_index next p ≤ slice_index stage.now.cut.items p)
         → slice_index next process ≡ low.now.rank → low.now.rank < slice_index tops.now process
         → IsGrounded chains.now.accepted failed next (place_of_rank chains.now.accepted process (low.now.rank + 1)) (get_or arena.new head [])) }
+    ensures chain { IfOk result (λ head. IsChainAt chains.now.accepted tops.now stage.now.cut.items stage.now.heads.items arena.old process low.now.rank (get_or arena.new head [])) }
 {
     chains.lawful();
     let Some(cause) = low.cause else {
@@ -78,7 +100,6 @@ fn next_head(
 /// One round, in which every process is looked at against the same cut.
 pub(crate) fn round(
     chains: &Chains,
-    rows: &mut Vec<Bounds>,
     arena: &mut Arena,
     tops: &[u32],
     stage: &Stage,
@@ -86,19 +107,22 @@ pub(crate) fn round(
     requires standing { IsStanding chains.now.accepted tops.now stage.now.cut.items stage.now.heads.items stage.now.fell.items }
     requires grounded { AreGroundedBy chains.now.accepted tops.now stage.now.cut.items stage.now.heads.items arena.old }
     requires there { AreThere tops.now stage.now.cut.items stage.now.heads.items arena.old }
-    requires bounds { AreAllBounds chains.now.accepted stage.now.cut.items rows.old.items }
+    requires from { IsLoweredFrom chains.now.accepted stage.now.before.items stage.now.cut.items }
     ensures ranks { IfOk result (λ next. AreNextRanks chains.now.accepted stage.now.cut.items next.cut.items) }
     ensures fallen { IfOk result (λ next. AreFallen stage.now.cut.items next.cut.items next.fell.items) }
     ensures standing { IfOk result (λ next. IsStanding chains.now.accepted tops.now next.cut.items next.heads.items next.fell.items) }
     ensures grounded { IfOk result (λ next. AreGroundedBy chains.now.accepted tops.now next.cut.items next.heads.items arena.new) }
     ensures there { IfOk result (λ next. AreThere tops.now next.cut.items next.heads.items arena.new) }
-    ensures bounds { IfOk result (λ next. AreAllBounds chains.now.accepted next.cut.items rows.new.items) }
+    ensures from { IfOk result (λ next. IsLoweredFrom chains.now.accepted next.before.items next.cut.items) }
+    ensures chains { IfOk result (λ next. AreChainsAt chains.now.accepted tops.now stage.now.cut.items stage.now.heads.items arena.old next.cut.items next.heads.items arena.new) }
 {
+    let thresholds = Thresholds::of(chains, &stage.cut, &stage.before, &stage.fell)?;
+    let before = Vec::from_slice(chains.alloc(), &stage.cut)?;
     let mut cut = Vec::with_capacity(chains.alloc(), stage.cut.len())?;
     let mut heads = Vec::with_capacity(chains.alloc(), stage.cut.len())?;
     let mut fell = Vec::new(chains.alloc());
     for process in 0..chains.count() {
-        let low = rows[process as usize].lower(chains, &stage.cut, &stage.fell, process);
+        let low = lower(chains, &thresholds, tops, stage, process);
         let head = next_head(chains, arena, tops, stage, process, &low)?;
         if low.rank < stage.cut[process as usize] {
             fell.push(process)?;
@@ -106,5 +130,10 @@ pub(crate) fn round(
         cut.push(low.rank)?;
         heads.push(head)?;
     }
-    Ok(Stage { cut, heads, fell })
+    Ok(Stage {
+        before,
+        cut,
+        heads,
+        fell,
+    })
 }

@@ -4,6 +4,7 @@ use Rattle.std.specs.List.Sorted.{IsStrictlyIncreasing}
 use Rattle.chains.specs.Positions.{IsCut}
 use Rattle.reasons.specs.Certificates.{AreReasons, positions_of}
 use Rattle.history_law.specs.Headline.{IsLineOfHistories}
+use Rattle.propagate.specs.Choice.{AreChosen}
 use Rattle.propagate.proofs.cut.certificate.Goals as goal
 
 module _ (c : goal.After-front) where
@@ -29,3 +30,12 @@ returns-clause-failed c = just_these c
 
 pub returns-clause-of_histories : goal.returns-clause-of_histories
 returns-clause-of_histories c = subst (λ (ps : List ℕ). IsLineOfHistories c.args.chains.now.accepted ps (positions_of c.in_ok-cut.cut.line)) (failed c) c.in_ok-cut.ensures.of_histories
+
+pub returns-clause-chosen : goal.returns-clause-chosen
+returns-clause-chosen c = record {
+  front = c.front.ensures;
+  in_order = subst IsStrictlyIncreasing (sym c.from_vec.ensures) c.into_numbers.ensures.in_order;
+  just_these = just_these c;
+  rounds = c.in_ok-cut.cut.rounds;
+  chosen = subst (λ (ps : List ℕ). AreChosen c.args.chains.now.accepted ps c.in_ok-cut.cut.line c.in_ok-cut.cut.reasons c.in_ok-cut.cut.rounds) (failed c) c.in_ok-cut.ensures.chosen;
+}

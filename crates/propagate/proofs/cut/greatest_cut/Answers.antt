@@ -5,12 +5,14 @@ use Rattle.knows_row.proofs.Lawful.{lawful}
 use Rattle.reasons.specs.Certificates.{AreReasons, positions_of}
 use Rattle.history_law.proofs.Lines.{line_of_histories}
 use Rattle.propagate.specs.Greatest.{IsGreatestCut}
-use Rattle.propagate.specs.Ranks.{positions_from, places_from}
+use Rattle.propagate.specs.Ranks.{IsStage, positions_from, places_from}
 use Rattle.propagate.specs.Rounds.{AreTops, AreRounds}
-use Rattle.propagate.specs.Stages.{chains_at, chains_due}
+use Rattle.propagate.specs.Choice.{ChainsAfter}
+use Rattle.propagate.specs.Stages.{chains_at, chains_due, shown}
 use Rattle.propagate.proofs.Grounding.{are_reasons}
 use Rattle.propagate.proofs.Rounding.{settled_is_greatest, are_rounds}
 use Rattle.propagate.proofs.Cutting.{same_tops, few_tops, line_in_order, line_positions, stage_of}
+use Rattle.propagate.proofs.Choosing.{given_reasons}
 use Rattle.propagate.proofs.cut.greatest_cut.Goals as goal
 
 pub settle-requires-clause-few : goal.settle-requires-clause-few
@@ -45,15 +47,22 @@ returns-clause-line c = greatest c
 pub returns-clause-of_histories : goal.returns-clause-of_histories
 returns-clause-of_histories c = line_of_histories c.args.chains.now.accepted c.args.failed.now (positions_of c.in_ok-line.line) c.lawful.ensures.folded (greatest c)
 
+due : (c : goal.After-drop-tops-2) → let s = c.in_ok-settled.settled in c.in_ok-reasons.reasons ≡ chains_due c.deref.result.now s.stage.cut.items (chains_at s.arena s.stage.heads.items)
+due c =
+    let s = c.in_ok-settled.settled in
+    c.in_ok-reasons.ensures ∙ ap (λ (xs : List ℕ). chains_due xs s.stage.cut.items (chains_at s.arena s.stage.heads.items)) (c.deref-3.ensures.value ∙ sym c.deref.ensures.value)
+
+stage : (c : goal.After-drop-tops-2) → let s = c.in_ok-settled.settled in IsStage c.args.chains.now.accepted c.args.failed.now c.deref.result.now s.stage.cut.items (chains_at s.arena s.stage.heads.items)
+stage c =
+    let s = c.in_ok-settled.settled in
+    stage_of c.args.chains.now.accepted c.args.failed.now c.deref.result.now s.stage.cut.items s.stage.heads.items s.stage.fell.items s.arena (tops c) c.in_ok-settled.ensures.standing c.in_ok-settled.ensures.grounded
+
 pub returns-clause-reasons : goal.returns-clause-reasons
 returns-clause-reasons c =
     let s = c.in_ok-settled.settled in
-    let due : c.in_ok-reasons.reasons ≡ chains_due c.deref.result.now s.stage.cut.items (chains_at s.arena s.stage.heads.items)
-    = c.in_ok-reasons.ensures ∙ ap (λ (xs : List ℕ). chains_due xs s.stage.cut.items (chains_at s.arena s.stage.heads.items)) (c.deref-3.ensures.value ∙ sym c.deref.ensures.value) in
-    let stage = stage_of c.args.chains.now.accepted c.args.failed.now c.deref.result.now s.stage.cut.items s.stage.heads.items s.stage.fell.items s.arena (tops c) c.in_ok-settled.ensures.standing c.in_ok-settled.ensures.grounded in
-    subst (λ (reasons : List (List Place)). AreReasons c.args.chains.now.accepted c.args.failed.now (positions_of c.in_ok-line.line) reasons) (sym due)
+    subst (λ (reasons : List (List Place)). AreReasons c.args.chains.now.accepted c.args.failed.now (positions_of c.in_ok-line.line) reasons) (sym (due c))
     (subst (λ cut. AreReasons c.args.chains.now.accepted c.args.failed.now cut (chains_due c.deref.result.now s.stage.cut.items (chains_at s.arena s.stage.heads.items))) (positions c)
-    (are_reasons c.args.chains.now.accepted c.args.failed.now c.deref.result.now s.stage.cut.items (chains_at s.arena s.stage.heads.items) (tops c) stage))
+    (are_reasons c.args.chains.now.accepted c.args.failed.now c.deref.result.now s.stage.cut.items (chains_at s.arena s.stage.heads.items) (tops c) (stage c)))
 
 pub returns-clause-rounds : goal.returns-clause-rounds
 returns-clause-rounds c =
@@ -64,3 +73,18 @@ returns-clause-rounds c =
 
 pub returns-clause-few : goal.returns-clause-few
 returns-clause-few c = λ ts h. omega (arith, c.in_ok-settled.ensures.few, ap sum (same_tops c.args.chains.now.accepted c.args.failed.now ts c.deref.result.now h (tops c)))
+
+pub returns-clause-chosen : goal.returns-clause-chosen
+returns-clause-chosen c =
+    let s = c.in_ok-settled.settled in
+    let rounds = c.in_ok-settled.ensures.rounds in
+    let chains = shown c.deref.result.now s.stage.cut.items (chains_at s.arena s.stage.heads.items) in
+    record {
+      in_order = returns-clause-in_order c;
+      changing = rounds.0;
+      counted = rounds.1;
+      chains = chains;
+      after = subst (λ cut. ChainsAfter c.args.chains.now.accepted c.args.failed.now rounds.0 cut chains) (positions c) (rounds.3 c.args.failed.now (tops c));
+      settled = (returns-clause-rounds c).3;
+      reasons_are = due c ∙ given_reasons c.args.chains.now.accepted c.args.failed.now c.deref.result.now s.stage.cut.items (chains_at s.arena s.stage.heads.items) (stage c);
+    }

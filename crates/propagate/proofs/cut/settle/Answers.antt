@@ -1,18 +1,23 @@
-use Rattle.std.proofs.Common.{◌≡◌, ◌+◌, ◌≢◌, ap, sym, subst, ◌∙◌, arith, length, List, ℕ, vec_len}
+use Rattle.std.proofs.Common.{◌≡◌, ◌≢◌, sym, subst, arith, List, ℕ, vec_len}
 use Rattle.std.proofs.lemmas.Bool.{eqb-true, eqb-false}
 use Rattle.propagate.specs.Ranks.{AreNextRanks, RanksAfter}
 use Rattle.propagate.proofs.Rounding.{sum_falls}
+use Rattle.propagate.specs.Stages.{IsStanding, AreChosenBy}
 use Rattle.propagate.proofs.Cutting.{running_first, running_more, has_changed, has_settled}
+use Rattle.propagate.proofs.Choosing.{chosen_first, chosen_still, chosen_more}
 use Rattle.propagate.proofs.cut.settle.Goals as goal
 
 pub loop-stage-init : goal.loop-stage-init
 loop-stage-init c =
     let s = c.in_ok-stage.stage in
-    running_first c.args.chains.now.accepted c.args.tops.now s.cut.items s.heads.items s.fell.items c.new-arena.result c.in_ok-rows.rows.items
+    running_first c.args.chains.now.accepted c.args.tops.now s.before.items s.cut.items s.heads.items s.fell.items c.new-arena.result
     c.in_ok-stage.ensures.cut c.in_ok-stage.ensures.standing (c.in_ok-stage.ensures.there c.new-arena.result)
-    (c.in_ok-rows.ensures s.cut.items (ap (λ (xs : List ℕ). length xs) c.in_ok-stage.ensures.cut ∙ c.requires.complete))
+    c.in_ok-stage.ensures.from
+    (subst (λ (cut : List ℕ). AreChosenBy c.args.chains.now.accepted c.args.tops.now 0 cut s.heads.items c.new-arena.result) (sym c.in_ok-stage.ensures.cut)
+    (chosen_first c.args.chains.now.accepted c.args.tops.now s.heads.items s.fell.items c.new-arena.result
+    (subst (λ (cut : List ℕ). IsStanding c.args.chains.now.accepted c.args.tops.now cut s.heads.items s.fell.items) c.in_ok-stage.ensures.cut c.in_ok-stage.ensures.standing)))
 
-same : (c : goal.After-drop-rows-then-is_empty) → c.loop-stage.stage.cut.items ≡ c.in_ok-next.next.cut.items
+same : (c : goal.After-drop-stage-then-is_empty-4) → c.loop-stage.stage.cut.items ≡ c.in_ok-next.next.cut.items
 same c =
     let fell = c.in_ok-next.next.fell in
     has_settled c.args.chains.now.accepted c.loop-stage.stage.cut.items c.in_ok-next.next.cut.items fell.items c.in_ok-next.ensures.ranks c.in_ok-next.ensures.fallen
@@ -20,7 +25,17 @@ same c =
 
 pub returns-then-is_empty-clause-rounds : goal.returns-then-is_empty-clause-rounds
 returns-then-is_empty-clause-rounds c =
-    subst (λ (cut : List ℕ). (t : ℕ) × (c.loop-stage.rounds ≡ t + 1) × RanksAfter c.args.chains.now.accepted c.args.tops.now t cut) (same c) c.loop-stage.invariant.rounds
+    let rounds = c.loop-stage.invariant.rounds in
+    let accepted = c.args.chains.now.accepted in
+    let tops = c.args.tops.now in
+    let s = c.loop-stage.stage in
+    let next = c.in_ok-next.next in (
+      rounds.0,
+      rounds.1,
+      subst (RanksAfter accepted tops rounds.0) (same c) rounds.2,
+      chosen_still accepted tops s.cut.items next.cut.items s.heads.items next.heads.items s.fell.items next.fell.items c.loop-stage.arena c.round.new.arena
+          c.loop-stage.invariant.standing c.in_ok-next.ensures.standing c.in_ok-next.ensures.ranks c.in_ok-next.ensures.chains rounds.0 (same c) rounds.3,
+    )
 
 pub returns-then-is_empty-clause-settled : goal.returns-then-is_empty-clause-settled
 returns-then-is_empty-clause-settled c =
@@ -29,7 +44,7 @@ returns-then-is_empty-clause-settled c =
 pub returns-then-is_empty-clause-few : goal.returns-then-is_empty-clause-few
 returns-then-is_empty-clause-few c = omega (arith, c.loop-stage.invariant.few)
 
-changed : (c : goal.After-drop-stage-in-loop-stage-3) → c.loop-stage.stage.cut.items ≢ c.in_ok-next.next.cut.items
+changed : (c : goal.After-drop-stage-in-loop-stage-4) → c.loop-stage.stage.cut.items ≢ c.in_ok-next.next.cut.items
 changed c =
     let fell = c.in_ok-next.next.fell in
     has_changed c.loop-stage.stage.cut.items c.in_ok-next.next.cut.items fell.items c.in_ok-next.ensures.fallen
@@ -50,6 +65,8 @@ pub loop-stage-preserved : goal.loop-stage-preserved
 loop-stage-preserved c =
     let s = c.loop-stage.stage in
     let next = c.in_ok-next.next in
-    running_more c.args.chains.now.accepted c.args.tops.now s.cut.items s.heads.items s.fell.items c.loop-stage.arena c.loop-stage.rows.items c.loop-stage.rounds c.loop-stage.invariant
-    next.cut.items next.heads.items next.fell.items c.round.new.arena c.round.new.rows.items
-    c.in_ok-next.ensures.ranks (changed c) c.in_ok-next.ensures.standing c.in_ok-next.ensures.grounded c.in_ok-next.ensures.there c.in_ok-next.ensures.bounds
+    running_more c.args.chains.now.accepted c.args.tops.now s.before.items s.cut.items s.heads.items s.fell.items c.loop-stage.arena c.loop-stage.rounds c.loop-stage.invariant
+    next.before.items next.cut.items next.heads.items next.fell.items c.round.new.arena
+    c.in_ok-next.ensures.ranks (changed c) c.in_ok-next.ensures.standing c.in_ok-next.ensures.grounded c.in_ok-next.ensures.there c.in_ok-next.ensures.from
+    (λ t chosen. chosen_more c.args.chains.now.accepted c.args.tops.now s.cut.items next.cut.items s.heads.items next.heads.items s.fell.items next.fell.items c.loop-stage.arena c.round.new.arena
+    c.loop-stage.invariant.standing c.in_ok-next.ensures.standing c.in_ok-next.ensures.ranks c.in_ok-next.ensures.chains t (changed c) chosen)

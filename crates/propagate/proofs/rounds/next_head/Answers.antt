@@ -1,10 +1,12 @@
-use Rattle.std.proofs.Common.{◌≡◌, ◌++◌, ◌∷◌, [], Some, List, get_or, refl, ap, sym, ◌∙◌, append_assoc, arith}
+use Rattle.std.proofs.Common.{ℕ, ◌≡◌, ◌≢◌, ◌<◌, inl, inr, ◌++◌, ◌∷◌, [], Some, List, length, get_or, refl, ap, sym, ◌∙◌, append_assoc, arith}
 use Rattle.std.specs.Prelude.{slice_index}
 use Rattle.std.proofs.lemmas.Result.{IfOk-weaker}
 use Rattle.std.proofs.lemmas.List.{append-nil, get_or_default}
 use Rattle.chains.specs.declared.position.Place.{Place}
+use Rattle.chains.specs.Positions.{place_at}
 use Rattle.knows_row.proofs.Lawful.{lawful}
 use Rattle.propagate.specs.Ranks.{IsCauseOf}
+use Rattle.propagate.proofs.Choosing.{BeginsAt, goes_on_at}
 use Rattle.propagate.proofs.Staging.{head_stays, head_starts, head_prolongs, added, added_there}
 use Rattle.propagate.proofs.rounds.next_head.Goals.{then-after-tops+in_ok-before, else-after-tops}
 use Rattle.propagate.proofs.rounds.next_head.Goals as goal
@@ -61,3 +63,49 @@ returns-clause-grounded c = IfOk-weaker c.prolong.result _ _ (λ head h.
           head_prolongs accepted tops cut heads fell arena p r s c.requires.process q chain (lawful accepted c.lawful.ensures.folded) c.requires.grounded cause (λ e. w.if-after-tops.false (after_is c ∙ e))
           (rw (there, c.place_at-place.ensures) refl)
     ])) c.prolong.ensures.ok
+
+pub returns-in_default-clause-chain : goal.returns-in_default-clause-chain
+returns-in_default-clause-chain c =
+    inl (
+      rw c.in_default.is at c.requires.cause,
+      λ below. ap (λ h. get_or c.args.arena.now h []) (c.index.ensures ∙ get_or_default c.args.stage.now.heads.items c.args.process c.index.result.now 0 (omega (arith, c.requires.process, c.requires.standing.headed))),
+    )
+
+-- what the new chain goes on from
+begins : (c : goal.After-prolong) → BeginsAt c.args.chains.now.accepted c.args.tops.now c.args.stage.now.cut.items c.args.stage.now.heads.items c.args.arena.now c.in-Some.cause (get_or c.if-after-tops.arena c.if-after-tops.before [])
+begins c =
+    let s = c.requires.standing in
+    let accepted = c.args.chains.now.accepted in
+    let tops = c.args.tops.now in
+    let cut = c.args.stage.now.cut.items in
+    let heads = c.args.stage.now.heads.items in
+    let arena = c.args.arena.now in
+    let q = c.in-Some.cause in
+    let cause : IsCauseOf accepted cut c.args.process c.args.low.now.rank (Some q) = rw c.in-Some.is at c.requires.cause in
+    let qin : q < length cut = cause.1 in
+    let surviving = s.surviving q qin in
+    elim c.if-after-tops.branch [
+      | then-after-tops+in_ok-before w ↦
+          inl (
+            sym (after_is c) ∙ w.if-after-tops.true,
+            rw w.before-is (added arena c.if-after-tops.arena (w.place_at.result ∷ []) w.in_ok-before.before w.in_ok-before.ensures.ok.0 (w.arena-is ∙ w.in_ok-before.ensures.ok.1))
+                ∙ ap (λ (x : Place). x ∷ []) w.place_at.ensures ∙ ap (λ (r : ℕ). place_at accepted q r ∷ []) (after_is c),
+          )
+      | else-after-tops w ↦
+          let differs : slice_index cut q ≢ slice_index tops q = λ e. w.if-after-tops.false (after_is c ∙ e) in
+          inr (
+            omega (arith, surviving, differs),
+            rw (w.before-is, w.arena-is) (rw (w.index-else-after-tops.ensures ∙ get_or_default heads q w.index-else-after-tops.result.now 0 (omega (arith, s.headed, qin))) refl),
+          )
+    ]
+
+pub returns-clause-chain : goal.returns-clause-chain
+returns-clause-chain c = IfOk-weaker c.prolong.result _ _ (λ head h.
+    let before = get_or c.if-after-tops.arena c.if-after-tops.before [] in
+    let new = before ++ c.place_at-place.result ∷ [] in
+    inr (
+      c.in-Some.cause,
+      rw c.in-Some.is at c.requires.cause,
+      goes_on_at c.args.chains.now.accepted c.args.tops.now c.args.stage.now.cut.items c.args.stage.now.heads.items c.args.arena.now c.args.process c.args.low.now.rank c.in-Some.cause
+          before (get_or c.prolong.new.self head []) c.place_at-place.result (begins c) (added c.if-after-tops.arena c.prolong.new.self new head h.0 h.1) c.place_at-place.ensures,
+    )) c.prolong.ensures.ok

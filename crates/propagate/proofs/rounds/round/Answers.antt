@@ -1,7 +1,9 @@
-use Rattle.std.proofs.Common.{◌≡◌, ◌<◌, ℕ, List, length, ap, ◌∙◌, arith}
+use Rattle.std.proofs.Common.{◌≡◌, ◌<◌, ◌++◌, List, [], length, ap, sym, ◌∙◌, append_assoc, append-nil, arith}
 use Rattle.std.proofs.lemmas.List.{get_or_default}
+use Rattle.chains.specs.declared.position.Place.{Place}
 use Rattle.propagate.specs.Ranks.{IsNextRank}
-use Rattle.propagate.proofs.Staging.{next_none, next_fallen, next_stays, next_ranks, next_fell, next_standing, bounds_first, bounds_more, bounds_all, row_taken, heads_none, heads_more, heads_there, heads_grounded, there_grown, grounded_grown}
+use Rattle.propagate.proofs.Staging.{next_none, next_fallen, next_stays, next_ranks, next_fell, next_standing, next_lowered, heads_none, heads_more, heads_there, heads_grounded, there_grown, grounded_grown}
+use Rattle.propagate.proofs.Choosing.{chains_more}
 use Rattle.propagate.proofs.rounds.round.Goals.{then-low-index+in_ok-push, else-low-index}
 use Rattle.propagate.proofs.rounds.round.Goals as goal
 
@@ -9,28 +11,11 @@ pub loop-process-init : goal.loop-process-init
 loop-process-init c = rw (c.in_ok-cut.ensures.items, c.in_ok-heads.ensures.items, c.new-fell.ensures.items) (record {
   ranks = next_none c.args.chains.now.accepted c.args.stage.now.cut.items;
   heads = heads_none c.args.chains.now.accepted c.args.tops.now c.args.stage.now.cut.items c.args.arena.now;
-  bounds = bounds_first c.args.chains.now.accepted c.args.stage.now.cut.items c.args.rows.now.items c.requires.bounds;
   grounded = c.requires.grounded;
   there = c.requires.there;
+  more = ([], sym (append-nil c.args.arena.now));
+  chains = λ p lt. absurd (omega (arith, lt));
 })
-
-pub index_mut-requires : goal.index_mut-requires
-index_mut-requires c = omega (arith, c.loop-process-test.true, c.count-process-end.ensures, c.requires.standing.complete, c.loop-process.rows.ok.0, c.loop-process.invariant.bounds.complete)
-
-pub lower-low-requires-clause-complete : goal.lower-low-requires-clause-complete
-lower-low-requires-clause-complete c =
-    let lt : c.loop-process.process < length c.args.stage.now.cut.items = omega (arith, c.loop-process-test.true, c.count-process-end.ensures, c.requires.standing.complete) in
-    rw (c.deref.ensures.value, row_taken c.loop-process.rows.items c.loop-process.process c.index_mut.result.now c.index_mut.ensures.value (omega (arith, lt, c.loop-process.invariant.bounds.complete)))
-    (c.loop-process.invariant.bounds.row c.loop-process.process lt)
-
-pub lower-low-requires-clause-clear : goal.lower-low-requires-clause-clear
-lower-low-requires-clause-clear c = rw (c.deref.ensures.value, c.deref-in-loop-process.ensures.value) c.requires.standing.clear
-
-pub lower-low-requires-clause-bounds : goal.lower-low-requires-clause-bounds
-lower-low-requires-clause-bounds c =
-    let lt : c.loop-process.process < length c.args.stage.now.cut.items = omega (arith, c.loop-process-test.true, c.count-process-end.ensures, c.requires.standing.complete) in
-    rw (c.deref.ensures.value, row_taken c.loop-process.rows.items c.loop-process.process c.index_mut.result.now c.index_mut.ensures.value (omega (arith, lt, c.loop-process.invariant.bounds.complete)))
-    (c.loop-process.invariant.bounds.after c.loop-process.process (omega arith) lt)
 
 pub next_head-requires-clause-grounded : goal.next_head-requires-clause-grounded
 next_head-requires-clause-grounded c = c.loop-process.invariant.grounded
@@ -46,9 +31,8 @@ loop-process-preserved c =
     let was = c.loop-process.invariant in
     let more = c.in_ok-head.ensures.more in
     let lt : i < length cut = omega (arith, c.loop-process-test.true, c.count-process-end.ensures, c.requires.standing.complete) in
-    let taken = row_taken c.loop-process.rows.items i c.index_mut.result.now c.index_mut.ensures.value (omega (arith, lt, was.bounds.complete)) in
     let here = c.index.ensures ∙ get_or_default cut i c.index.result.now 0 lt in
-    let rank : IsNextRank accepted cut i r = rw c.deref.ensures.value at c.lower-low.ensures.rank in
+    let rank : IsNextRank accepted cut i r = c.lower-low.ensures.rank in
     rw (c.in_ok-push-2.ensures.items, c.in_ok-push-3.ensures.items) (record {
       ranks = elim c.if-low-index.branch [
         | then-low-index+in_ok-push w ↦ rw (w.fell-is, w.in_ok-push.ensures.items) (next_fallen accepted cut i next c.loop-process.fell.items r was.ranks rank (omega (arith, w.if-low-index.true, here)))
@@ -56,14 +40,15 @@ loop-process-preserved c =
       ];
       heads = heads_more accepted tops cut i next c.loop-process.heads.items c.loop-process.arena more.0 c.next_head.new.arena r c.in_ok-head.head was.heads was.ranks.complete more.1
           c.in_ok-head.ensures.there c.in_ok-head.ensures.grounded;
-      bounds = bounds_more accepted cut i next c.loop-process.rows.items r c.lower-low.new.self was.bounds was.ranks.complete lt
-          (c.lower-low.ensures.complete ∙ ap (λ (xs : List ℕ). length xs) taken) c.lower-low.ensures.bounds;
       grounded = grounded_grown accepted tops cut c.args.stage.now.heads.items c.loop-process.arena more.0 c.next_head.new.arena more.1 c.requires.standing.headed was.there was.grounded;
       there = there_grown tops cut c.args.stage.now.heads.items c.loop-process.arena more.0 c.next_head.new.arena more.1 was.there;
+      more = (was.more.0 ++ more.0, more.1 ∙ ap (λ (xs : List (List Place)). xs ++ more.0) was.more.1 ∙ append_assoc c.args.arena.now was.more.0 more.0);
+      chains = chains_more accepted tops cut c.args.stage.now.heads.items c.args.arena.now c.requires.standing.surviving i next c.loop-process.heads.items c.loop-process.arena more.0 c.next_head.new.arena was.more.0
+          r c.in_ok-head.head lt was.ranks.complete was.heads.complete c.requires.there was.more.1 more.1 was.heads.there was.chains c.in_ok-head.ensures.chain;
     })
 
 -- all processes were looked at
-all_done : (c : goal.After-loop-process) → c.loop-process.process ≡ length c.args.stage.now.cut.items
+all_done : (c : goal.After-drop-thresholds-inside-2) → c.loop-process.process ≡ length c.args.stage.now.cut.items
 all_done c = omega (arith, c.loop-process-test.false, c.loop-process.auto.process-end, c.count-process-end.ensures, c.requires.standing.complete)
 
 pub returns-clause-ranks : goal.returns-clause-ranks
@@ -87,7 +72,8 @@ returns-clause-there c =
     heads_there c.args.chains.now.accepted c.args.tops.now c.args.stage.now.cut.items c.loop-process.process c.loop-process.cut.items c.loop-process.heads.items c.loop-process.arena
     c.loop-process.invariant.heads c.loop-process.invariant.ranks.complete
 
-pub returns-clause-bounds : goal.returns-clause-bounds
-returns-clause-bounds c =
-    bounds_all c.args.chains.now.accepted c.args.stage.now.cut.items c.loop-process.process c.loop-process.cut.items c.loop-process.rows.items
-    c.loop-process.invariant.bounds c.loop-process.invariant.ranks.complete (all_done c)
+pub returns-clause-from : goal.returns-clause-from
+returns-clause-from c = rw (c.in_ok-before.ensures.items, c.deref-4.ensures.value) (next_lowered c.args.chains.now.accepted c.args.stage.now.cut.items c.loop-process.cut.items (returns-clause-ranks c))
+
+pub returns-clause-chains : goal.returns-clause-chains
+returns-clause-chains c = λ p lt. c.loop-process.invariant.chains p (omega (arith, lt, c.loop-process.invariant.ranks.complete))

@@ -1,14 +1,16 @@
 -- What a crash may leave, over the accepted list.
 use Rattle.std.proofs.Common.{◌≡◌, inl, inr, ℕ, List, [], ◌∷◌, ◌++◌, map, refl, sym, subst}
-use Rattle.line_disk.specs.Disk.{View, LeavesAlways}
+use Rattle.line_disk.specs.Disk.{View, Leaves, LeavesAlways}
 use Rattle.record_file.specs.File.{Stands}
 use Rattle.record_file.specs.Resting.{IsBeforeOrAfter}
+use Rattle.record_file.specs.Staging.{WasStaged}
 use Rattle.report_line.specs.declared.report.Report.{Report}
-use Rattle.report_line.specs.declared.reply.Outcome.TheVariants.{Unknown}
+use Rattle.report_line.specs.declared.reply.Outcome.TheVariants.{Before, Unknown}
 use Rattle.report_line.specs.declared.reply.Reply.{Reply}
-use Rattle.report_line.specs.declared.reply.Reply.TheVariants.{Fail}
+use Rattle.report_line.specs.declared.reply.Reply.TheVariants.{Accepted, Fail}
 use Rattle.desk.specs.Files.{line_of, StandsFor}
 use Rattle.desk.specs.Parts.{StandsWith, MayBeLeft}
+use Rattle.desk.specs.Placed.{IsUnderWay, IsPlaced}
 use Rattle.desk.proofs.Spelled.{lines_more}
 
 pub always_weaker : (P Q : List ℕ → Type 0) (a b : View) → ((c : List ℕ) → P c → Q c) → LeavesAlways P a b → LeavesAlways Q a b
@@ -36,3 +38,19 @@ module _ (accepted : List Report) (r : Report) (line : List ℕ) (is : line ≡ 
   pub done_with : (after : List Report) (reply : Reply) → after ≡ accepted ++ r ∷ [] → (c : List ℕ) → Stands (map line_of accepted ++ line ∷ []) c → MayBeLeft reply after r c
   done_with after reply same c stands =
       inl (subst (λ (a : List Report). StandsFor a c) (sym same) (subst (λ (ls : List (List ℕ)). Stands ls c) (lines_more accepted r line is) stands))
+
+  -- how far the record came, told of the report
+  pub under_way : (a b : View) → WasStaged (map line_of accepted) line a b → IsUnderWay accepted r a b
+  under_way a b was = subst (λ (l : List ℕ). WasStaged (map line_of accepted) l a b) is was
+
+  pub placed_done : (a b : View) (reply : Reply) (front : ℕ) → reply ≡ Accepted front → WasStaged (map line_of accepted) line a b
+      → ((c : List ℕ) → Leaves b c → Stands (map line_of accepted ++ line ∷ []) c) → IsPlaced reply accepted r a b
+  placed_done a b reply front same was stands =
+      subst (λ (x : Reply). IsPlaced x accepted r a b) (sym same)
+      (under_way a b was, λ c left. subst (λ (ls : List (List ℕ)). Stands ls c) (lines_more accepted r line is) (stands c left))
+
+  pub placed_unknown : (a b : View) (reply : Reply) → reply ≡ Fail Unknown → WasStaged (map line_of accepted) line a b → IsPlaced reply accepted r a b
+  placed_unknown a b reply same was = subst (λ (x : Reply). IsPlaced x accepted r a b) (sym same) (under_way a b was)
+
+pub placed_before : (accepted : List Report) (r : Report) (a b : View) (reply : Reply) → reply ≡ Fail Before → LeavesAlways (StandsFor accepted) a b → IsPlaced reply accepted r a b
+placed_before accepted r a b reply same always = subst (λ (x : Reply). IsPlaced x accepted r a b) (sym same) always

@@ -19,6 +19,7 @@ use Rattle.desk.specs.Desks.{DeskState}
 use Rattle.desk.specs.Lawful.{IsLawful, turn_limit}
 use Rattle.desk.specs.Files.{AreSpelled, StandsFor, IsPending, MayFollow, MayStandFor, StandsWhile}
 use Rattle.desk.specs.Parts.{held_with, StandsBy, MayBeLeftBy}
+use Rattle.desk.specs.Placed.{IsPlacedBy}
 use Rattle.desk.specs.Replays.{ReplaysFrom, Replays}
 use Rattle.desk.specs.declared.turn.Turn.{Turn}
 use Rattle.chains.proofs.Unfailing.{stays_stopped}
@@ -29,6 +30,9 @@ use Rattle.desk.proofs.Deciding.{unknown_follows}
 
 pub step_same : (held after : Held) (call : Call) (x y : Reply) → x ≡ y → IsTurn held call x after → IsTurn held call y after
 step_same held after call x y same step = subst (λ (z : Reply). IsTurn held call z after) same step
+
+pub placed_same : (accepted : List Report) (call : Call) (a b : View) (x y : Reply) → x ≡ y → IsPlacedBy x accepted call a b → IsPlacedBy y accepted call a b
+placed_same accepted call a b x y same placed = subst (λ (z : Reply). IsPlacedBy z accepted call a b) same placed
 
 pub replays_more : (made : ℕ) (from middle after : Held) (turns : List Turn) (t : Turn) → ReplaysFrom made from turns middle → t.receipt.turn ≡ (made + length turns) + 1
     → IsTurn middle t.call t.receipt.reply after → ReplaysFrom made from (turns ++ t ∷ []) after

@@ -1,6 +1,7 @@
 pub mod Replays
 pub mod Desks
 pub mod Files
+pub mod Placed
 pub mod Lawful
 pub mod Openings
 pub mod OneList

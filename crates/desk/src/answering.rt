@@ -13,6 +13,7 @@ ghost use Rattle.chains.specs.Processes.{IsKnown};
 ghost use Rattle.chains.specs.Turns.{fine, IsGarbageReply, IsLineReply, IsStateReply, IsQuestionTurn, IsTurn};
 ghost use Rattle.desk.specs.Files.{line_of, AreSpelled, IsShort, MayWantMemory, UsesDevice, CountsReply};
 ghost use Rattle.desk.specs.Parts.{held_with, StandsBy, MayBeLeftBy};
+ghost use Rattle.desk.specs.Placed.{IsPlacedBy};
 
 use crate::placing::report_placed;
 use crate::turn::TurnFault;
@@ -71,6 +72,7 @@ pub(crate) fn answered<D: Disk>(
     ensures rest { is_stopped store.new ≡ false → D.keeps (disk_of store.old) → HasLines D.view store.new (map line_of chains.new.accepted) }
     ensures left { is_stopped store.old ≡ false → D.keeps (disk_of store.old) → (c : List ℕ) → Leaves (D.view (disk_of store.new)) c
         → IfOk result (λ reply. MayBeLeftBy reply chains.new.accepted call.now c) }
+    ensures placed { D.keeps (disk_of store.old) → IfOk result (λ reply. IsPlacedBy reply chains.old.accepted call.now (D.view (disk_of store.old)) (D.view (disk_of store.new))) }
     ensures any_moment { is_stopped store.old ≡ false → D.keeps (disk_of store.old)
         → LeavesAlways (StandsBy chains.old.accepted call.now) (D.view (disk_of store.old)) (D.view (disk_of store.new)) }
     ensures unmoved { IfOk result (λ reply. ¬ UsesDevice reply → store.new ≡ store.old) }

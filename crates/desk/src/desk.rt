@@ -95,6 +95,7 @@ impl<D: Disk> Desk<D> {
     ghost use Rattle.desk.specs.Files.{StandsFor, MayStandFor, StandsWhile, IsShort, MayWantMemory, UsesDevice, CountsReply};
     ghost use Rattle.desk.specs.Lawful.{IsLawful};
     ghost use Rattle.desk.specs.OfHistories.{IsTurnOfHistories, AreTurnsOfHistories};
+    ghost use Rattle.desk.specs.Placed.{IsPlacedBy};
     ghost use Rattle.desk.specs.Openings.{RefusesFile, CountsDeskFault, LeavesFile, IsNotOfTheFile, IsReopened};
 
     /// Opens the record file on a disk, and admits its records in order. It takes the memory for all turns. A fault hands the
@@ -242,6 +243,8 @@ impl<D: Disk> Desk<D> {
         ensures any_moment { D.keeps self.old.disk → LeavesAlways (StandsWhile self.old.held.accepted self.old.turns call) (D.view self.old.disk) (D.view self.new.disk) }
         ensures before { IfOk result (λ receipt. receipt.reply ≡ Fail outcomes.Before → D.keeps self.old.disk
             → (c : List ℕ) → Leaves (D.view self.new.disk) c → StandsFor self.old.held.accepted c) }
+        // That the report's own line was written, and how far it came where the device failed.
+        ensures placed { D.keeps self.old.disk → IfOk result (λ receipt. IsPlacedBy receipt.reply self.old.held.accepted call (D.view self.old.disk) (D.view self.new.disk)) }
 
         // No other reply comes of a call of the device, and a stopped store makes none.
         ensures unmoved { IfOk result (λ receipt. ¬ UsesDevice receipt.reply → self.new.disk ≡ self.old.disk) }

@@ -12,6 +12,7 @@ ghost use Rattle.chains.specs.Answers.{Prepares, IsReady, MayBeAccepted};
 ghost use Rattle.chains.specs.Turns.{Fate, IsReportTurn, IsReported};
 ghost use Rattle.desk.specs.Files.{line_of, AreSpelled, UsesDevice, CountsReply};
 ghost use Rattle.desk.specs.Parts.{held_with, StandsWith, MayBeLeft};
+ghost use Rattle.desk.specs.Placed.{IsPlaced};
 
 use crate::twice::{Twice, accepted, failed, old, refused, refused_by};
 use chains::{Chains, No, Prepared, Ready};
@@ -31,6 +32,7 @@ fn append<D: Disk>(chains: &mut Chains, store: &mut Store<D>, ready: Ready) -> T
     ensures rest { is_stopped store.new ≡ false → D.keeps (disk_of store.old) → HasLines D.view store.new (map line_of chains.new.accepted) }
     ensures left { D.keeps (disk_of store.old) → (c : List ℕ) → Leaves (D.view (disk_of store.new)) c
         → MayBeLeft result chains.new.accepted ready.report c }
+    ensures placed { D.keeps (disk_of store.old) → IsPlaced result chains.old.accepted ready.report (D.view (disk_of store.old)) (D.view (disk_of store.new)) }
     ensures any_moment { D.keeps (disk_of store.old) → LeavesAlways (StandsWith chains.old.accepted ready.report) (D.view (disk_of store.old)) (D.view (disk_of store.new)) }
     ensures unmoved { ¬ UsesDevice result → store.new ≡ store.old }
     ensures cause { CountsReply result (D.failed (disk_of store.old)) (D.failed (disk_of store.new)) }
@@ -69,6 +71,7 @@ fn place<D: Disk>(
     ensures rest { is_stopped store.new ≡ false → D.keeps (disk_of store.old) → HasLines D.view store.new (map line_of chains.new.accepted) }
     ensures left { D.keeps (disk_of store.old) → (c : List ℕ) → Leaves (D.view (disk_of store.new)) c
         → MayBeLeft result chains.new.accepted report.now c }
+    ensures placed { D.keeps (disk_of store.old) → IsPlaced result chains.old.accepted report.now (D.view (disk_of store.old)) (D.view (disk_of store.new)) }
     ensures any_moment { D.keeps (disk_of store.old) → LeavesAlways (StandsWith chains.old.accepted report.now) (D.view (disk_of store.old)) (D.view (disk_of store.new)) }
     ensures unmoved { ¬ UsesDevice result → store.new ≡ store.old }
     ensures cause { CountsReply result (D.failed (disk_of store.old)) (D.failed (disk_of store.new)) }
@@ -107,6 +110,7 @@ fn reported<D: Disk>(
     ensures rest { is_stopped store.new ≡ false → D.keeps (disk_of store.old) → HasLines D.view store.new (map line_of chains.new.accepted) }
     ensures left { D.keeps (disk_of store.old) → (c : List ℕ) → Leaves (D.view (disk_of store.new)) c
         → MayBeLeft result chains.new.accepted report.now c }
+    ensures placed { D.keeps (disk_of store.old) → IsPlaced result chains.old.accepted report.now (D.view (disk_of store.old)) (D.view (disk_of store.new)) }
     ensures any_moment { D.keeps (disk_of store.old) → LeavesAlways (StandsWith chains.old.accepted report.now) (D.view (disk_of store.old)) (D.view (disk_of store.new)) }
     ensures unmoved { ¬ UsesDevice result → store.new ≡ store.old }
     ensures cause { CountsReply result (D.failed (disk_of store.old)) (D.failed (disk_of store.new)) }
@@ -132,6 +136,7 @@ pub(crate) fn report_placed<D: Disk>(
     ensures rest { is_stopped store.new ≡ false → D.keeps (disk_of store.old) → HasLines D.view store.new (map line_of chains.new.accepted) }
     ensures left { is_stopped store.old ≡ false → D.keeps (disk_of store.old) → (c : List ℕ) → Leaves (D.view (disk_of store.new)) c
         → MayBeLeft result chains.new.accepted report.now c }
+    ensures placed { D.keeps (disk_of store.old) → IsPlaced result chains.old.accepted report.now (D.view (disk_of store.old)) (D.view (disk_of store.new)) }
     ensures any_moment { is_stopped store.old ≡ false → D.keeps (disk_of store.old)
         → LeavesAlways (StandsWith chains.old.accepted report.now) (D.view (disk_of store.old)) (D.view (disk_of store.new)) }
     ensures unmoved { ¬ UsesDevice result → store.new ≡ store.old }

@@ -53,6 +53,22 @@ pub record Passes (step : List ℕ → List ℕ → Type 0) (old new : View) : T
 abbrev pub Rests : View → View → Type 0
 Rests old new = Passes (λ d c. c ≡ d) old new × (new.seen ≡ old.seen)
 
+-- a call that did nothing: what a read gives and what a crash could leave is as it was
+abbrev pub DidNothing : View → View → Type 0
+DidNothing old new = (new.seen ≡ old.seen) × ((c : List ℕ) → Leaves new c ↔ Leaves old c)
+
+-- a whole write: a crash could leave just what it could leave before, with the written range and what is past the end torn
+abbrev pub DidWrite : ℕ → List ℕ → View → View → Type 0
+DidWrite at bytes old new = (new.seen ≡ written old.seen at bytes) × ((c : List ℕ) → Leaves new c ↔ ((d : List ℕ) × Leaves old d × IsTorn at (length bytes) d c))
+
+-- a whole cut
+abbrev pub DidCut : ℕ → View → View → Type 0
+DidCut n old new = (new.seen ≡ take n old.seen) × ((c : List ℕ) → Leaves new c ↔ ((d : List ℕ) × Leaves old d × IsShortened n d c))
+
+-- a whole sync
+abbrev pub DidSync : View → View → Type 0
+DidSync old new = (new.seen ≡ old.seen) × LeavesOnly new old.seen
+
 -- the count of failures after one more; it stays at its limit
 abbrev pub one_more : ℕ → ℕ
 one_more count = min (count + 1) (2 ^ 64 - 1)

@@ -10,3 +10,4 @@ pub mod Noting
 pub mod Tape
 pub mod ReadIsLeft
 pub mod FileReadIsLeft
+pub mod Null

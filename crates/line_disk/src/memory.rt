@@ -1,7 +1,7 @@
 //! A disk in memory.
 
-ghost use Rattle.std.specs.Prelude.{IsSome, Some, ◌≡◌, ◌↔◌, ◌⊎◌, ◌+◌, ◌^◌, ◌<◌, ◌≤◌, ◌++◌, [], ◌∷◌, ℕ, List, length, take, drop, min, IfOk, OnOk, OnErr};
-ghost use Rattle.line_disk.specs.Disk.{Counts, CountsDevice, LeavesOnly, IsTorn, IsShortened, Passes, Rests, written, one_more};
+ghost use Rattle.std.specs.Prelude.{IsSome, Some, None, Ok, ◌≡◌, ◌≢◌, ◌-◌, ◌↔◌, ◌⊎◌, ◌+◌, ◌^◌, ◌<◌, ◌≤◌, ◌++◌, [], ◌∷◌, ℕ, List, length, take, drop, min, IfOk, OnOk, OnErr};
+ghost use Rattle.line_disk.specs.Disk.{Counts, CountsDevice, LeavesOnly, IsTorn, IsShortened, Passes, Rests, written, DidNothing, DidWrite, DidCut, DidSync, one_more};
 
 use crate::fault::device_failed;
 use crate::image::image_of;
@@ -49,7 +49,9 @@ impl MemoryDisk {
     pub fn fail_call(&mut self, k: usize, effect: Effect) -> Result<(), AllocError>
         ensures ok { OnOk result (plan_of self.new ≡ plan_of self.old ++ record { call = k; effect = effect } ∷ []) }
         ensures err { OnErr result (plan_of self.new ≡ plan_of self.old) }
+        ensures no_call { (disk_view self.new).clock ≡ (disk_view self.old).clock }
         ensures rests { Rests (disk_view self.old) (disk_view self.new) }
+        ensures nothing { DidNothing (disk_view self.old) (disk_view self.new) }
         ensures failures { disk_failures self.new ≡ disk_failures self.old }
     {
         self.failing.push(Planned { call: k, effect })?;
@@ -87,8 +89,8 @@ impl MemoryDisk {
     }
 }
 
-// The clauses of the trait once more, without its premise, which is always met here; that a call which is planned to fail does; and
-// that each call is noted, also where it fails.
+// The clauses of the trait once more, without its premise, which is always met here; that a call which is planned to fail does, and
+// has done nothing or the whole; and that each call is noted, also where it fails.
 impl Disk for MemoryDisk {
     ghost use Rattle.line_disk.specs.ReadIsLeft.{left_now};
     ghost use Rattle.line_disk.specs.Noting.{calls_in};
@@ -112,6 +114,8 @@ impl Disk for MemoryDisk {
         ensures premise { Unit {0} ↔ Unit {0} }
         ensures cause { CountsDevice result (disk_failures self.old) (disk_failures self.new) }
         ensures planned { IsSome (planned_next self.old) → result ≡ Err DiskFault.Device }
+        ensures unplanned { planned_next self.old ≡ None → (disk_view self.old).clock < 2 ^ 64 - 1 → result ≡ Ok (length (disk_view self.old).seen) }
+        ensures nothing { DidNothing (disk_view self.old) (disk_view self.new) }
         ensures noted { (disk_view self.new).clock ≡ one_more (disk_view self.old).clock }
     {
         let effect = self.next_effect();
@@ -129,6 +133,8 @@ impl Disk for MemoryDisk {
         ensures premise { Unit {0} ↔ Unit {0} }
         ensures cause { Counts result (disk_failures self.old) (disk_failures self.new) }
         ensures planned { IsSome (planned_next self.old) → result ≡ Err DiskFault.Device }
+        ensures unplanned { planned_next self.old ≡ None → (disk_view self.old).clock < 2 ^ 64 - 1 → result ≢ Err DiskFault.Device }
+        ensures nothing { DidNothing (disk_view self.old) (disk_view self.new) }
         ensures noted { (disk_view self.new).clock ≡ one_more (disk_view self.old).clock }
     {
         let effect = self.next_effect();
@@ -146,8 +152,9 @@ impl Disk for MemoryDisk {
         ensures premise { Unit {0} ↔ Unit {0} }
         ensures cause { CountsDevice result (disk_failures self.old) (disk_failures self.new) }
         ensures planned { IsSome (planned_next self.old) → result ≡ Err DiskFault.Device }
-        ensures nothing { planned_next self.old ≡ Some Effect.Nothing → Rests (disk_view self.old) (disk_view self.new) }
-        ensures whole { ((disk_view self.new).seen ≡ written (disk_view self.old).seen at bytes.now) ⊎ Rests (disk_view self.old) (disk_view self.new) }
+        ensures nothing { planned_next self.old ≡ Some Effect.Nothing → DidNothing (disk_view self.old) (disk_view self.new) }
+        ensures done { OnOk result (DidWrite at bytes.now (disk_view self.old) (disk_view self.new)) }
+        ensures whole { DidWrite at bytes.now (disk_view self.old) (disk_view self.new) ⊎ DidNothing (disk_view self.old) (disk_view self.new) }
         ensures noted { (disk_view self.new).clock ≡ one_more (disk_view self.old).clock }
     {
         let effect = self.next_effect();
@@ -167,8 +174,9 @@ impl Disk for MemoryDisk {
         ensures premise { Unit {0} ↔ Unit {0} }
         ensures cause { CountsDevice result (disk_failures self.old) (disk_failures self.new) }
         ensures planned { IsSome (planned_next self.old) → result ≡ Err DiskFault.Device }
-        ensures nothing { planned_next self.old ≡ Some Effect.Nothing → Rests (disk_view self.old) (disk_view self.new) }
-        ensures whole { ((disk_view self.new).seen ≡ take len (disk_view self.old).seen) ⊎ Rests (disk_view self.old) (disk_view self.new) }
+        ensures nothing { planned_next self.old ≡ Some Effect.Nothing → DidNothing (disk_view self.old) (disk_view self.new) }
+        ensures done { OnOk result (DidCut len (disk_view self.old) (disk_view self.new)) }
+        ensures whole { DidCut len (disk_view self.old) (disk_view self.new) ⊎ DidNothing (disk_view self.old) (disk_view self.new) }
         ensures noted { (disk_view self.new).clock ≡ one_more (disk_view self.old).clock }
     {
         let effect = self.next_effect();
@@ -188,6 +196,8 @@ impl Disk for MemoryDisk {
         ensures premise { Unit {0} ↔ Unit {0} }
         ensures cause { CountsDevice result (disk_failures self.old) (disk_failures self.new) }
         ensures planned { IsSome (planned_next self.old) → result ≡ Err DiskFault.Device }
+        ensures nothing { planned_next self.old ≡ Some Effect.Nothing → DidNothing (disk_view self.old) (disk_view self.new) }
+        ensures whole { DidSync (disk_view self.old) (disk_view self.new) ⊎ DidNothing (disk_view self.old) (disk_view self.new) }
         ensures noted { (disk_view self.new).clock ≡ one_more (disk_view self.old).clock }
     {
         let effect = self.next_effect();

@@ -1,8 +1,8 @@
 //! What a disk in memory held at first, what it holds, and the calls between.
 
-ghost use Rattle.std.specs.Prelude.{◌≡◌, ◌+◌, ◌^◌, ◌<◌, ◌≤◌, length, take};
+ghost use Rattle.std.specs.Prelude.{◌≡◌, ◌+◌, ◌-◌, ◌^◌, ◌<◌, ◌≤◌, IsTrue, length, take};
 ghost use Rattle.std.specs.Bool.{OnTrue, OnFalse};
-ghost use Rattle.line_disk.specs.Disk.{LeavesOnly, IsTorn, IsShortened, Passes, Rests, written, one_more};
+ghost use Rattle.line_disk.specs.Disk.{LeavesOnly, IsTorn, IsShortened, Passes, Rests, written, DidNothing, DidWrite, DidCut, DidSync, one_more};
 ghost use Rattle.line_disk.specs.Noting.{calls_in};
 ghost use Rattle.line_disk.specs.Replay.{after_calls};
 
@@ -34,8 +34,10 @@ impl Tape {
     /// A call that does nothing.
     pub fn idle(&mut self) -> bool
         ensures rests { Rests (view_of self.old) (view_of self.new) }
+        ensures nothing { DidNothing (view_of self.old) (view_of self.new) }
         ensures bytes { tape_bytes self.new ≡ tape_bytes self.old }
         ensures noted { (view_of self.new).clock ≡ one_more (view_of self.old).clock }
+        ensures room { (view_of self.old).clock < 2 ^ 64 - 1 → IsTrue result }
     {
         if self.count == usize::MAX {
             return false;
@@ -50,7 +52,8 @@ impl Tape {
         requires { at ≤ length (view_of self.old).seen }
         ensures written { OnTrue result ((view_of self.new).seen ≡ written (view_of self.old).seen at bytes.now) }
         ensures crash { Passes (IsTorn at (length bytes.now)) (view_of self.old) (view_of self.new) }
-        ensures not_done { OnFalse result (Rests (view_of self.old) (view_of self.new)) }
+        ensures done { OnTrue result (DidWrite at bytes.now (view_of self.old) (view_of self.new)) }
+        ensures not_done { OnFalse result (DidNothing (view_of self.old) (view_of self.new)) }
         ensures fits { OnTrue result (at + length bytes.now < 2 ^ 64) }
         ensures noted { (view_of self.new).clock ≡ one_more (view_of self.old).clock }
     {
@@ -77,7 +80,8 @@ impl Tape {
     pub fn cut(&mut self, len: usize) -> bool
         ensures cut { OnTrue result ((view_of self.new).seen ≡ take len (view_of self.old).seen) }
         ensures crash { Passes (IsShortened len) (view_of self.old) (view_of self.new) }
-        ensures not_done { OnFalse result (Rests (view_of self.old) (view_of self.new)) }
+        ensures done { OnTrue result (DidCut len (view_of self.old) (view_of self.new)) }
+        ensures not_done { OnFalse result (DidNothing (view_of self.old) (view_of self.new)) }
         ensures noted { (view_of self.new).clock ≡ one_more (view_of self.old).clock }
     {
         if self.count == usize::MAX || self.changes.reserve(1).is_err() {
@@ -95,8 +99,9 @@ impl Tape {
 
     /// Makes what was written last.
     pub fn sync(&mut self) -> bool
-        ensures durable { OnTrue result (LeavesOnly (view_of self.new) (view_of self.old).seen) }
         ensures rests { Rests (view_of self.old) (view_of self.new) }
+        ensures done { OnTrue result (DidSync (view_of self.old) (view_of self.new)) }
+        ensures not_done { OnFalse result (DidNothing (view_of self.old) (view_of self.new)) }
         ensures noted { (view_of self.new).clock ≡ one_more (view_of self.old).clock }
     {
         if self.count == usize::MAX || self.changes.reserve(1).is_err() {

@@ -1,6 +1,7 @@
 pub mod File
 pub mod Kinds
 pub mod Resting
+pub mod Staging
 pub mod Append
 pub mod Opening
 pub mod Store

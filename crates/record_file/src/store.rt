@@ -44,7 +44,7 @@ pub struct Store<D: Disk> {
 }
 
 impl<D: Disk> Store<D> {
-    ghost use Rattle.record_file.specs.Append.{LeavesAfter, CountsAppend, OnDone};
+    ghost use Rattle.record_file.specs.Append.{LeavesAfter, CameAsFar, CountsAppend, OnDone};
     ghost use Rattle.record_file.specs.Opening.{IsSynced, LeavesRefused};
     ghost use Rattle.record_file.specs.Store.{disk_of, found_lines, is_stopped, HasLines};
 
@@ -123,6 +123,10 @@ impl<D: Disk> Store<D> {
             → LeavesAlways (IsBeforeOrAfter lines line.now) (D.view (disk_of self.old)) (D.view (disk_of self.new)) }
         ensures after { (lines : List (List ℕ)) → D.keeps (disk_of self.old) → HasLines D.view self.old lines
             → (c : List ℕ) → Leaves (D.view (disk_of self.new)) c → LeavesAfter result lines line.now c }
+
+        // Whether the gate was written tells Before and Unknown apart.
+        ensures so_far { (lines : List (List ℕ)) → D.keeps (disk_of self.old) → HasLines D.view self.old lines
+            → CameAsFar result lines line.now (D.view (disk_of self.old)) (D.view (disk_of self.new)) }
 
         // A stopped store makes no call of the device, and no other answer comes from one.
         ensures stopped { (result ≡ Appended.Stopped) ↔ (is_stopped self.old ≡ true) }

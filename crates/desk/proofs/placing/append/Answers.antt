@@ -3,7 +3,7 @@ use Rattle.chains.specs.Held.{Held, held_of}
 use Rattle.desk.specs.Files.{line_of, AreSpelled}
 use Rattle.desk.proofs.Spelled.{some_line, spelled_more}
 use Rattle.desk.proofs.Numbers.{written}
-use Rattle.desk.proofs.Crashes.{always_with, left_with, done_with}
+use Rattle.desk.proofs.Crashes.{always_with, left_with, done_with, placed_done, placed_before, placed_unknown}
 use Rattle.desk.proofs.placing.append.Goals as goal
 
 pub append-requires-clause-some : goal.append-requires-clause-some
@@ -40,3 +40,17 @@ returns-in-Done-clause-spelled g c = λ before.
 pub returns-in-Unknown-clause-pending : goal.returns-in-Unknown-clause-pending
 returns-in-Unknown-clause-pending g c = λ unknown.
     written (held_of c.args.chains.now) c.args.ready.report c.report.result.now c.report.ensures c.requires.ready.admitted c.known.ensures
+
+pub returns-in-Done-clause-placed : goal.returns-in-Done-clause-placed
+returns-in-Done-clause-placed g c = λ keeps.
+    placed_done _ _ c.deref.result.now (c.deref.ensures.value ∙ c.in-Ok.ensures ∙ ap line_of c.report-2.ensures) _ _ _ _ c.accepted.ensures
+    (c.in-Done.ensures.so_far _ keeps (c.requires.rest keeps)) (c.in-Done.ensures.after _ keeps (c.requires.rest keeps))
+
+pub returns-in-Before-clause-placed : goal.returns-in-Before-clause-placed
+returns-in-Before-clause-placed g c = λ keeps.
+    placed_before _ c.args.ready.report _ _ _ c.failed.ensures (c.in-Before.ensures.so_far _ keeps (c.requires.rest keeps))
+
+pub returns-in-Unknown-clause-placed : goal.returns-in-Unknown-clause-placed
+returns-in-Unknown-clause-placed g c = λ keeps.
+    placed_unknown _ _ c.deref.result.now (c.deref.ensures.value ∙ c.in-Ok.ensures ∙ ap line_of c.report-2.ensures) _ _ _ c.failed-in-Unknown.ensures
+    (c.in-Unknown.ensures.so_far _ keeps (c.requires.rest keeps))

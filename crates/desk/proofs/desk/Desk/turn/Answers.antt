@@ -4,7 +4,7 @@ use Rattle.report_line.specs.declared.reply.Reply.{Reply}
 use Rattle.desk.specs.Parts.{MayBeLeftBy}
 use Rattle.desk.specs.declared.turn.Turn.{Turn}
 use Rattle.desk.proofs.Deciding.{stopped_only, before_left}
-use Rattle.desk.proofs.Turning.{step_same, always_still, always_by, lawful_more}
+use Rattle.desk.proofs.Turning.{step_same, placed_same, always_still, always_by, lawful_more}
 use Rattle.desk.proofs.LawfulTurns.{turn_of_histories}
 use Rattle.desk.proofs.desk.Desk.turn.Goals as goal
 
@@ -44,6 +44,10 @@ pub returns-clause-before : goal.returns-clause-before
 returns-clause-before g c =
     rw (← c.self.view_is) (λ says keeps file left.
     before_left _ _ c.args.call _ file (sym c.into_parts-given.ensures.first ∙ says) c.in_ok-answered.ensures.turn (λ runs. c.in_ok-answered.ensures.left runs keeps file left))
+
+pub returns-clause-placed : goal.returns-clause-placed
+returns-clause-placed g c =
+    rw (← c.self.view_is) (λ keeps. placed_same _ c.args.call _ _ _ _ (sym c.into_parts-given.ensures.first) (c.in_ok-answered.ensures.placed keeps))
 
 pub returns-clause-of_histories : goal.returns-clause-of_histories
 returns-clause-of_histories g c =

@@ -2,7 +2,7 @@ use Rattle.std.proofs.Common.{◌≡◌, [], ◌∷◌, ◌++◌, List, ℕ, ap,
 use Rattle.line_disk.specs.Disk.{written}
 use Rattle.line_disk.specs.declared.change.Change.TheVariants.{Write}
 use Rattle.line_disk.proofs.NotedCalls.{noted, one_change, one_change_counted}
-use Rattle.line_disk.proofs.Pushes.{after_write, write_seen, on_ok}
+use Rattle.line_disk.proofs.Pushes.{after_write, did_write, write_seen, on_ok}
 use Rattle.line_disk.proofs.tape.Tape.write.Goals as goal
 
 pub invariant_of-self-2 : goal.invariant_of-self-2
@@ -30,3 +30,12 @@ returns-clause-crash c =
     c.push_reserved.ensures.items ∙ ap (λ (l : List _). l ++ noted self.idle change ∷ []) c.reserve.ensures.items in
     let copied : c.in-Ok.copy.items ≡ c.args.bytes.now = search rules in
     after_write self.first.items _ _ c.args.at c.args.bytes.now c.in-Ok.copy.items copied (one_change self.changes.items c.push_reserved.new.self.items self.idle change pushed)
+
+pub returns-clause-done : goal.returns-clause-done
+returns-clause-done c =
+    let self = c.args.self.now in
+    let change = Write c.args.at c.in-Ok.copy in
+    let pushed : c.push_reserved.new.self.items ≡ self.changes.items ++ noted self.idle change ∷ [] =
+    c.push_reserved.ensures.items ∙ ap (λ (l : List _). l ++ noted self.idle change ∷ []) c.reserve.ensures.items in
+    let copied : c.in-Ok.copy.items ≡ c.args.bytes.now = search rules in
+    did_write self.first.items _ _ c.args.at c.args.bytes.now c.in-Ok.copy.items copied c.requires (one_change self.changes.items c.push_reserved.new.self.items self.idle change pushed)

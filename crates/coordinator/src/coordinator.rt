@@ -105,6 +105,11 @@ impl<L: Ledger, D: Disk> Coordinator<L, D> {
         })
     }
 
+    /// The allocator of what it makes.
+    pub fn alloc(&self) -> Global {
+        self.alloc
+    }
+
     /// The next pass: 8,192 are handed out at most.
     pub fn pass<R: Wait>(&self, rt: &R) -> Result<Pass<L>, PassFault>
         ensures { IfOk result IsNewPass }

@@ -31,7 +31,7 @@ impl Gate for HeldGate {
 }
 
 /// Waits until the number is not 0, or for ten million turns.
-fn wait_for(word: &AtomicU64) -> bool {
+pub(crate) fn wait_for(word: &AtomicU64) -> bool {
     for _ in 0..10_000_000u64 {
         if word.load(Ordering::SeqCst) != 0 {
             return true;

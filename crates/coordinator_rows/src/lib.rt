@@ -1,5 +1,5 @@
-//! Tests of coordinators over disks in memory: passes that are missing at the end, passes and turns that wear out, and a line
-//! that is computed while another thread makes its turn. They stand here and not in the crate, since a crate with tests is proved
+//! Tests of coordinators over disks in memory: passes that are missing at the end, passes and turns that wear out, a line
+//! that is computed while another thread makes its turn, and two sessions at once. They stand here and not in the crate, since a crate with tests is proved
 //! once more for them.
 #![tactic(auto)]
 
@@ -9,5 +9,7 @@ mod gates;
 mod helpers;
 #[cfg(test)]
 mod passes;
+#[cfg(test)]
+mod sessions;
 #[cfg(test)]
 mod worn;

@@ -4,7 +4,11 @@ use Rattle.std.specs.Str.{bytes_eq}
 use Rattle.std.specs.Option.{option_map_or}
 use Rattle.std.proofs.lemmas.Slice.Eq.{bytes_eq-Decides}
 use Rattle.clap.specs.Lexer.{short_of}
-use Rattle.clap.specs.Kinds.{Kinds, or_else}
+use Rattle.std.specs.Prelude.{Result, IfOk}
+use Rattle.std.proofs.lemmas.Result.{IfOk-weaker}
+use Rattle.clap.specs.Kinds.{FailsBy, HasKind, Kinds, or_else}
+use Rattle.clap.specs.declared.error.Error.{Error}
+use Rattle.recline.specs.declared.args.Command.{Command}
 use Rattle.clap.specs.Walk.{Held, Names, Outcome, Row, Rule, Step, Text, Waiting, Walk, after_flag, after_step, arg_by_index, arg_by_long, bundle, done, finished, first_of, idle, long_met, long_or_other, next, nothing_held, option, plain, plain_word, positional, refused, rows_after, short_or_plain, subcommand, subcommand_met, subcommand_or_other, to_positional, trailing, value, waits, walk, walk_from, walked, walked_from, word_met}
 use Rattle.clap.specs.Simple.{App, Shape, argument_words, built, entered, names_of}
 use Rattle.clap.specs.Faults.{check_fault, entered_fault, fault_of, is_simple_and_free, level_fault, other_fault, settle_fault, turn_fault, walk_fault, word_fault}
@@ -19,8 +23,8 @@ use Rattle.std.specs.Prelude.{option_map, Box, if◌then◌else◌}
 use Rattle.std.specs.Box.{box_value}
 use Rattle.std.specs.Borrow.{Bor}
 use Rattle.recline.specs.declared.args.Command.TheVariants as commands
-use Rattle.recline.specs.Arguments.{AsksFor, Selects, program, refusals}
-use Rattle.recline.proofs.Commands.{checking, checking_wants, drawing, drawing_wants, driving, driving_wants, running, running_wants}
+use Rattle.recline.specs.Arguments.{AsksFor, IsServe, Selects, number_refusals, parse_refusals, program, refusals, value_refusals}
+use Rattle.recline.proofs.Commands.{checking, checking_wants, drawing, drawing_wants, driving, driving_wants, running, running_wants, serving, serving_wants}
 use Rattle.recline.proofs.Given.{HasAll, Wants, all_given}
 
 none_first : (a b : Kinds) → or_else a b ≡ [] → a ≡ []
@@ -132,46 +136,54 @@ Enters s name stop =
 
 abbrev EntersOne : Option (Text × List Text) → Type 0
 EntersOne stop =
-    Enters running (codes "run") stop ⊎ (Enters checking (codes "check") stop ⊎ (Enters driving (codes "drive") stop ⊎ Enters drawing (codes "draw") stop))
+    Enters running (codes "run") stop
+    ⊎ (Enters serving (codes "serve") stop ⊎ (Enters checking (codes "check") stop ⊎ (Enters driving (codes "drive") stop ⊎ Enters drawing (codes "draw") stop)))
 
 one_entered : (stop : Option (Text × List Text)) → is_help stop ≡ false → is_some (entered (built program) stop) ≡ true → EntersOne stop
 one_entered None other some = absurd (true≢false (sym some))
 one_entered (Some p) other some =
-    go (bytes_eq (codes "run") p.0) (bytes_eq (codes "check") p.0) (bytes_eq (codes "drive") p.0) (bytes_eq (codes "draw") p.0) (bytes_eq (codes "help") p.0) refl refl refl refl refl
+    go (bytes_eq (codes "run") p.0) (bytes_eq (codes "serve") p.0) (bytes_eq (codes "check") p.0) (bytes_eq (codes "drive") p.0) (bytes_eq (codes "draw") p.0) (bytes_eq (codes "help") p.0)
+    refl refl refl refl refl refl
   where
     ran : bytes_eq (codes "run") p.0 ≡ true → Enters running (codes "run") (Some p)
     ran r = rw r (p.1, refl, refl)
 
-    checked : bytes_eq (codes "run") p.0 ≡ false → bytes_eq (codes "check") p.0 ≡ true → Enters checking (codes "check") (Some p)
-    checked r c = rw (r, c) (p.1, refl, refl)
+    served : bytes_eq (codes "run") p.0 ≡ false → bytes_eq (codes "serve") p.0 ≡ true → Enters serving (codes "serve") (Some p)
+    served r s = rw (r, s) (p.1, refl, refl)
 
-    drove : bytes_eq (codes "run") p.0 ≡ false → bytes_eq (codes "check") p.0 ≡ false → bytes_eq (codes "drive") p.0 ≡ true → Enters driving (codes "drive") (Some p)
-    drove r c d = rw (r, c, d) (p.1, refl, refl)
+    checked : bytes_eq (codes "run") p.0 ≡ false → bytes_eq (codes "serve") p.0 ≡ false → bytes_eq (codes "check") p.0 ≡ true → Enters checking (codes "check") (Some p)
+    checked r s c = rw (r, s, c) (p.1, refl, refl)
 
-    drew : bytes_eq (codes "run") p.0 ≡ false → bytes_eq (codes "check") p.0 ≡ false → bytes_eq (codes "drive") p.0 ≡ false → bytes_eq (codes "draw") p.0 ≡ true
-        → Enters drawing (codes "draw") (Some p)
-    drew r c d w = rw (r, c, d, w) (p.1, refl, refl)
+    drove : bytes_eq (codes "run") p.0 ≡ false → bytes_eq (codes "serve") p.0 ≡ false → bytes_eq (codes "check") p.0 ≡ false → bytes_eq (codes "drive") p.0 ≡ true
+        → Enters driving (codes "drive") (Some p)
+    drove r s c d = rw (r, s, c, d) (p.1, refl, refl)
 
-    go : (run check drive draw help : Bool) → bytes_eq (codes "run") p.0 ≡ run → bytes_eq (codes "check") p.0 ≡ check → bytes_eq (codes "drive") p.0 ≡ drive → bytes_eq (codes "draw") p.0 ≡ draw
-        → bytes_eq (codes "help") p.0 ≡ help → EntersOne (Some p)
-    go true check drive draw help r c d w h = inl (ran r)
-    go false true drive draw help r c d w h = inr (inl (checked r c))
-    go false false true draw help r c d w h = inr (inr (inl (drove r c d)))
-    go false false false true help r c d w h = inr (inr (inr (drew r c d w)))
-    go false false false false true r c d w h = let same = (bytes_eq-Decides (codes "help") p.0).0 h in absurd (true≢false (rw (← same) at other))
-    go false false false false false r c d w h = absurd (true≢false (sym (rw (r, c, d, w, h) at some)))
+    drew : bytes_eq (codes "run") p.0 ≡ false → bytes_eq (codes "serve") p.0 ≡ false → bytes_eq (codes "check") p.0 ≡ false → bytes_eq (codes "drive") p.0 ≡ false
+        → bytes_eq (codes "draw") p.0 ≡ true → Enters drawing (codes "draw") (Some p)
+    drew r s c d w = rw (r, s, c, d, w) (p.1, refl, refl)
+
+    go : (run serve check drive draw help : Bool) → bytes_eq (codes "run") p.0 ≡ run → bytes_eq (codes "serve") p.0 ≡ serve → bytes_eq (codes "check") p.0 ≡ check
+        → bytes_eq (codes "drive") p.0 ≡ drive → bytes_eq (codes "draw") p.0 ≡ draw → bytes_eq (codes "help") p.0 ≡ help → EntersOne (Some p)
+    go true serve check drive draw help r s c d w h = inl (ran r)
+    go false true check drive draw help r s c d w h = inr (inl (served r s))
+    go false false true drive draw help r s c d w h = inr (inr (inl (checked r s c)))
+    go false false false true draw help r s c d w h = inr (inr (inr (inl (drove r s c d))))
+    go false false false false true help r s c d w h = inr (inr (inr (inr (drew r s c d w))))
+    go false false false false false true r s c d w h = let same = (bytes_eq-Decides (codes "help") p.0).0 h in absurd (true≢false (rw (← same) at other))
+    go false false false false false false r s c d w h = absurd (true≢false (sym (rw (r, s, c, d, w, h) at some)))
 
 -- what was parsed as `program` was refused for nothing
-pub taken : (made : App) (words : List Text) → made ≡ program → (is_simple_and_free made ≡ true → fault_of made words ≡ []) → refusals words ≡ []
+pub taken : (made : App) (words : List Text) → made ≡ program → (is_simple_and_free made ≡ true → fault_of made words ≡ []) → parse_refusals words ≡ []
 taken made words same parsed = subst (λ (a : App). is_simple_and_free a ≡ true → fault_of a words ≡ []) same parsed refl
 
 -- what a command wants
 abbrev pub wanted_by : Text → List Text
 wanted_by name =
-    if bytes_eq name (codes "run") then [] else if bytes_eq name (codes "check") then codes "FILE" ∷ codes "CERT" ∷ [] else codes "SCRIPT" ∷ []
+    if bytes_eq name (codes "run") then [] else if bytes_eq name (codes "serve") then codes "FILE" ∷ []
+    else if bytes_eq name (codes "check") then codes "FILE" ∷ codes "CERT" ∷ [] else codes "SCRIPT" ∷ []
 
 abbrev pub IsCommand : Text → Type 0
-IsCommand name = (name ≡ codes "run") ⊎ ((name ≡ codes "check") ⊎ ((name ≡ codes "drive") ⊎ (name ≡ codes "draw")))
+IsCommand name = (name ≡ codes "run") ⊎ ((name ≡ codes "serve") ⊎ ((name ≡ codes "check") ⊎ ((name ≡ codes "drive") ⊎ (name ≡ codes "draw"))))
 
 -- The words name the command of this name, whose rows have all that it wants.
 pub record AsksForOne (words : List Text) : Type 0 where
@@ -181,13 +193,13 @@ pub record AsksForOne (words : List Text) : Type 0 where
   pub selects : Selects words name rows
   pub values : HasAll (wanted_by name) rows
 
-behind_name : (words : List Text) (s : Shape) (name : Text) (stop : Option (Text × List Text)) → refusals words ≡ [] → subcommand_of program words ≡ entered (built program) stop → IsCommand name
+behind_name : (words : List Text) (s : Shape) (name : Text) (stop : Option (Text × List Text)) → parse_refusals words ≡ [] → subcommand_of program words ≡ entered (built program) stop → IsCommand name
     → Wants s (wanted_by name) → Enters s name stop → entered_fault (built program) stop ≡ [] → AsksForOne words
 behind_name words s name stop none is one wants enters passed =
     let below = level_passes s [] nothing_held enters.0 false [] (sym enters.2 ∙ passed) in
     record { name = name; is_one = one; rows = rows_after s.rules [] enters.0; selects = (none, is ∙ enters.1); values = all_given s enters.0 (wanted_by name) wants below.2 }
 
-pub asks_for_one : (words : List Text) → refusals words ≡ [] → AsksForOne words
+pub asks_for_one : (words : List Text) → parse_refusals words ≡ [] → AsksForOne words
 asks_for_one words none =
     let made = built program in
     let given = argument_words program words in
@@ -196,9 +208,10 @@ asks_for_one words none =
     let passes = level_passes made.top (names_of made) nothing_held given has (entered_fault made end.stopped) none in
     elim (one_entered end.stopped (walk_stops made.top (names_of made) (walk_from nothing_held) given refl passes.0 refl) (wanted (finished made.top.rules end.held) _ passes.2)) [
       | inl run ↦ behind_name words running (codes "run") end.stopped none refl (inl refl) running_wants run passes.1
-      | inr (inl check) ↦ behind_name words checking (codes "check") end.stopped none refl (inr (inl refl)) checking_wants check passes.1
-      | inr (inr (inl drive)) ↦ behind_name words driving (codes "drive") end.stopped none refl (inr (inr (inl refl))) driving_wants drive passes.1
-      | inr (inr (inr draw)) ↦ behind_name words drawing (codes "draw") end.stopped none refl (inr (inr (inr refl))) drawing_wants draw passes.1
+      | inr (inl serve) ↦ behind_name words serving (codes "serve") end.stopped none refl (inr (inl refl)) serving_wants serve passes.1
+      | inr (inr (inl check)) ↦ behind_name words checking (codes "check") end.stopped none refl (inr (inr (inl refl))) checking_wants check passes.1
+      | inr (inr (inr (inl drive))) ↦ behind_name words driving (codes "drive") end.stopped none refl (inr (inr (inr (inl refl)))) driving_wants drive passes.1
+      | inr (inr (inr (inr draw))) ↦ behind_name words drawing (codes "draw") end.stopped none refl (inr (inr (inr (inr refl)))) drawing_wants draw passes.1
     ]
 
 -- ---- what a parse tells of them
@@ -222,16 +235,17 @@ named : (words : List Text) (m : ArgMatches) (name : Text) (rows : List Row) →
 named words m name rows told selects = name_in_rows m ∙ ap (option_map (λ p. p.0)) (told ∙ selects.1)
 
 -- some command is named
-pub one_is_named : (words : List Text) (m : ArgMatches) → refusals words ≡ [] → Tells words m → subcommand_name_of m ≢ Some (codes "run") → subcommand_name_of m ≢ Some (codes "check")
+pub one_is_named : (words : List Text) (m : ArgMatches) → parse_refusals words ≡ [] → Tells words m → subcommand_name_of m ≢ Some (codes "run") → subcommand_name_of m ≢ Some (codes "serve") → subcommand_name_of m ≢ Some (codes "check")
     → subcommand_name_of m ≢ Some (codes "drive") → subcommand_name_of m ≢ Some (codes "draw") → ⊥
-one_is_named words m none told not_run not_check not_drive not_draw =
+one_is_named words m none told not_run not_serve not_check not_drive not_draw =
     let one = asks_for_one words none in
     let is = named words m one.name one.rows told one.selects in
     elim one.is_one [
       | inl e ↦ not_run (is ∙ ap Some e)
-      | inr (inl e) ↦ not_check (is ∙ ap Some e)
-      | inr (inr (inl e)) ↦ not_drive (is ∙ ap Some e)
-      | inr (inr (inr e)) ↦ not_draw (is ∙ ap Some e)
+      | inr (inl e) ↦ not_serve (is ∙ ap Some e)
+      | inr (inr (inl e)) ↦ not_check (is ∙ ap Some e)
+      | inr (inr (inr (inl e))) ↦ not_drive (is ∙ ap Some e)
+      | inr (inr (inr (inr e))) ↦ not_draw (is ∙ ap Some e)
     ]
 
 same_name : (x y : Text) → Some x ≡ Some y → x ≡ y
@@ -242,7 +256,7 @@ same_rows xs ys e = cc
 
 -- the rows of the command of this name, which d has
 pub record IsOf (words : List Text) (m d : ArgMatches) (name : Text) : Type 0 where
-  pub none : refusals words ≡ []
+  pub none : parse_refusals words ≡ []
   pub told : Tells words m
   pub name_is : subcommand_name_of m ≡ Some name
   pub rows_are : option_map (λ p. p.1) (subcommand_rows_of m) ≡ Some (rows_of (found_of d))
@@ -295,3 +309,47 @@ pub asks_for_draw : (words : List Text) (m d : ArgMatches) (script : Bor Text) (
     → Some script.now ≡ first_value (found_of d) (codes "SCRIPT") → option_map (λ s. s.now) failed ≡ first_value (found_of d) (codes "failed") → AsksFor words (commands.Draw script failed)
 asks_for_draw words m d script failed h is failed_is =
     (rows_of (found_of d), (has_wanted words m d (codes "draw") h).0, value_in d (codes "SCRIPT") _ is, value_in d (codes "failed") _ failed_is)
+
+-- a command without numbers is refused by the parse alone
+pub other_refusals : (words : List Text) (m d : ArgMatches) (name : Text) → IsOf words m d name → bytes_eq name (codes "serve") ≡ false → refusals words ≡ []
+other_refusals words m d name h other =
+    let is = (has_wanted words m d name h).0 in
+    rw (is.0, is.1, other) refl
+
+pub serve_refusals : (words : List Text) (m d : ArgMatches) → IsOf words m d (codes "serve") → refusals words ≡ number_refusals (rows_of (found_of d))
+serve_refusals words m d h =
+    let is = (has_wanted words m d (codes "serve") h).0 in
+    rw (is.0, is.1) refl
+
+-- what `serve` answers
+pub serve_fails : {T : Type 0} (words : List Text) (m d : ArgMatches) (r : Result T Error) → IsOf words m d (codes "serve") → FailsBy (number_refusals (rows_of (found_of d))) r → FailsBy (refusals words) r
+serve_fails words m d r h fails = subst (λ (k : Kinds). FailsBy k r) (sym (serve_refusals words m d h)) fails
+
+pub asks_for_serve : (words : List Text) (m d : ArgMatches) (r : Result Command Error) → IsOf words m d (codes "serve") → IfOk r (IsServe (rows_of (found_of d))) → IfOk r (AsksFor words)
+asks_for_serve words m d r h is = IfOk-weaker r _ _ (λ command serves. go command serves) is
+  where
+    go : (command : Command) → IsServe (rows_of (found_of d)) command → AsksFor words command
+    go (commands.Serve file port sessions workers seconds) serves = (rows_of (found_of d), (has_wanted words m d (codes "serve") h).0, serves)
+    go (commands.Run file) serves = absurd serves
+    go (commands.Check file certificate) serves = absurd serves
+    go (commands.Drive script) serves = absurd serves
+    go (commands.Draw script failed) serves = absurd serves
+
+-- its file has a value
+pub serve_file : (words : List Text) (m d : ArgMatches) → IsOf words m d (codes "serve") → is_some (first_value (found_of d) (codes "FILE")) ≡ true
+serve_file words m d h =
+    let there = (has_wanted words m d (codes "serve") h).1.0 in
+    ap is_some (sym (value_in d (codes "FILE") _ refl) ∙ there.1)
+
+-- what was parsed as `program` was refused by one of its kinds
+pub parse_refused : (made : App) (words : List Text) (e : Error) → made ≡ program → (is_simple_and_free made ≡ true → HasKind (fault_of made words) e) → HasKind (parse_refusals words) e
+parse_refused made words e same parsed = subst (λ (a : App). is_simple_and_free a ≡ true → HasKind (fault_of a words) e) same parsed refl
+
+-- an error of the parse is one of these, too
+pub parse_fails : (words : List Text) (e : Error) → HasKind (parse_refusals words) e → HasKind (refusals words) e
+parse_fails words e has = go (parse_refusals words) (value_refusals (subcommand_of program words)) has
+  where
+    go : (first later : Kinds) → HasKind first e → HasKind (or_else first later) e
+    go [] later (inl memory) = inl memory
+    go [] later (inr none) = absurd none
+    go (k ∷ ks) later has = has

@@ -11,17 +11,30 @@ use Rattle.recline.proofs.Given.{Wants}
 abbrev pub running : Shape
 running = unwrap_or (slice_get (built program).subs 0) help_shape
 
+abbrev pub serving : Shape
+serving = unwrap_or (slice_get (built program).subs 1) help_shape
+
 abbrev pub checking : Shape
-checking = unwrap_or (slice_get (built program).subs 1) help_shape
+checking = unwrap_or (slice_get (built program).subs 2) help_shape
 
 abbrev pub driving : Shape
-driving = unwrap_or (slice_get (built program).subs 2) help_shape
+driving = unwrap_or (slice_get (built program).subs 3) help_shape
 
 abbrev pub drawing : Shape
-drawing = unwrap_or (slice_get (built program).subs 3) help_shape
+drawing = unwrap_or (slice_get (built program).subs 4) help_shape
 
 pub running_wants : Wants running []
 running_wants = record { flags = tt; given = λ rows none. tt }
+
+pub serving_wants : Wants serving (codes "FILE" ∷ [])
+serving_wants = record { flags = (refl, tt); given = λ rows none. (file rows none, tt) }
+  where
+    file : (rows : List Row) → check_fault serving rows false ≡ [] → is_given (codes "FILE") rows ≡ true
+    file rows none = go (is_given (codes "FILE") rows) refl
+      where
+        go : (t : Bool) → is_given (codes "FILE") rows ≡ t → is_given (codes "FILE") rows ≡ true
+        go true e = e
+        go false e = (let bad = rw e at none in absurd (cc))
 
 pub checking_wants : Wants checking (codes "FILE" ∷ codes "CERT" ∷ [])
 checking_wants = record { flags = (refl, (refl, tt)); given = λ rows none. (file rows none, (certificate rows none, tt)) }

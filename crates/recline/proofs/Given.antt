@@ -1,6 +1,6 @@
 -- Words behind a command that wants arguments, which are refused for nothing, have them.
 use Rattle.std.proofs.Common.{◌≡◌, ◌<◌, Bool, ℕ, zero, suc, true, false, Option, Some, None, List, [], ◌∷◌, ◌++◌, length, refl, sym, ◌∙◌, subst, fold, true≢false, arith}
-use Rattle.std.specs.Prelude.{◌&&◌, ◌||◌, ◌+◌, min, not, is_some, codes, find, slice_get, if◌then◌else◌}
+use Rattle.std.specs.Prelude.{◌&&◌, ◌||◌, ◌+◌, min, not, is_some, find, slice_get, if◌then◌else◌}
 use Rattle.std.specs.List.{list_all}
 use Rattle.std.specs.Str.{bytes_eq}
 use Rattle.std.proofs.lemmas.List.{length-append}

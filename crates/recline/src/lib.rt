@@ -7,9 +7,11 @@ mod checking;
 mod drawing;
 mod driving;
 mod running;
+mod serving;
 
 pub use args::{Command, read_args};
 pub use checking::check_on;
 pub use drawing::draw_on;
 pub use driving::drive_on;
 pub use running::{run_on, run_over};
+pub use serving::{Service, serve_on};

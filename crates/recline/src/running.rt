@@ -29,7 +29,8 @@ fn status_for(kind: Kind, stopped: bool) -> u8
     ensures { result ≡ status_of kind stopped }
 {
     match kind {
-        Kind::Memory | Kind::ReadFailed | Kind::WriteFailed => 3,
+        // No session over a desk ends as Foreign.
+        Kind::Memory | Kind::ReadFailed | Kind::WriteFailed | Kind::Foreign => 3,
         Kind::End | Kind::Bye | Kind::TooLong => if stopped { 3 } else { 0 },
         Kind::Worn | Kind::Endless => if stopped { 3 } else { 5 },
     }
@@ -42,7 +43,8 @@ fn fault_for(kind: Kind) -> &'static [u8]
     match kind {
         Kind::Memory => b"recline: memory\n".as_slice(),
         Kind::ReadFailed | Kind::WriteFailed => b"recline: device\n".as_slice(),
-        Kind::End | Kind::Bye | Kind::TooLong | Kind::Worn | Kind::Endless => b"".as_slice(),
+        Kind::End | Kind::Bye | Kind::TooLong | Kind::Worn | Kind::Endless | Kind::Foreign =>
+            b"".as_slice(),
     }
 }
 

@@ -4,12 +4,15 @@
 use clap::Error;
 use clap::error::ErrorKind;
 use line_disk::{DiskFault, FileDisk, Modelled, NullDisk};
-use recline::{Command, check_on, draw_on, drive_on, read_args, run_on};
+use recline::{Command, Service, check_on, draw_on, drive_on, read_args, run_on, serve_on};
 use session::{Link, Streams};
 use std::env;
 use std::fs::File;
 use std::io::{self, BufWriter, Read};
+use std::net::{Ipv4Addr, SocketAddr, SocketAddrV4, TcpListener};
 use std::process::ExitCode;
+use std::sync::Wait;
+use std::thread::Threads;
 
 /// A file that is opened when it is read first.
 #[derive(Drop)]
@@ -101,6 +104,43 @@ fn run_over_file<K: Link, F: Link>(
     }
 }
 
+/// Serves clients that connect to this port of the machine itself over the record file of this path. The numbers are those of
+/// sessions, of workers, and of the seconds that a client may rest.
+fn serve_over_file<T: Threads + Wait + Sync, O: Link, F: Link>(
+    rt: &HostRuntime,
+    threads: &T,
+    path: &str,
+    port: u16,
+    numbers: (u64, u64, Option<u64>),
+    output: &mut O,
+    faults: &mut F,
+) -> u8 {
+    let (sessions, workers, idle) = numbers;
+    // Numbers out of their limits are refused with the words.
+    let Some(service) = Service::new(sessions, workers, idle) else {
+        return 2;
+    };
+    let address = SocketAddr::V4(SocketAddrV4::new(Ipv4Addr::LOCALHOST, port));
+    match open_file(rt, path) {
+        Ok(disk) => match TcpListener::bind(rt, address) {
+            Ok(listener) => {
+                let (status, _disk) = serve_on(
+                    threads,
+                    rt.alloc(),
+                    &listener,
+                    disk,
+                    service,
+                    output,
+                    faults,
+                );
+                status
+            }
+            Err(_) => fault(rt, "device"),
+        },
+        Err(status) => status,
+    }
+}
+
 /// Checks the certificate that the client gives over the record file of this path.
 fn check_over_file<K: Link, F: Link>(
     rt: &HostRuntime,
@@ -117,8 +157,13 @@ fn check_over_file<K: Link, F: Link>(
     }
 }
 
-/// Does the command over this input and standard output. Fault lines are written through at once.
-fn act<R: Read + Drop>(rt: &HostRuntime, command: Command<'_>, input: R) -> u8 {
+/// Does the command over this input and standard output, with threads where it serves clients. Fault lines are written through at once.
+fn act<T: Threads + Wait + Sync, R: Read + Drop>(
+    rt: &HostRuntime,
+    threads: &T,
+    command: Command<'_>,
+    input: R,
+) -> u8 {
     let Ok(output) = BufWriter::new(rt.alloc(), rt.stdout()) else {
         return fault(rt, "memory");
     };
@@ -129,6 +174,21 @@ fn act<R: Read + Drop>(rt: &HostRuntime, command: Command<'_>, input: R) -> u8 {
     let mut faults = Streams::new(io::empty(), errors);
     let status = match command {
         Command::Run { file } => run_over_file(rt, file, &mut client, &mut faults),
+        Command::Serve {
+            file,
+            port,
+            sessions,
+            workers,
+            idle,
+        } => serve_over_file(
+            rt,
+            threads,
+            file,
+            port,
+            (sessions, workers, idle),
+            &mut client,
+            &mut faults,
+        ),
         Command::Check { file, .. } => check_over_file(rt, file, &mut client, &mut faults),
         Command::Drive { .. } => drive_on(rt.alloc(), &mut client, &mut faults),
         Command::Draw { failed, .. } => draw_on(rt.alloc(), &mut client, &mut faults, failed),
@@ -140,15 +200,17 @@ fn act<R: Read + Drop>(rt: &HostRuntime, command: Command<'_>, input: R) -> u8 {
 }
 
 /// Does the command, which reads standard input or the file of a path.
-fn do_command(rt: &HostRuntime, command: Command<'_>) -> u8 {
+fn do_command<T: Threads + Wait + Sync>(rt: &HostRuntime, threads: &T, command: Command<'_>) -> u8 {
     let path = match command {
-        Command::Run { .. } => return act(rt, command, rt.reader()),
+        Command::Run { .. } => return act(rt, threads, command, rt.reader()),
+        Command::Serve { .. } => return act(rt, threads, command, io::empty()),
         Command::Check { certificate, .. } => certificate,
         Command::Drive { script } => script,
         Command::Draw { script, .. } => script,
     };
     act(
         rt,
+        threads,
         command,
         LaterFile {
             rt,
@@ -161,7 +223,7 @@ fn do_command(rt: &HostRuntime, command: Command<'_>) -> u8 {
 fn main(rt: HostRuntime) -> ExitCode {
     let status = match words_of(&rt) {
         Ok(words) => match read_args(rt.alloc(), &words) {
-            Ok(command) => do_command(&rt, command),
+            Ok(command) => do_command(&rt, &rt, command),
             Err(error) => show(&rt, &error),
         },
         Err(error) => unread(&rt, &error),

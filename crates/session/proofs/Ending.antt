@@ -6,20 +6,16 @@ use Rattle.std.proofs.lemmas.List.{length-append, take-append-le}
 use Rattle.std.proofs.lemmas.List.Concat.{flat_map-append}
 use Rattle.std.proofs.Math.Seq.{take-append_seam}
 use borrow.Author.Count.{below_more}
-use Rattle.desk.specs.Desks.{DeskState}
 use Rattle.report_line.specs.Cutting.{Stand, onto, cut_from, cut_of}
 use Rattle.report_line.proofs.Streams.{cut_append}
 use Rattle.session.specs.declared.kind.Kind.{Kind}
 use Rattle.session.specs.declared.kind.Kind.TheVariants as kinds
 use Rattle.session.specs.Links.{up, LinkState, IsSound, IsFault, IsHandOn}
-use Rattle.session.specs.SessionText.{Exchange, Mean, NoBye, exchange_line, session_text, joined, most_reads, ending_line, ending_count, IsWhole, IsCutInReply, Reached, Ends, Gave, GaveAll}
-use Rattle.session.specs.Turned.{MakesTurns}
-use Rattle.session.specs.Ends.{IsReadAt, IsPrompt, Ended, Leaves}
-use Rattle.session.specs.Parts.{IsSaid, FaultsAt, StepsTo, IsQuiet, GaveBy, Steps, Going, Closing, Closes}
-use Rattle.chains.specs.Admission.{IsReached}
-use Rattle.session.proofs.RightLines.{lines_are_right}
+use Rattle.session.specs.SessionText.{Exchange, Mean, NoBye, exchange_line, session_text, joined, most_reads, Grounds, ending_line, ending_count, IsWhole, IsCutInReply, Reached, Ends, Gave, GaveAll}
+use Rattle.session.specs.Ends.{IsReadAt, IsPrompt, Leaves}
+use Rattle.session.specs.Parts.{AreLawful, IsSaid, FaultsAt, StepsTo, IsQuiet, GaveBy, Steps, Going, Closing, Closes, Ran}
 use Rattle.session.proofs.Sent.{appends_none, appends_then, sound_none, sound_then, fault_then}
-use Rattle.session.proofs.Served.{no_turns, makes_then, made_then, mean_then, mean_length, no_bye_then, bye_then, said_then, cut_then, worn_then, worn_since}
+use Rattle.session.proofs.ServedTurns.{mean_then, mean_length, no_bye_then, bye_then, said_then, cut_then}
 use Rattle.session.proofs.ServeSteps.{faults_then}
 
 consumes_none : (a : Option (List ℕ)) → Consumes a a []
@@ -87,9 +83,9 @@ prompt_then {K} told link pieces piece turned more before here =
 
 -- ---- one read after the other
 
-pub going_none : {D K : Type 0} (keeps : D → Type 0) (told : K → LinkState) (link : K) (stand : Stand) (desk : DeskState D) → stand ≡ Some [] → Going keeps told link link stand desk desk 0 0
+pub going_none : {S K : Type 0} (makes : S → List Exchange → S → Type 0) (grounds : S → Grounds) (laws : AreLawful makes grounds) (told : K → LinkState) (link : K) (stand : Stand) (state : S) → stand ≡ Some [] → Going makes told link link stand state state 0 0
 unfolding cut_from
-going_none keeps told link stand desk new =
+going_none makes grounds laws told link stand state new =
     rw new record {
       pieces = [];
       turned = [];
@@ -99,7 +95,7 @@ going_none keeps told link stand desk new =
       is_open = refl;
       no_bye = tt;
       gave = tt;
-      turns = no_turns keeps desk;
+      turns = laws.none state;
       consumed = consumes_none (told link).left;
       written = appends_none (told link).held;
       count_is = refl;
@@ -113,9 +109,9 @@ sound_hand_on : {E : Type 0} (old new : LinkState) (u : Unit {0}) → IsHandOn {
 sound_hand_on old new u hand = record { failures = hand.failures; stalls = hand.stalls }
 
 -- the state in which the next read is made
-read_at : {D K E : Type 0} (keeps : D → Type 0) (told : K → LinkState) (link now reading : K) (stand : Stand) (desk mid : DeskState D) (reads count : ℕ) (u : Unit {0}) (more : List Exchange) → (s : Going keeps told link now stand desk mid reads count)
+read_at : {S K E : Type 0} (makes : S → List Exchange → S → Type 0) (grounds : S → Grounds) (laws : AreLawful makes grounds) (told : K → LinkState) (link now reading : K) (stand : Stand) (state mid : S) (reads count : ℕ) (u : Unit {0}) (more : List Exchange) → (s : Going makes told link now stand state mid reads count)
     → IsHandOn {E = E} (told now) (told reading) (Ok u) → IsReadAt told link (length s.pieces) (joined s.pieces) (s.turned ++ more)
-read_at keeps told link now reading stand desk mid reads count u more s hand =
+read_at makes grounds laws told link now reading stand state mid reads count u more s hand =
     record {
       reading = reading;
       reads_are = hand.reads ∙ s.reads_are ∙ ap (λ (n : ℕ). up n (told link).reads) (sym s.made);
@@ -146,10 +142,11 @@ stop_gave kinds.Worn pieces piece gave g = all_more pieces piece gave g
 stop_gave kinds.Memory pieces piece gave g = all_more pieces piece gave g
 stop_gave kinds.WriteFailed pieces piece gave g = all_more pieces piece gave g
 stop_gave kinds.Endless pieces piece gave g = all_more pieces piece gave g
+stop_gave kinds.Foreign pieces piece gave g = all_more pieces piece gave g
 
-pub going_on : {D K E : Type 0} (keeps : D → Type 0) (told : K → LinkState) (link now reading next : K) (stand stand_after : Stand) (desk mid after : DeskState D) (reads count more : ℕ) (u : Unit {0}) → Going keeps told link now stand desk mid reads count
-    → IsHandOn {E = E} (told now) (told reading) (Ok u) → Steps keeps (told reading) (told next) stand stand_after mid after None more → Going keeps told link next stand_after desk after (reads + 1) (count + more)
-going_on keeps told link now reading next stand stand_after desk mid after reads count more u s hand t =
+pub going_on : {S K E : Type 0} (makes : S → List Exchange → S → Type 0) (grounds : S → Grounds) (laws : AreLawful makes grounds) (told : K → LinkState) (link now reading next : K) (stand stand_after : Stand) (state mid after : S) (reads count more : ℕ) (u : Unit {0}) → Going makes told link now stand state mid reads count
+    → IsHandOn {E = E} (told now) (told reading) (Ok u) → Steps makes grounds (told reading) (told next) stand stand_after mid after None more → Going makes told link next stand_after state after (reads + 1) (count + more)
+going_on makes grounds laws told link now reading next stand stand_after state mid after reads count more u s hand t =
     let cut = cut_more s.pieces t.piece stand s.stands in
     let lines : (cut_from stand t.piece).0 ≡ t.front = t.lines_are ∙ ap (λ (l : List (List ℕ)). t.front ++ l) t.how.1 ∙ append-nil t.front in
     record {
@@ -162,7 +159,7 @@ going_on keeps told link now reading next stand stand_after desk mid after reads
       is_open = subst (λ (x : Stand). IsSome x) (t.stands refl) t.how.2;
       no_bye = no_bye_then s.turned t.turned s.no_bye t.how.0;
       gave = all_more s.pieces t.piece s.gave t.gave;
-      turns = makes_then keeps desk mid after s.turned t.turned s.turns t.turns;
+      turns = laws.one_by_one state mid after s.turned t.turned s.turns t.turns;
       consumed = subst (λ (l : List ℕ). Consumes (told link).left (told next).left l) (joined_more s.pieces t.piece)
           (consumes_then (told link).left (told reading).left (told next).left (joined s.pieces) t.piece (subst (λ (l : Option (List ℕ)). Consumes (told link).left l (joined s.pieces)) (sym hand.left) s.consumed) t.consumed);
       written = subst (λ (l : List ℕ). Appends (told link).held (told next).held l) (ap (λ (l : List ℕ). session_text s.turned ++ l) t.how.3.0 ∙ text_then s.turned t.turned)
@@ -170,15 +167,15 @@ going_on keeps told link now reading next stand stand_after desk mid after reads
       count_is = omega (arith, length-append s.turned t.turned, s.count_is, t.how.3.1);
       reads_are = reads_more (told link).reads (told now).reads (told reading).reads (told next).reads reads s.reads_are hand.reads t.reads;
       sound = sound_then (told link) (told reading) (told next) (sound_then (told link) (told now) (told reading) s.sound (sound_hand_on (told now) (told reading) u hand)) t.faults;
-      prompt = prompt_then told link s.pieces t.piece s.turned t.turned s.prompt (read_at keeps told link now reading stand desk mid reads count u t.turned s hand);
+      prompt = prompt_then told link s.pieces t.piece s.turned t.turned s.prompt (read_at makes grounds laws told link now reading stand state mid reads count u t.turned s hand);
     }
 
 -- ---- where it stops
 
 -- how far the lines of all reads were answered, before the ending line
-abbrev StopsTo : Kind → ℕ → List (List ℕ) → Stand → List (List ℕ) → List (List ℕ) → List Exchange → List ℕ → ℕ → Type 0
-StopsTo kinds.WriteFailed made pieces stand front later turned text count = IsCutInReply turned text count
-StopsTo kind made pieces stand front later turned text count = Reached kind made pieces stand front later turned × IsSaid turned text count
+abbrev StopsTo : Kind → Grounds → List (List ℕ) → Stand → List (List ℕ) → List (List ℕ) → List Exchange → List ℕ → ℕ → Type 0
+StopsTo kinds.WriteFailed grounds pieces stand front later turned text count = IsCutInReply turned text count
+StopsTo kind grounds pieces stand front later turned text count = Reached kind grounds pieces stand front later turned × IsSaid turned text count
 
 -- what a link tells before the ending line
 abbrev LeftBy : Kind → LinkState → LinkState → Type 0
@@ -188,7 +185,7 @@ LeftBy kinds.WriteFailed old now = IsFault old now
 LeftBy _ old now = IsSound old now
 
 -- a session before its ending line
-pub record Stopping {D K : Type 0} (keeps : D → Type 0) (told : K → LinkState) (link now : K) (desk after : DeskState D) (kind : Kind) (count : ℕ) : Type 0 where
+pub record Stopping {S K : Type 0} (makes : S → List Exchange → S → Type 0) (grounds : S → Grounds) (told : K → LinkState) (link now : K) (state after : S) (kind : Kind) (count : ℕ) : Type 0 where
   pub pieces : List (List ℕ)
   pub front : List (List ℕ)
   pub later : List (List ℕ)
@@ -196,8 +193,8 @@ pub record Stopping {D K : Type 0} (keeps : D → Type 0) (told : K → LinkStat
   pub text : List ℕ
   pub lines_are : (cut_of (joined pieces)).0 ≡ front ++ later
   pub mean : Mean front turned
-  pub how : StopsTo kind (length desk.turns) pieces (cut_of (joined pieces)).1 front later turned text count
-  pub turns : MakesTurns keeps desk turned after
+  pub how : StopsTo kind (grounds state) pieces (cut_of (joined pieces)).1 front later turned text count
+  pub turns : makes state turned after
   pub consumed : Consumes (told link).left (told now).left (joined pieces)
   pub written : Appends (told link).held (told now).held text
   pub reads : (told now).reads ≡ up (length pieces) (told link).reads
@@ -206,22 +203,25 @@ pub record Stopping {D K : Type 0} (keeps : D → Type 0) (told : K → LinkStat
   pub leaves : LeftBy kind (told link) (told now)
   pub gave : GaveAll kind pieces
 
-stops_then : (kind : Kind) (made : ℕ) (pieces : List (List ℕ)) (piece : List ℕ) (stand : Stand) (front later : List (List ℕ)) (es fs : List Exchange) (text line : List ℕ) (m n : ℕ) → NoBye es → IsSaid es text m
-    → StepsTo (Some kind) (made + length es) stand front later fs line n → StopsTo kind made (pieces ++ piece ∷ []) stand ((cut_of (joined pieces)).0 ++ front) later (es ++ fs) (text ++ line) (m + n)
-stops_then kinds.Bye made pieces piece stand front later es fs text line m n none said t = (bye_then es fs none t.0, said_then es fs text line m n said t.1)
-stops_then kinds.Memory made pieces piece stand front later es fs text line m n none said (a, inl nothing, b) = (
+stops_then : {S : Type 0} (makes : S → List Exchange → S → Type 0) (grounds : S → Grounds) (laws : AreLawful makes grounds) (kind : Kind) (s mid : S) (pieces : List (List ℕ)) (piece : List ℕ) (stand : Stand) (front later : List (List ℕ)) (es fs : List Exchange)
+    (text line : List ℕ) (m n : ℕ) → makes s es mid → NoBye es → IsSaid es text m → StepsTo (Some kind) (grounds mid) stand front later fs line n
+    → StopsTo kind (grounds s) (pieces ++ piece ∷ []) stand ((cut_of (joined pieces)).0 ++ front) later (es ++ fs) (text ++ line) (m + n)
+stops_then makes grounds laws kinds.Bye s mid pieces piece stand front later es fs text line m n made none said t = (bye_then es fs none t.0, said_then es fs text line m n said t.1)
+stops_then makes grounds laws kinds.Memory s mid pieces piece stand front later es fs text line m n made none said (a, inl nothing, b) = (
   (no_bye_then es fs none a, inl (pieces, piece, refl, ap (λ (l : List (List ℕ)). (cut_of (joined pieces)).0 ++ l) nothing ∙ append-nil (cut_of (joined pieces)).0)),
   said_then es fs text line m n said b,
 )
-stops_then kinds.Memory made pieces piece stand front later es fs text line m n none said (a, inr question, b) =
-    ((no_bye_then es fs none a, inr (question.0, λ worn. question.1 (worn_since made es fs worn))), said_then es fs text line m n said b)
-stops_then kinds.Worn made pieces piece stand front later es fs text line m n none said t =
-    ((no_bye_then es fs none t.0, t.1.0, worn_then made es fs t.1.1), said_then es fs text line m n said t.2)
-stops_then kinds.TooLong made pieces piece stand front later es fs text line m n none said t = ((no_bye_then es fs none t.0, t.1, t.2), said_then es fs text line m n said t.3)
-stops_then kinds.End made pieces piece stand front later es fs text line m n none said t = ((no_bye_then es fs none t.0, t.1, t.2), said_then es fs text line m n said t.3)
-stops_then kinds.ReadFailed made pieces piece stand front later es fs text line m n none said t = ((no_bye_then es fs none t.0, t.1, t.2), said_then es fs text line m n said t.3)
-stops_then kinds.WriteFailed made pieces piece stand front later es fs text line m n none said t = cut_then es fs text line m n none said t
-stops_then kinds.Endless made pieces piece stand front later es fs text line m n none said t = absurd t
+stops_then makes grounds laws kinds.Memory s mid pieces piece stand front later es fs text line m n made none said (a, inr unmade, b) =
+    ((no_bye_then es fs none a, inr (laws.unmade s mid later es fs made unmade)), said_then es fs text line m n said b)
+stops_then makes grounds laws kinds.Worn s mid pieces piece stand front later es fs text line m n made none said t =
+    ((no_bye_then es fs none t.0, t.1.0, laws.worn s mid es fs made t.1.1), said_then es fs text line m n said t.2)
+stops_then makes grounds laws kinds.Foreign s mid pieces piece stand front later es fs text line m n made none said t =
+    ((no_bye_then es fs none t.0, t.1.0, laws.foreign s mid es fs made t.1.1), said_then es fs text line m n said t.2)
+stops_then makes grounds laws kinds.TooLong s mid pieces piece stand front later es fs text line m n made none said t = ((no_bye_then es fs none t.0, t.1, t.2), said_then es fs text line m n said t.3)
+stops_then makes grounds laws kinds.End s mid pieces piece stand front later es fs text line m n made none said t = ((no_bye_then es fs none t.0, t.1, t.2), said_then es fs text line m n said t.3)
+stops_then makes grounds laws kinds.ReadFailed s mid pieces piece stand front later es fs text line m n made none said t = ((no_bye_then es fs none t.0, t.1, t.2), said_then es fs text line m n said t.3)
+stops_then makes grounds laws kinds.WriteFailed s mid pieces piece stand front later es fs text line m n made none said t = cut_then es fs text line m n none said t
+stops_then makes grounds laws kinds.Endless s mid pieces piece stand front later es fs text line m n made none said t = absurd t
 
 left_by : (kind : Kind) (old now : LinkState) → FaultsAt (Some kind) old now → (kind ≡ kinds.End → (now.waiting ≡ []) × IsAtEnd now.left) → (kind ≡ kinds.ReadFailed → now.waiting ≡ []) → LeftBy kind old now
 left_by kinds.End old now faults quiet still = (faults, (quiet refl).0, (quiet refl).1)
@@ -232,6 +232,7 @@ left_by kinds.TooLong old now faults quiet still = faults
 left_by kinds.Worn old now faults quiet still = faults
 left_by kinds.Memory old now faults quiet still = faults
 left_by kinds.Endless old now faults quiet still = faults
+left_by kinds.Foreign old now faults quiet still = faults
 
 quiet_end : (kind : Kind) (old now : LinkState) → old.waiting ≡ [] → IsQuiet (Some kind) old now → kind ≡ kinds.End → (now.waiting ≡ []) × IsAtEnd now.left
 quiet_end kind old now nothing quiet is = let q = rw is at quiet in (q.0 ∙ nothing, q.1)
@@ -239,10 +240,10 @@ quiet_end kind old now nothing quiet is = let q = rw is at quiet in (q.0 ∙ not
 quiet_failed : (kind : Kind) (old now : LinkState) → old.waiting ≡ [] → IsQuiet (Some kind) old now → kind ≡ kinds.ReadFailed → now.waiting ≡ []
 quiet_failed kind old now nothing quiet is = let q = rw is at quiet in q ∙ nothing
 
-pub stopping : {D K E : Type 0} (keeps : D → Type 0) (told : K → LinkState) (link now reading next : K) (kind : Kind) (stand stand_after : Stand) (desk mid after : DeskState D) (reads count more : ℕ) (u : Unit {0}) → reads < most_reads
-    → Going keeps told link now stand desk mid reads count → IsHandOn {E = E} (told now) (told reading) (Ok u) → Steps keeps (told reading) (told next) stand stand_after mid after (Some kind) more
-    → Stopping keeps told link next desk after kind (count + more)
-stopping keeps told link now reading next kind stand stand_after desk mid after reads count more u few s hand t =
+pub stopping : {S K E : Type 0} (makes : S → List Exchange → S → Type 0) (grounds : S → Grounds) (laws : AreLawful makes grounds) (told : K → LinkState) (link now reading next : K) (kind : Kind) (stand stand_after : Stand) (state mid after : S) (reads count more : ℕ) (u : Unit {0}) → reads < most_reads
+    → Going makes told link now stand state mid reads count → IsHandOn {E = E} (told now) (told reading) (Ok u) → Steps makes grounds (told reading) (told next) stand stand_after mid after (Some kind) more
+    → Stopping makes grounds told link next state after kind (count + more)
+stopping makes grounds laws told link now reading next kind stand stand_after state mid after reads count more u few s hand t =
     let cut = cut_more s.pieces t.piece stand s.stands in
     let before = appends_held (told link).held (told now).held (told reading).held (session_text s.turned) s.written hand.held in
     let sound = sound_then (told link) (told now) (told reading) s.sound (sound_hand_on (told now) (told reading) u hand) in
@@ -254,25 +255,24 @@ stopping keeps told link now reading next kind stand stand_after desk mid after 
       text = session_text s.turned ++ t.text;
       lines_are = ap (λ (c : Cut). c.0) cut ∙ ap (λ (l : List (List ℕ)). (cut_of (joined s.pieces)).0 ++ l) t.lines_are ∙ sym (append_assoc (cut_of (joined s.pieces)).0 t.front t.later);
       mean = mean_then (cut_of (joined s.pieces)).0 t.front s.turned t.turned s.mean t.mean;
-      how = subst (λ (x : Stand). StopsTo kind (length desk.turns) (s.pieces ++ t.piece ∷ []) x ((cut_of (joined s.pieces)).0 ++ t.front) t.later (s.turned ++ t.turned) (session_text s.turned ++ t.text) (count + more)) (sym (ap (λ (c : Cut). c.1) cut))
-          (stops_then kind (length desk.turns) s.pieces t.piece (cut_from stand t.piece).1 t.front t.later s.turned t.turned (session_text s.turned) t.text count more s.no_bye (refl, s.count_is)
-          (subst (λ (made : ℕ). StepsTo (Some kind) made (cut_from stand t.piece).1 t.front t.later t.turned t.text more) (made_then keeps desk mid s.turned s.turns) t.how));
-      turns = makes_then keeps desk mid after s.turned t.turned s.turns t.turns;
+      how = subst (λ (x : Stand). StopsTo kind (grounds state) (s.pieces ++ t.piece ∷ []) x ((cut_of (joined s.pieces)).0 ++ t.front) t.later (s.turned ++ t.turned) (session_text s.turned ++ t.text) (count + more)) (sym (ap (λ (c : Cut). c.1) cut))
+          (stops_then makes grounds laws kind state mid s.pieces t.piece (cut_from stand t.piece).1 t.front t.later s.turned t.turned (session_text s.turned) t.text count more s.turns s.no_bye (refl, s.count_is) t.how);
+      turns = laws.one_by_one state mid after s.turned t.turned s.turns t.turns;
       consumed = subst (λ (l : List ℕ). Consumes (told link).left (told next).left l) (joined_more s.pieces t.piece)
           (consumes_then (told link).left (told reading).left (told next).left (joined s.pieces) t.piece (subst (λ (l : Option (List ℕ)). Consumes (told link).left l (joined s.pieces)) (sym hand.left) s.consumed) t.consumed);
       written = appends_then (told link).held (told reading).held (told next).held (session_text s.turned) t.text before t.written;
       reads = reads_more (told link).reads (told now).reads (told reading).reads (told next).reads (length s.pieces) (rw s.made s.reads_are) hand.reads t.reads ∙ ap (λ (n : ℕ). up n (told link).reads) (sym (length_more s.pieces t.piece));
       few = omega (arith, length_more s.pieces t.piece, s.made);
-      prompt = prompt_then told link s.pieces t.piece s.turned t.turned s.prompt (read_at keeps told link now reading stand desk mid reads count u t.turned s hand);
+      prompt = prompt_then told link s.pieces t.piece s.turned t.turned s.prompt (read_at makes grounds laws told link now reading stand state mid reads count u t.turned s hand);
       leaves = left_by kind (told link) (told next) (faults_then (Some kind) (told link) (told reading) (told next) sound t.faults) (quiet_end kind (told reading) (told next) hand.handed t.quiet)
           (quiet_failed kind (told reading) (told next) hand.handed t.quiet);
       gave = stop_gave kind s.pieces t.piece s.gave t.gave;
     }
 
 -- all lines of all reads were answered
-said_all : {D K : Type 0} (keeps : D → Type 0) (told : K → LinkState) (link now : K) (stand : Stand) (desk after : DeskState D) (reads count : ℕ) (kind : Kind) → (s : Going keeps told link now stand desk after reads count) → reads ≤ most_reads
-    → StopsTo kind (length desk.turns) s.pieces (cut_of (joined s.pieces)).1 (cut_of (joined s.pieces)).0 [] s.turned (session_text s.turned) count → LeftBy kind (told link) (told now) → GaveAll kind s.pieces → Stopping keeps told link now desk after kind count
-said_all keeps told link now stand desk after reads count kind s few how leaves gave =
+said_all : {S K : Type 0} (makes : S → List Exchange → S → Type 0) (grounds : S → Grounds) (laws : AreLawful makes grounds) (told : K → LinkState) (link now : K) (stand : Stand) (state after : S) (reads count : ℕ) (kind : Kind) → (s : Going makes told link now stand state after reads count) → reads ≤ most_reads
+    → StopsTo kind (grounds state) s.pieces (cut_of (joined s.pieces)).1 (cut_of (joined s.pieces)).0 [] s.turned (session_text s.turned) count → LeftBy kind (told link) (told now) → GaveAll kind s.pieces → Stopping makes grounds told link now state after kind count
+said_all makes grounds laws told link now stand state after reads count kind s few how leaves gave =
     record {
       pieces = s.pieces;
       front = (cut_of (joined s.pieces)).0;
@@ -292,10 +292,10 @@ said_all keeps told link now stand desk after reads count kind s few how leaves 
       gave = gave;
     }
 
-pub stopping_endless : {D K : Type 0} (keeps : D → Type 0) (told : K → LinkState) (link now : K) (stand : Stand) (desk after : DeskState D) (reads count : ℕ) → reads ≡ most_reads → Going keeps told link now stand desk after reads count
-    → Stopping keeps told link now desk after kinds.Endless count
-stopping_endless keeps told link now stand desk after reads count all s =
-    said_all keeps told link now stand desk after reads count kinds.Endless s (omega arith)
+pub stopping_endless : {S K : Type 0} (makes : S → List Exchange → S → Type 0) (grounds : S → Grounds) (laws : AreLawful makes grounds) (told : K → LinkState) (link now : K) (stand : Stand) (state after : S) (reads count : ℕ) → reads ≡ most_reads → Going makes told link now stand state after reads count
+    → Stopping makes grounds told link now state after kinds.Endless count
+stopping_endless makes grounds laws told link now stand state after reads count all s =
+    said_all makes grounds laws told link now stand state after reads count kinds.Endless s (omega arith)
     ((s.no_bye, refl, subst (λ (x : Stand). IsSome x) (sym s.stands) s.is_open, s.made ∙ all), (refl, s.count_is)) s.sound s.gave
 
 -- ---- the ending line
@@ -303,27 +303,28 @@ stopping_endless keeps told link now stand desk after reads count all s =
 whole_by : (kind : Kind) (turned : List Exchange) (text : List ℕ) (count total : ℕ) → IsSaid turned text count → total ≡ count + ending_count kind → IsWhole kind turned (text ++ ending_line kind) total
 whole_by kind turned text count total said sum = (ap (λ (l : List ℕ). l ++ ending_line kind) said.0, sum ∙ ap (λ (n : ℕ). n + ending_count kind) said.1)
 
-ends_by : (kind : Kind) (made : ℕ) (pieces : List (List ℕ)) (stand : Stand) (front later : List (List ℕ)) (turned : List Exchange) (text : List ℕ) (count : ℕ) → Reached kind made pieces stand front later turned → IsWhole kind turned text count
-    → Ends kind made pieces stand front later turned text count
-ends_by kinds.WriteFailed made pieces stand front later turned text count reached whole = absurd reached
-ends_by kinds.End made pieces stand front later turned text count reached whole = (reached, whole)
-ends_by kinds.Bye made pieces stand front later turned text count reached whole = (reached, whole)
-ends_by kinds.TooLong made pieces stand front later turned text count reached whole = (reached, whole)
-ends_by kinds.Worn made pieces stand front later turned text count reached whole = (reached, whole)
-ends_by kinds.Memory made pieces stand front later turned text count reached whole = (reached, whole)
-ends_by kinds.ReadFailed made pieces stand front later turned text count reached whole = (reached, whole)
-ends_by kinds.Endless made pieces stand front later turned text count reached whole = (reached, whole)
+ends_by : (kind : Kind) (grounds : Grounds) (pieces : List (List ℕ)) (stand : Stand) (front later : List (List ℕ)) (turned : List Exchange) (text : List ℕ) (count : ℕ) → Reached kind grounds pieces stand front later turned → IsWhole kind turned text count
+    → Ends kind grounds pieces stand front later turned text count
+ends_by kinds.WriteFailed grounds pieces stand front later turned text count reached whole = absurd reached
+ends_by kinds.End grounds pieces stand front later turned text count reached whole = (reached, whole)
+ends_by kinds.Bye grounds pieces stand front later turned text count reached whole = (reached, whole)
+ends_by kinds.TooLong grounds pieces stand front later turned text count reached whole = (reached, whole)
+ends_by kinds.Worn grounds pieces stand front later turned text count reached whole = (reached, whole)
+ends_by kinds.Memory grounds pieces stand front later turned text count reached whole = (reached, whole)
+ends_by kinds.ReadFailed grounds pieces stand front later turned text count reached whole = (reached, whole)
+ends_by kinds.Endless grounds pieces stand front later turned text count reached whole = (reached, whole)
+ends_by kinds.Foreign grounds pieces stand front later turned text count reached whole = (reached, whole)
 
 -- how it ended, and what the link tells then
-pub record Finished {D K : Type 0} (keeps : D → Type 0) (told : K → LinkState) (link final : K) (desk after : DeskState D) (end : Kind) (total : ℕ) : Type 0 where
-  pub ended : Ended keeps told link final desk after end total
+pub record Finished {S K : Type 0} (makes : S → List Exchange → S → Type 0) (grounds : S → Grounds) (told : K → LinkState) (link final : K) (state after : S) (end : Kind) (total : ℕ) : Type 0 where
+  pub ended : Ran makes grounds told link final state after end total
   pub leaves : Leaves end (told link) (told final)
 
 -- behind a session that stopped so, this more was written, and that is how it ends
-ended_then : {D K : Type 0} (keeps : D → Type 0) (told : K → LinkState) (link now final : K) (desk after : DeskState D) (kind end : Kind) (count total : ℕ) (more : List ℕ) → IsReached desk.held → (s : Stopping keeps told link now desk after kind count) → GaveAll end s.pieces
-    → Ends end (length desk.turns) s.pieces (cut_of (joined s.pieces)).1 s.front s.later s.turned (s.text ++ more) total → Appends (told now).held (told final).held more → (told final).left ≡ (told now).left → (told final).reads ≡ (told now).reads
-    → Ended keeps told link final desk after end total
-ended_then keeps told link now final desk after kind end count total more reach s gave ends sent left reads =
+ended_then : {S K : Type 0} (makes : S → List Exchange → S → Type 0) (grounds : S → Grounds) (laws : AreLawful makes grounds) (told : K → LinkState) (link now final : K) (state after : S) (kind end : Kind) (count total : ℕ) (more : List ℕ) → (s : Stopping makes grounds told link now state after kind count) → GaveAll end s.pieces
+    → Ends end (grounds state) s.pieces (cut_of (joined s.pieces)).1 s.front s.later s.turned (s.text ++ more) total → Appends (told now).held (told final).held more → (told final).left ≡ (told now).left → (told final).reads ≡ (told now).reads
+    → Ran makes grounds told link final state after end total
+ended_then makes grounds laws told link now final state after kind end count total more s gave ends sent left reads =
     record {
       pieces = s.pieces;
       turned = s.turned;
@@ -335,31 +336,30 @@ ended_then keeps told link now final desk after kind end count total more reach 
       reads = reads ∙ s.reads;
       few = s.few;
       prompt = s.prompt;
-      lines = lines_are_right desk.held after.held s.turned reach s.turns.served;
     }
 
 -- nothing more was written
-ended_so : {D K : Type 0} (keeps : D → Type 0) (told : K → LinkState) (link now final : K) (desk after : DeskState D) (kind : Kind) (count : ℕ) → IsReached desk.held → (s : Stopping keeps told link now desk after kind count)
-    → Ends kind (length desk.turns) s.pieces (cut_of (joined s.pieces)).1 s.front s.later s.turned s.text count → told final ≡ told now → Ended keeps told link final desk after kind count
-ended_so keeps told link now final desk after kind count reach s ends same =
-    ended_then keeps told link now final desk after kind kind count count [] reach s s.gave
-    (subst (λ (l : List ℕ). Ends kind (length desk.turns) s.pieces (cut_of (joined s.pieces)).1 s.front s.later s.turned l count) (sym (append-nil s.text)) ends)
+ended_so : {S K : Type 0} (makes : S → List Exchange → S → Type 0) (grounds : S → Grounds) (laws : AreLawful makes grounds) (told : K → LinkState) (link now final : K) (state after : S) (kind : Kind) (count : ℕ) → (s : Stopping makes grounds told link now state after kind count)
+    → Ends kind (grounds state) s.pieces (cut_of (joined s.pieces)).1 s.front s.later s.turned s.text count → told final ≡ told now → Ran makes grounds told link final state after kind count
+ended_so makes grounds laws told link now final state after kind count s ends same =
+    ended_then makes grounds laws told link now final state after kind kind count count [] s s.gave
+    (subst (λ (l : List ℕ). Ends kind (grounds state) s.pieces (cut_of (joined s.pieces)).1 s.front s.later s.turned l count) (sym (append-nil s.text)) ends)
     (subst (λ (h : Option (List ℕ)). Appends (told now).held h []) (sym (ap (λ (x : LinkState). x.held) same)) (appends_none (told now).held)) (ap (λ (x : LinkState). x.left) same) (ap (λ (x : LinkState). x.reads) same)
 
-closed_by : {D K : Type 0} (keeps : D → Type 0) (told : K → LinkState) (link now final : K) (desk after : DeskState D) (kind end : Kind) (count total : ℕ) → IsReached desk.held → (s : Stopping keeps told link now desk after kind count)
-    → Reached kind (length desk.turns) s.pieces (cut_of (joined s.pieces)).1 s.front s.later s.turned × IsSaid s.turned s.text count → IsSound (told link) (told now) → (IsSound (told link) (told final) → (told final).waiting ≡ [] → Leaves kind (told link) (told final))
-    → (GaveAll kind s.pieces → Gave s.pieces) → Closing kind (told now) (told final) count end total → Finished keeps told link final desk after end total
-closed_by keeps told link now final desk after kind end count total reach s how sound leaves plain c = elim c.closed [
+closed_by : {S K : Type 0} (makes : S → List Exchange → S → Type 0) (grounds : S → Grounds) (laws : AreLawful makes grounds) (told : K → LinkState) (link now final : K) (state after : S) (kind end : Kind) (count total : ℕ) → (s : Stopping makes grounds told link now state after kind count)
+    → Reached kind (grounds state) s.pieces (cut_of (joined s.pieces)).1 s.front s.later s.turned × IsSaid s.turned s.text count → IsSound (told link) (told now) → (IsSound (told link) (told final) → (told final).waiting ≡ [] → Leaves kind (told link) (told final))
+    → (GaveAll kind s.pieces → Gave s.pieces) → Closing kind (told now) (told final) count end total → Finished makes grounds told link final state after end total
+closed_by makes grounds laws told link now final state after kind end count total s how sound leaves plain c = elim c.closed [
   | inl w ↦ rw w.0 record {
-    ended = ended_then keeps told link now final desk after kind kind count total (ending_line kind) reach s s.gave
-        (ends_by kind (length desk.turns) s.pieces (cut_of (joined s.pieces)).1 s.front s.later s.turned (s.text ++ ending_line kind) total how.0 (whole_by kind s.turned s.text count total how.1 w.1)) w.2 c.left c.reads;
+    ended = ended_then makes grounds laws told link now final state after kind kind count total (ending_line kind) s s.gave
+        (ends_by kind (grounds state) s.pieces (cut_of (joined s.pieces)).1 s.front s.later s.turned (s.text ++ ending_line kind) total how.0 (whole_by kind s.turned s.text count total how.1 w.1)) w.2 c.left c.reads;
     leaves = leaves (sound_then (told link) (told now) (told final) sound w.3) w.4;
   }
   | inr w ↦ rw w.0 record {
     ended = elim w.2 [
-      | inl v ↦ ended_then keeps told link now final desk after kind kinds.WriteFailed count total v.1.0 reach s (plain s.gave)
+      | inl v ↦ ended_then makes grounds laws told link now final state after kind kinds.WriteFailed count total v.1.0 s (plain s.gave)
           (inr (kind, how.0, inl (record { part = v.1.0; short = v.1.1; text_is = ap (λ (l : List ℕ). l ++ v.1.0) how.1.0; count_is = v.0 ∙ how.1.1 }))) v.1.2 c.left c.reads
-      | inr v ↦ ended_then keeps told link now final desk after kind kinds.WriteFailed count total (ending_line kind) reach s (plain s.gave)
+      | inr v ↦ ended_then makes grounds laws told link now final state after kind kinds.WriteFailed count total (ending_line kind) s (plain s.gave)
           (inr (kind, how.0, inr (whole_by kind s.turned s.text count total how.1 v.0))) v.1 c.left c.reads
     ];
     leaves = fault_then (told link) (told now) (told final) sound w.1;
@@ -372,34 +372,35 @@ said_whole turned text count said = (said.0 ∙ sym (append-nil (session_text tu
 same_leaves : (kind : Kind) (old now final : LinkState) → final ≡ now → Leaves kind old now → Leaves kind old final
 same_leaves kind old now final same leaves = subst (λ (x : LinkState). Leaves kind old x) (sym same) leaves
 
-pub finished : {D K : Type 0} (keeps : D → Type 0) (told : K → LinkState) (link now final : K) (desk after : DeskState D) (kind end : Kind) (count total : ℕ) → IsReached desk.held → Stopping keeps told link now desk after kind count
-    → Closes kind (told now) (told final) count end total → Finished keeps told link final desk after end total
-finished keeps told link now final desk after kinds.End end count total reach s c =
+pub finished : {S K : Type 0} (makes : S → List Exchange → S → Type 0) (grounds : S → Grounds) (laws : AreLawful makes grounds) (told : K → LinkState) (link now final : K) (state after : S) (kind end : Kind) (count total : ℕ) → Stopping makes grounds told link now state after kind count
+    → Closes kind (told now) (told final) count end total → Finished makes grounds told link final state after end total
+finished makes grounds laws told link now final state after kinds.End end count total s c =
     rw (c.0, c.1) record {
-      ended = ended_so keeps told link now final desk after kinds.End count reach s (s.how.0, said_whole s.turned s.text count s.how.1) c.2;
+      ended = ended_so makes grounds laws told link now final state after kinds.End count s (s.how.0, said_whole s.turned s.text count s.how.1) c.2;
       leaves = same_leaves kinds.End (told link) (told now) (told final) c.2 s.leaves;
     }
-finished keeps told link now final desk after kinds.ReadFailed end count total reach s c =
+finished makes grounds laws told link now final state after kinds.ReadFailed end count total s c =
     rw (c.0, c.1) record {
-      ended = ended_so keeps told link now final desk after kinds.ReadFailed count reach s (s.how.0, said_whole s.turned s.text count s.how.1) c.2;
+      ended = ended_so makes grounds laws told link now final state after kinds.ReadFailed count s (s.how.0, said_whole s.turned s.text count s.how.1) c.2;
       leaves = same_leaves kinds.ReadFailed (told link) (told now) (told final) c.2 s.leaves;
     }
-finished keeps told link now final desk after kinds.WriteFailed end count total reach s c =
+finished makes grounds laws told link now final state after kinds.WriteFailed end count total s c =
     rw (c.0, c.1) record {
-      ended = ended_so keeps told link now final desk after kinds.WriteFailed count reach s (inl s.how) c.2;
+      ended = ended_so makes grounds laws told link now final state after kinds.WriteFailed count s (inl s.how) c.2;
       leaves = same_leaves kinds.WriteFailed (told link) (told now) (told final) c.2 s.leaves;
     }
-finished keeps told link now final desk after kinds.Bye end count total reach s c = closed_by keeps told link now final desk after kinds.Bye end count total reach s s.how s.leaves (λ sound nothing. (sound, nothing)) (λ g. g) c
-finished keeps told link now final desk after kinds.TooLong end count total reach s c = closed_by keeps told link now final desk after kinds.TooLong end count total reach s s.how s.leaves (λ sound nothing. (sound, nothing)) (λ g. g) c
-finished keeps told link now final desk after kinds.Worn end count total reach s c = closed_by keeps told link now final desk after kinds.Worn end count total reach s s.how s.leaves (λ sound nothing. (sound, nothing)) (λ g. g) c
-finished keeps told link now final desk after kinds.Memory end count total reach s c = closed_by keeps told link now final desk after kinds.Memory end count total reach s s.how s.leaves (λ sound nothing. (sound, nothing)) (λ g. g) c
-finished keeps told link now final desk after kinds.Endless end count total reach s c = closed_by keeps told link now final desk after kinds.Endless end count total reach s s.how s.leaves (λ sound nothing. (sound, nothing)) (λ g. g) c
+finished makes grounds laws told link now final state after kinds.Bye end count total s c = closed_by makes grounds laws told link now final state after kinds.Bye end count total s s.how s.leaves (λ sound nothing. (sound, nothing)) (λ g. g) c
+finished makes grounds laws told link now final state after kinds.TooLong end count total s c = closed_by makes grounds laws told link now final state after kinds.TooLong end count total s s.how s.leaves (λ sound nothing. (sound, nothing)) (λ g. g) c
+finished makes grounds laws told link now final state after kinds.Worn end count total s c = closed_by makes grounds laws told link now final state after kinds.Worn end count total s s.how s.leaves (λ sound nothing. (sound, nothing)) (λ g. g) c
+finished makes grounds laws told link now final state after kinds.Memory end count total s c = closed_by makes grounds laws told link now final state after kinds.Memory end count total s s.how s.leaves (λ sound nothing. (sound, nothing)) (λ g. g) c
+finished makes grounds laws told link now final state after kinds.Endless end count total s c = closed_by makes grounds laws told link now final state after kinds.Endless end count total s s.how s.leaves (λ sound nothing. (sound, nothing)) (λ g. g) c
+finished makes grounds laws told link now final state after kinds.Foreign end count total s c = closed_by makes grounds laws told link now final state after kinds.Foreign end count total s s.how s.leaves (λ sound nothing. (sound, nothing)) (λ g. g) c
 
 -- what was written could not be handed on before a read
-pub not_handed_on : {D K E : Type 0} (keeps : D → Type 0) (told : K → LinkState) (link now final : K) (stand : Stand) (desk after : DeskState D) (reads count : ℕ) (e : E) → reads ≤ most_reads → IsReached desk.held → Going keeps told link now stand desk after reads count
-    → IsHandOn (told now) (told final) (Err e) → Finished keeps told link final desk after kinds.WriteFailed count
-not_handed_on keeps told link now final stand desk after reads count e few reach s hand =
-    let all : Reached kinds.End (length desk.turns) s.pieces (cut_of (joined s.pieces)).1 (cut_of (joined s.pieces)).0 [] s.turned = (s.no_bye, refl, subst (λ (x : Stand). IsSome x) (sym s.stands) s.is_open) in
+pub not_handed_on : {S K E : Type 0} (makes : S → List Exchange → S → Type 0) (grounds : S → Grounds) (laws : AreLawful makes grounds) (told : K → LinkState) (link now final : K) (stand : Stand) (state after : S) (reads count : ℕ) (e : E) → reads ≤ most_reads → Going makes told link now stand state after reads count
+    → IsHandOn (told now) (told final) (Err e) → Finished makes grounds told link final state after kinds.WriteFailed count
+not_handed_on makes grounds laws told link now final stand state after reads count e few s hand =
+    let all : Reached kinds.End (grounds state) s.pieces (cut_of (joined s.pieces)).1 (cut_of (joined s.pieces)).0 [] s.turned = (s.no_bye, refl, subst (λ (x : Stand). IsSome x) (sym s.stands) s.is_open) in
     record {
       ended = record {
         pieces = s.pieces;
@@ -419,7 +420,6 @@ not_handed_on keeps told link now final stand desk after reads count e few reach
         reads = hand.reads ∙ s.reads_are ∙ ap (λ (n : ℕ). up n (told link).reads) (sym s.made);
         few = omega (arith, s.made);
         prompt = s.prompt;
-        lines = lines_are_right desk.held after.held s.turned reach s.turns.served;
       };
       leaves = inl (rw s.sound.failures at hand.failures, hand.stalls ∙ s.sound.stalls);
     }

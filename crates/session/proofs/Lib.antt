@@ -1,8 +1,10 @@
 mod Sent
-mod Served
+mod ServedTurns
 mod ServeSteps
 mod Steps
 mod Ending
+mod OverDesk
+mod Gaining
 mod Places
 mod Unfailing
 mod TurnSteps

@@ -1,10 +1,10 @@
 -- What is held behind exchanges, and that admission reaches it.
-use Rattle.std.proofs.Common.{◌≡◌, List, [], ◌∷◌, ◌++◌, sym, ◌∙◌, ap, subst}
+use Rattle.std.proofs.Common.{◌≡◌, List, [], ◌∷◌, ◌++◌, ◌∙◌, ap, subst}
 use Rattle.report_line.specs.declared.call.Call.{Call}
 use Rattle.report_line.specs.declared.call.Call.TheVariants as calls
 use Rattle.report_line.specs.declared.reply.Reply.{Reply}
 use Rattle.chains.specs.Held.{Held}
-use Rattle.chains.specs.Admission.{IsReached, held_after}
+use Rattle.chains.specs.Admission.{IsReached}
 use Rattle.chains.specs.Turns.{IsTurn}
 use Rattle.chains.proofs.Turning.{unchanged, after_report_turn, turn_reached}
 use Rattle.session.specs.SessionText.{Exchange}

@@ -2,15 +2,13 @@
 use Rattle.std.proofs.Common.{◌≡◌, ℕ, ◌≤◌, ◌<◌, List, [], ◌∷◌, ◌++◌, length, take, Option, Some, None, Ok, Err, refl, sym, ap, subst, ◌∙◌, arith, inl, inr, true, false}
 use Rattle.std.specs.Prelude.{Bool, ◌==◌, nat_lt, if◌then◌else◌}
 use Rattle.std.specs.Io.KnownBytes.{Appends, Consumes, Keeps}
-use Rattle.desk.specs.Desks.{DeskState}
 use Rattle.report_line.specs.Cutting.{Stand, onto, cut_from}
 use Rattle.session.specs.declared.kind.Kind.{Kind}
 use Rattle.session.specs.declared.kind.Kind.TheVariants as kinds
 use Rattle.session.specs.Links.{LinkState, IsRead}
-use Rattle.session.specs.SessionText.{Exchange}
-use Rattle.session.specs.Parts.{HowFar, FaultsAt, Serves, Follows, StepsTo, IsQuiet, GaveBy, Steps}
+use Rattle.session.specs.SessionText.{Exchange, Grounds}
+use Rattle.session.specs.Parts.{AreLawful, HowFar, FaultsAt, Serves, Follows, StepsTo, IsQuiet, GaveBy, Steps}
 use Rattle.session.proofs.Sent.{appends_none}
-use Rattle.session.proofs.Served.{no_turns}
 use Rattle.session.proofs.ServeSteps.{faults_then}
 
 pub consumes_keeps_none : (a b : Option (List ℕ)) → Keeps a b → Consumes a b []
@@ -27,9 +25,9 @@ abbrev same_held : (a b : Option (List ℕ)) → b ≡ a → Appends a b []
 same_held a b same = subst (λ (x : Option (List ℕ)). Appends a x []) (sym same) (appends_none a)
 
 -- a read that failed
-pub read_failed : {D E : Type 0} (keeps : D → Type 0) (old new : LinkState) (stand : Stand) (desk : DeskState D) (e : E) (buf : List ℕ) → ¬ (stand ≡ None) → IsRead old new (Err e) buf → Steps keeps old new stand stand desk desk (Some kinds.ReadFailed) 0
-read_failed keeps old new None desk e buf some read = absurd (some refl)
-read_failed keeps old new (Some rest) desk e buf some read =
+pub read_failed : {S E : Type 0} (makes : S → List Exchange → S → Type 0) (grounds : S → Grounds) (laws : AreLawful makes grounds) (old new : LinkState) (stand : Stand) (state : S) (e : E) (buf : List ℕ) → ¬ (stand ≡ None) → IsRead old new (Err e) buf → Steps makes grounds old new stand stand state state (Some kinds.ReadFailed) 0
+read_failed makes grounds laws old new None state e buf some read = absurd (some refl)
+read_failed makes grounds laws old new (Some rest) state e buf some read =
     record {
       piece = [];
       front = [];
@@ -38,8 +36,8 @@ read_failed keeps old new (Some rest) desk e buf some read =
       text = [];
       lines_are = ap (λ (cut : List (List ℕ) × Stand). cut.0) (nothing_cut rest);
       mean = tt;
-      turns = no_turns keeps desk;
-      how = subst (λ (cut : List (List ℕ) × Stand). StepsTo (Some kinds.ReadFailed) (length desk.turns) cut.1 [] [] [] [] 0) (sym (nothing_cut rest)) (tt, refl, refl, (refl, refl));
+      turns = laws.none state;
+      how = subst (λ (cut : List (List ℕ) × Stand). StepsTo (Some kinds.ReadFailed) (grounds state) cut.1 [] [] [] [] 0) (sym (nothing_cut rest)) (tt, refl, refl, (refl, refl));
       stands = λ none. absurd cc;
       consumed = consumes_keeps_none old.left new.left read.bytes;
       written = same_held old.held new.held read.held;
@@ -50,10 +48,10 @@ read_failed keeps old new (Some rest) desk e buf some read =
     }
 
 -- a read at the end
-pub read_end : {D E : Type 0} (keeps : D → Type 0) (old new : LinkState) (stand : Stand) (desk : DeskState D) (n : ℕ) (buf : List ℕ) → ¬ (stand ≡ None) → n ≡ 0 → 0 < length buf → IsRead {E = E} old new (Ok n) buf
-    → Steps keeps old new stand stand desk desk (Some kinds.End) 0
-read_end keeps old new None desk n buf some none room read = absurd (some refl)
-read_end keeps old new (Some rest) desk n buf some none room read =
+pub read_end : {S E : Type 0} (makes : S → List Exchange → S → Type 0) (grounds : S → Grounds) (laws : AreLawful makes grounds) (old new : LinkState) (stand : Stand) (state : S) (n : ℕ) (buf : List ℕ) → ¬ (stand ≡ None) → n ≡ 0 → 0 < length buf → IsRead {E = E} old new (Ok n) buf
+    → Steps makes grounds old new stand stand state state (Some kinds.End) 0
+read_end makes grounds laws old new None state n buf some none room read = absurd (some refl)
+read_end makes grounds laws old new (Some rest) state n buf some none room read =
     record {
       piece = [];
       front = [];
@@ -62,8 +60,8 @@ read_end keeps old new (Some rest) desk n buf some none room read =
       text = [];
       lines_are = ap (λ (cut : List (List ℕ) × Stand). cut.0) (nothing_cut rest);
       mean = tt;
-      turns = no_turns keeps desk;
-      how = subst (λ (cut : List (List ℕ) × Stand). StepsTo (Some kinds.End) (length desk.turns) cut.1 [] [] [] [] 0) (sym (nothing_cut rest)) (tt, refl, refl, (refl, refl));
+      turns = laws.none state;
+      how = subst (λ (cut : List (List ℕ) × Stand). StepsTo (Some kinds.End) (grounds state) cut.1 [] [] [] [] 0) (sym (nothing_cut rest)) (tt, refl, refl, (refl, refl));
       stands = λ never. absurd cc;
       consumed = rw none at read.bytes.0;
       written = same_held old.held new.held read.held;
@@ -74,9 +72,9 @@ read_end keeps old new (Some rest) desk n buf some none room read =
     }
 
 -- no memory for the lines of a piece
-pub read_refused : {D E : Type 0} (keeps : D → Type 0) (old new : LinkState) (stand stand_after : Stand) (desk : DeskState D) (n : ℕ) (buf : List ℕ) → 0 < length (take n buf) → IsRead {E = E} old new (Ok n) buf
-    → Steps keeps old new stand stand_after desk desk (Some kinds.Memory) 0
-read_refused keeps old new stand stand_after desk n buf some read =
+pub read_refused : {S E : Type 0} (makes : S → List Exchange → S → Type 0) (grounds : S → Grounds) (laws : AreLawful makes grounds) (old new : LinkState) (stand stand_after : Stand) (state : S) (n : ℕ) (buf : List ℕ) → 0 < length (take n buf) → IsRead {E = E} old new (Ok n) buf
+    → Steps makes grounds old new stand stand_after state state (Some kinds.Memory) 0
+read_refused makes grounds laws old new stand stand_after state n buf some read =
     record {
       piece = take n buf;
       front = [];
@@ -85,7 +83,7 @@ read_refused keeps old new stand stand_after desk n buf some read =
       text = [];
       lines_are = refl;
       mean = tt;
-      turns = no_turns keeps desk;
+      turns = laws.none state;
       how = (tt, inl refl, (refl, refl));
       stands = λ none. absurd cc;
       consumed = read.bytes.0;
@@ -96,51 +94,54 @@ read_refused keeps old new stand stand_after desk n buf some read =
       reads = read.counted;
     }
 
-steps_by : (from end : Option Kind) (made : ℕ) (stand : Stand) (front later : List (List ℕ)) (turned : List Exchange) (text : List ℕ) (count : ℕ) → Follows from stand end → HowFar from made later turned text count → StepsTo end made stand front later turned text count
-steps_by None end made stand front later turned text count (inl f) far = rw f.1 (far.0, far.1, f.0, far.2)
-steps_by None end made stand front later turned text count (inr f) far = rw f.1 (far.0, far.1, f.0, far.2)
-steps_by (Some kinds.Bye) end made stand front later turned text count f far = rw f far
-steps_by (Some kinds.Worn) end made stand front later turned text count f far = rw f far
-steps_by (Some kinds.Memory) end made stand front later turned text count f far = rw f (far.0, inr far.1, far.2)
-steps_by (Some kinds.WriteFailed) end made stand front later turned text count f far = rw f far
-steps_by (Some kinds.End) end made stand front later turned text count f far = absurd far
-steps_by (Some kinds.TooLong) end made stand front later turned text count f far = absurd far
-steps_by (Some kinds.ReadFailed) end made stand front later turned text count f far = absurd far
-steps_by (Some kinds.Endless) end made stand front later turned text count f far = absurd far
+steps_by : (from end : Option Kind) (grounds : Grounds) (stand : Stand) (front later : List (List ℕ)) (turned : List Exchange) (text : List ℕ) (count : ℕ) → Follows from stand end → HowFar from grounds later turned text count → StepsTo end grounds stand front later turned text count
+steps_by None end grounds stand front later turned text count (inl f) far = rw f.1 (far.0, far.1, f.0, far.2)
+steps_by None end grounds stand front later turned text count (inr f) far = rw f.1 (far.0, far.1, f.0, far.2)
+steps_by (Some kinds.Bye) end grounds stand front later turned text count f far = rw f far
+steps_by (Some kinds.Worn) end grounds stand front later turned text count f far = rw f far
+steps_by (Some kinds.Foreign) end grounds stand front later turned text count f far = rw f far
+steps_by (Some kinds.Memory) end grounds stand front later turned text count f far = rw f (far.0, inr far.1, far.2)
+steps_by (Some kinds.WriteFailed) end grounds stand front later turned text count f far = rw f far
+steps_by (Some kinds.End) end grounds stand front later turned text count f far = absurd far
+steps_by (Some kinds.TooLong) end grounds stand front later turned text count f far = absurd far
+steps_by (Some kinds.ReadFailed) end grounds stand front later turned text count f far = absurd far
+steps_by (Some kinds.Endless) end grounds stand front later turned text count f far = absurd far
 
-quiet_by : (from end : Option Kind) (made : ℕ) (old new : LinkState) (stand : Stand) (later : List (List ℕ)) (turned : List Exchange) (text : List ℕ) (count : ℕ) → Follows from stand end → HowFar from made later turned text count → IsQuiet end old new
-quiet_by None end made old new stand later turned text count (inl f) far = rw f.1 tt
-quiet_by None end made old new stand later turned text count (inr f) far = rw f.1 tt
-quiet_by (Some kinds.Bye) end made old new stand later turned text count f far = rw f tt
-quiet_by (Some kinds.Worn) end made old new stand later turned text count f far = rw f tt
-quiet_by (Some kinds.Memory) end made old new stand later turned text count f far = rw f tt
-quiet_by (Some kinds.WriteFailed) end made old new stand later turned text count f far = rw f tt
-quiet_by (Some kinds.End) end made old new stand later turned text count f far = absurd far
-quiet_by (Some kinds.TooLong) end made old new stand later turned text count f far = absurd far
-quiet_by (Some kinds.ReadFailed) end made old new stand later turned text count f far = absurd far
-quiet_by (Some kinds.Endless) end made old new stand later turned text count f far = absurd far
+quiet_by : (from end : Option Kind) (grounds : Grounds) (old new : LinkState) (stand : Stand) (later : List (List ℕ)) (turned : List Exchange) (text : List ℕ) (count : ℕ) → Follows from stand end → HowFar from grounds later turned text count → IsQuiet end old new
+quiet_by None end grounds old new stand later turned text count (inl f) far = rw f.1 tt
+quiet_by None end grounds old new stand later turned text count (inr f) far = rw f.1 tt
+quiet_by (Some kinds.Bye) end grounds old new stand later turned text count f far = rw f tt
+quiet_by (Some kinds.Worn) end grounds old new stand later turned text count f far = rw f tt
+quiet_by (Some kinds.Foreign) end grounds old new stand later turned text count f far = rw f tt
+quiet_by (Some kinds.Memory) end grounds old new stand later turned text count f far = rw f tt
+quiet_by (Some kinds.WriteFailed) end grounds old new stand later turned text count f far = rw f tt
+quiet_by (Some kinds.End) end grounds old new stand later turned text count f far = absurd far
+quiet_by (Some kinds.TooLong) end grounds old new stand later turned text count f far = absurd far
+quiet_by (Some kinds.ReadFailed) end grounds old new stand later turned text count f far = absurd far
+quiet_by (Some kinds.Endless) end grounds old new stand later turned text count f far = absurd far
 
 faults_by : (from end : Option Kind) (old new : LinkState) (stand : Stand) → Follows from stand end → FaultsAt from old new → FaultsAt end old new
 faults_by None end old new stand (inl f) faults = rw f.1 faults
 faults_by None end old new stand (inr f) faults = rw f.1 faults
 faults_by (Some kind) end old new stand f faults = rw f faults
 
-gave_by : (from end : Option Kind) (made : ℕ) (stand : Stand) (later : List (List ℕ)) (turned : List Exchange) (text : List ℕ) (count : ℕ) (piece : List ℕ) → Follows from stand end → HowFar from made later turned text count → 0 < length piece → GaveBy end piece
-gave_by None end made stand later turned text count piece (inl f) far some = rw f.1 some
-gave_by None end made stand later turned text count piece (inr f) far some = rw f.1 some
-gave_by (Some kinds.Bye) end made stand later turned text count piece f far some = rw f some
-gave_by (Some kinds.Worn) end made stand later turned text count piece f far some = rw f some
-gave_by (Some kinds.Memory) end made stand later turned text count piece f far some = rw f some
-gave_by (Some kinds.WriteFailed) end made stand later turned text count piece f far some = rw f some
-gave_by (Some kinds.End) end made stand later turned text count piece f far some = absurd far
-gave_by (Some kinds.TooLong) end made stand later turned text count piece f far some = absurd far
-gave_by (Some kinds.ReadFailed) end made stand later turned text count piece f far some = absurd far
-gave_by (Some kinds.Endless) end made stand later turned text count piece f far some = absurd far
+gave_by : (from end : Option Kind) (grounds : Grounds) (stand : Stand) (later : List (List ℕ)) (turned : List Exchange) (text : List ℕ) (count : ℕ) (piece : List ℕ) → Follows from stand end → HowFar from grounds later turned text count → 0 < length piece → GaveBy end piece
+gave_by None end grounds stand later turned text count piece (inl f) far some = rw f.1 some
+gave_by None end grounds stand later turned text count piece (inr f) far some = rw f.1 some
+gave_by (Some kinds.Bye) end grounds stand later turned text count piece f far some = rw f some
+gave_by (Some kinds.Worn) end grounds stand later turned text count piece f far some = rw f some
+gave_by (Some kinds.Foreign) end grounds stand later turned text count piece f far some = rw f some
+gave_by (Some kinds.Memory) end grounds stand later turned text count piece f far some = rw f some
+gave_by (Some kinds.WriteFailed) end grounds stand later turned text count piece f far some = rw f some
+gave_by (Some kinds.End) end grounds stand later turned text count piece f far some = absurd far
+gave_by (Some kinds.TooLong) end grounds stand later turned text count piece f far some = absurd far
+gave_by (Some kinds.ReadFailed) end grounds stand later turned text count piece f far some = absurd far
+gave_by (Some kinds.Endless) end grounds stand later turned text count piece f far some = absurd far
 
 -- the lines of a piece were served
-pub read_served : {D E : Type 0} (keeps : D → Type 0) (from end : Option Kind) (old mid new : LinkState) (stand stand_after : Stand) (desk after : DeskState D) (n count : ℕ) (buf : List ℕ) (lines : List (List ℕ)) → 0 < length (take n buf) → IsRead {E = E} old mid (Ok n) buf
-    → cut_from stand (take n buf) ≡ (lines, stand_after) → Serves keeps mid new lines desk after from count → Follows from stand_after end → Steps keeps old new stand stand_after desk after end count
-read_served keeps from end old mid new stand stand_after desk after n count buf lines some read cut s follows =
+pub read_served : {S E : Type 0} (makes : S → List Exchange → S → Type 0) (grounds : S → Grounds) (laws : AreLawful makes grounds) (from end : Option Kind) (old mid new : LinkState) (stand stand_after : Stand) (state after : S) (n count : ℕ) (buf : List ℕ) (lines : List (List ℕ)) → 0 < length (take n buf) → IsRead {E = E} old mid (Ok n) buf
+    → cut_from stand (take n buf) ≡ (lines, stand_after) → Serves makes grounds mid new lines state after from count → Follows from stand_after end → Steps makes grounds old new stand stand_after state after end count
+read_served makes grounds laws from end old mid new stand stand_after state after n count buf lines some read cut s follows =
     record {
       piece = take n buf;
       front = s.front;
@@ -150,13 +151,13 @@ read_served keeps from end old mid new stand stand_after desk after n count buf 
       lines_are = ap (λ (c : List (List ℕ) × Stand). c.0) cut ∙ s.lines_are;
       mean = s.mean;
       turns = s.turns;
-      how = subst (λ (c : List (List ℕ) × Stand). StepsTo end (length desk.turns) c.1 s.front s.later s.turned s.text count) (sym cut) (steps_by from end (length desk.turns) stand_after s.front s.later s.turned s.text count follows s.how);
+      how = subst (λ (c : List (List ℕ) × Stand). StepsTo end (grounds state) c.1 s.front s.later s.turned s.text count) (sym cut) (steps_by from end (grounds state) stand_after s.front s.later s.turned s.text count follows s.how);
       stands = λ none. ap (λ (c : List (List ℕ) × Stand). c.1) cut;
       consumed = subst (λ (l : Option (List ℕ)). Consumes old.left l (take n buf)) (sym s.left) read.bytes.0;
       written = subst (λ (h : Option (List ℕ)). Appends h new.held s.text) read.held s.written;
       faults = faults_then end old mid new (record { failures = read.failures; stalls = read.stalls }) (faults_by from end mid new stand_after follows s.faults);
-      quiet = quiet_by from end (length desk.turns) old new stand_after s.later s.turned s.text count follows s.how;
-      gave = gave_by from end (length desk.turns) stand_after s.later s.turned s.text count (take n buf) follows s.how some;
+      quiet = quiet_by from end (grounds state) old new stand_after s.later s.turned s.text count follows s.how;
+      gave = gave_by from end (grounds state) stand_after s.later s.turned s.text count (take n buf) follows s.how some;
       reads = s.reads ∙ read.counted;
     }
 

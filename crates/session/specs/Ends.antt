@@ -6,7 +6,7 @@ use Rattle.report_line.specs.Cutting.{cut_of}
 use Rattle.session.specs.declared.kind.Kind.{Kind}
 use Rattle.session.specs.declared.kind.Kind.TheVariants as kinds
 use Rattle.session.specs.Links.{up, LinkState, IsSound, IsFault}
-use Rattle.session.specs.SessionText.{Exchange, NoBye, session_text, joined, most_reads, IsSession}
+use Rattle.session.specs.SessionText.{Exchange, NoBye, session_text, joined, most_reads, at_desk, IsSession}
 use Rattle.session.specs.Turned.{MakesTurns}
 use Rattle.session.specs.Headline.{EachLineIsRight}
 
@@ -35,7 +35,7 @@ pub record Ended {D K : Type 0} (keeps : D → Type 0) (told : K → LinkState) 
   pub pieces : List (List ℕ)
   pub turned : List Exchange
   pub text : List ℕ
-  pub session : IsSession (length desk.turns) pieces kind turned text count
+  pub session : IsSession (at_desk (length desk.turns)) pieces kind turned text count
   pub turns : MakesTurns keeps desk turned after
   pub consumed : Consumes (told link).left (told after_link).left (joined pieces)
   pub written : Appends (told link).held (told after_link).held text

@@ -4,3 +4,6 @@ pub mod Turned
 pub mod Ends
 pub mod Parts
 pub mod Headline
+pub mod Gained
+pub mod Memory
+pub mod Sessions

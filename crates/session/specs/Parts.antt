@@ -1,5 +1,5 @@
 -- Working definitions: the parts of a session.
-use Rattle.std.specs.Prelude.{◌≡◌, ◌≢◌, ℕ, ◌+◌, ◌<◌, ◌⊎◌, List, [], ◌∷◌, ◌++◌, length, Option, Some, None, IsSome, IsNone, Result, Ok, Err, codes, ⊤}
+use Rattle.std.specs.Prelude.{◌≡◌, ◌≢◌, ℕ, ◌+◌, ◌<◌, ◌≤◌, ◌⊎◌, List, [], ◌∷◌, ◌++◌, length, Option, Some, None, IsSome, IsNone, Result, Ok, Err, ⊤}
 use Rattle.std.specs.Io.KnownBytes.{Appends, Consumes, IsAtEnd}
 use Rattle.desk.specs.Desks.{DeskState}
 use Rattle.desk.specs.Files.{MayWantMemory}
@@ -11,11 +11,15 @@ use Rattle.report_line.specs.declared.call.Call.TheVariants as calls
 use Rattle.report_line.specs.declared.fault.LineFault.{LineFault}
 use Rattle.report_line.specs.declared.fault.LineFault.TheVariants as faults
 use Rattle.report_line.specs.declared.reply.Reply.{Reply}
-use Rattle.report_line.specs.Cutting.{Stand, cut_from, cut_of}
+use Rattle.report_line.specs.Cutting.{Stand, ended, cut_from, cut_of}
+use Rattle.report_line.specs.Replies.{reply_text}
+use Rattle.coordinator.specs.Passes.{PassEntry}
+use Rattle.coordinator.specs.declared.fault.CallFault.{CallFault}
+use Rattle.coordinator.specs.declared.fault.CallFault.TheVariants as refused
 use Rattle.session.specs.declared.kind.Kind.{Kind}
 use Rattle.session.specs.declared.kind.Kind.TheVariants as kinds
-use Rattle.session.specs.Links.{up, LinkState, IsSound, IsFault}
-use Rattle.session.specs.SessionText.{Exchange, Mean, NoBye, LastSaysBye, StartsWithQuestion, IsWorn, session_text, ending_line, ending_count, IsCutShort, IsCutInReply, joined, Gave}
+use Rattle.session.specs.Links.{up, LinkState, IsSound, IsFault, Puts}
+use Rattle.session.specs.SessionText.{Exchange, Mean, NoBye, LastSaysBye, Grounds, IsWorn, IsUnmade, IsForeign, session_text, ending_line, ending_count, IsCutShort, IsCutInReply, joined, most_reads, Gave, IsSession}
 use Rattle.session.specs.Turned.{MakesTurns}
 use Rattle.session.specs.Ends.{IsPrompt}
 
@@ -42,20 +46,42 @@ abbrev pub MakesTurn : {D : Type 0} → (D → Type 0) → DeskState D → Call 
 MakesTurn keeps desk call after (Ok shown) = (reply : Reply) × MakesTurns keeps desk (record { call = call; reply = reply; shown = shown } ∷ []) after
 MakesTurn keeps desk call after (Err fault) = (after ≡ desk) × TakesNone desk call fault
 
+-- why the session ends where a coordinator's call made no turn
+abbrev pub refused_as : CallFault → Kind
+refused_as (refused.Foreign front seen turns last) = kinds.Foreign
+refused_as refused.Worn = kinds.Worn
+refused_as refused.Memory = kinds.Memory
+
+-- the reply that is shown last was sent, with an LF
+abbrev pub PutsLast : {E : Type 0} → List PassEntry → LinkState → LinkState → Result (Unit {0}) E → Type 0
+PutsLast entries old new result = (before : List PassEntry) (last : PassEntry) → entries ≡ before ++ last ∷ [] → Puts old new result (ended (reply_text last.shown))
+
+-- ---- what turns are made over
+
+-- What the turns of exchanges do to what they are made over, and what a session text knows of it, fit together: no turns do
+-- nothing, turns may be made one after the other, and why a call has none is told from the beginning on.
+pub record AreLawful {S : Type 0} (makes : S → List Exchange → S → Type 0) (grounds : S → Grounds) : Type 0 where
+  pub none : (s : S) → makes s [] s
+  pub one_by_one : (s mid after : S) (es fs : List Exchange) → makes s es mid → makes mid fs after → makes s (es ++ fs) after
+  pub worn : (s mid : S) (es fs : List Exchange) → makes s es mid → IsWorn (grounds mid) fs → IsWorn (grounds s) (es ++ fs)
+  pub unmade : (s mid : S) (later : List (List ℕ)) (es fs : List Exchange) → makes s es mid → IsUnmade (grounds mid) later fs → IsUnmade (grounds s) later (es ++ fs)
+  pub foreign : (s mid : S) (es fs : List Exchange) → makes s es mid → IsForeign (grounds mid) fs → IsForeign (grounds s) (es ++ fs)
+
 -- ---- lines
 
 -- the replies were written, and no more
 abbrev pub IsSaid : List Exchange → List ℕ → ℕ → Type 0
 IsSaid turned text count = (text ≡ session_text turned) × (count ≡ length turned)
 
--- How far lines were answered, where serving them ends so, with so many turns made before; None where all of them were.
-abbrev pub HowFar : Option Kind → ℕ → List (List ℕ) → List Exchange → List ℕ → ℕ → Type 0
-HowFar None made later turned text count = NoBye turned × (later ≡ []) × IsSaid turned text count
-HowFar (Some kinds.Bye) made later turned text count = LastSaysBye turned × IsSaid turned text count
-HowFar (Some kinds.Worn) made later turned text count = NoBye turned × ((later ≢ []) × IsWorn made turned) × IsSaid turned text count
-HowFar (Some kinds.Memory) made later turned text count = NoBye turned × (StartsWithQuestion later × ¬ IsWorn made turned) × IsSaid turned text count
-HowFar (Some kinds.WriteFailed) made later turned text count = IsCutInReply turned text count
-HowFar _ made later turned text count = ⊥
+-- How far lines were answered, where serving them ends so, over this; None where all of them were.
+abbrev pub HowFar : Option Kind → Grounds → List (List ℕ) → List Exchange → List ℕ → ℕ → Type 0
+HowFar None grounds later turned text count = NoBye turned × (later ≡ []) × IsSaid turned text count
+HowFar (Some kinds.Bye) grounds later turned text count = LastSaysBye turned × IsSaid turned text count
+HowFar (Some kinds.Worn) grounds later turned text count = NoBye turned × ((later ≢ []) × IsWorn grounds turned) × IsSaid turned text count
+HowFar (Some kinds.Foreign) grounds later turned text count = NoBye turned × ((later ≢ []) × IsForeign grounds turned) × IsSaid turned text count
+HowFar (Some kinds.Memory) grounds later turned text count = NoBye turned × IsUnmade grounds later turned × IsSaid turned text count
+HowFar (Some kinds.WriteFailed) grounds later turned text count = IsCutInReply turned text count
+HowFar _ grounds later turned text count = ⊥
 
 -- the calls that failed, where it ends so
 abbrev pub FaultsAt : Option Kind → LinkState → LinkState → Type 0
@@ -64,15 +90,15 @@ FaultsAt (Some kinds.WriteFailed) old new = IsFault old new
 FaultsAt _ old new = IsSound old new
 
 -- lines were served: so many replies were written whole
-pub record Serves {D : Type 0} (keeps : D → Type 0) (old new : LinkState) (lines : List (List ℕ)) (desk after : DeskState D) (end : Option Kind) (count : ℕ) : Type 0 where
+pub record Serves {S : Type 0} (makes : S → List Exchange → S → Type 0) (grounds : S → Grounds) (old new : LinkState) (lines : List (List ℕ)) (state after : S) (end : Option Kind) (count : ℕ) : Type 0 where
   pub front : List (List ℕ)
   pub later : List (List ℕ)
   pub turned : List Exchange
   pub text : List ℕ
   pub lines_are : lines ≡ front ++ later
   pub mean : Mean front turned
-  pub turns : MakesTurns keeps desk turned after
-  pub how : HowFar end (length desk.turns) later turned text count
+  pub turns : makes state turned after
+  pub how : HowFar end (grounds state) later turned text count
   pub written : Appends old.held new.held text
   pub faults : FaultsAt end old new
   pub left : new.left ≡ old.left
@@ -91,17 +117,17 @@ abbrev pub Follows : Option Kind → Stand → Option Kind → Type 0
 Follows None stand end = (IsSome stand × (end ≡ None)) ⊎ (IsNone stand × (end ≡ Some kinds.TooLong))
 Follows (Some kind) stand end = end ≡ Some kind
 
--- How far the lines that a read completes were answered, where the session ends so, with so many turns made before; None where
--- it goes on.
-abbrev pub StepsTo : Option Kind → ℕ → Stand → List (List ℕ) → List (List ℕ) → List Exchange → List ℕ → ℕ → Type 0
-StepsTo (Some kinds.Bye) made stand front later turned text count = LastSaysBye turned × IsSaid turned text count
-StepsTo (Some kinds.Worn) made stand front later turned text count = NoBye turned × ((later ≢ []) × IsWorn made turned) × IsSaid turned text count
-StepsTo (Some kinds.Memory) made stand front later turned text count =
-    NoBye turned × ((front ≡ []) ⊎ (StartsWithQuestion later × ¬ IsWorn made turned)) × IsSaid turned text count
-StepsTo (Some kinds.TooLong) made stand front later turned text count = NoBye turned × (later ≡ []) × IsNone stand × IsSaid turned text count
-StepsTo (Some kinds.WriteFailed) made stand front later turned text count = IsCutInReply turned text count
-StepsTo (Some kinds.Endless) made stand front later turned text count = ⊥
-StepsTo _ made stand front later turned text count = NoBye turned × (later ≡ []) × IsSome stand × IsSaid turned text count
+-- How far the lines that a read completes were answered, where the session ends so, over this; None where it goes on.
+abbrev pub StepsTo : Option Kind → Grounds → Stand → List (List ℕ) → List (List ℕ) → List Exchange → List ℕ → ℕ → Type 0
+StepsTo (Some kinds.Bye) grounds stand front later turned text count = LastSaysBye turned × IsSaid turned text count
+StepsTo (Some kinds.Worn) grounds stand front later turned text count = NoBye turned × ((later ≢ []) × IsWorn grounds turned) × IsSaid turned text count
+StepsTo (Some kinds.Foreign) grounds stand front later turned text count = NoBye turned × ((later ≢ []) × IsForeign grounds turned) × IsSaid turned text count
+StepsTo (Some kinds.Memory) grounds stand front later turned text count =
+    NoBye turned × ((front ≡ []) ⊎ IsUnmade grounds later turned) × IsSaid turned text count
+StepsTo (Some kinds.TooLong) grounds stand front later turned text count = NoBye turned × (later ≡ []) × IsNone stand × IsSaid turned text count
+StepsTo (Some kinds.WriteFailed) grounds stand front later turned text count = IsCutInReply turned text count
+StepsTo (Some kinds.Endless) grounds stand front later turned text count = ⊥
+StepsTo _ grounds stand front later turned text count = NoBye turned × (later ≡ []) × IsSome stand × IsSaid turned text count
 
 -- where nothing was written behind the last hand-on, nothing more waits; and the end is the reader's
 abbrev pub IsQuiet : Option Kind → LinkState → LinkState → Type 0
@@ -116,7 +142,7 @@ GaveBy (Some kinds.ReadFailed) piece = piece ≡ []
 GaveBy _ piece = 0 < length piece
 
 -- one read, and the lines that it completes from where the stream stands
-pub record Steps {D : Type 0} (keeps : D → Type 0) (old new : LinkState) (stand stand_after : Stand) (desk after : DeskState D) (end : Option Kind) (count : ℕ) : Type 0 where
+pub record Steps {S : Type 0} (makes : S → List Exchange → S → Type 0) (grounds : S → Grounds) (old new : LinkState) (stand stand_after : Stand) (state after : S) (end : Option Kind) (count : ℕ) : Type 0 where
   pub piece : List ℕ
   pub front : List (List ℕ)
   pub later : List (List ℕ)
@@ -124,8 +150,8 @@ pub record Steps {D : Type 0} (keeps : D → Type 0) (old new : LinkState) (stan
   pub text : List ℕ
   pub lines_are : (cut_from stand piece).0 ≡ front ++ later
   pub mean : Mean front turned
-  pub turns : MakesTurns keeps desk turned after
-  pub how : StepsTo end (length desk.turns) (cut_from stand piece).1 front later turned text count
+  pub turns : makes state turned after
+  pub how : StepsTo end (grounds state) (cut_from stand piece).1 front later turned text count
   pub stands : end ≡ None → (cut_from stand piece).1 ≡ stand_after
   pub consumed : Consumes old.left new.left piece
   pub written : Appends old.held new.held text
@@ -137,7 +163,7 @@ pub record Steps {D : Type 0} (keeps : D → Type 0) (old new : LinkState) (stan
 -- ---- a session
 
 -- so many reads were made, and each line that they complete was answered
-pub record Going {D K : Type 0} (keeps : D → Type 0) (told : K → LinkState) (link now : K) (stand : Stand) (desk after : DeskState D) (reads count : ℕ) : Type 0 where
+pub record Going {S K : Type 0} (makes : S → List Exchange → S → Type 0) (told : K → LinkState) (link now : K) (stand : Stand) (state after : S) (reads count : ℕ) : Type 0 where
   pub pieces : List (List ℕ)
   pub turned : List Exchange
   pub made : length pieces ≡ reads
@@ -146,7 +172,7 @@ pub record Going {D K : Type 0} (keeps : D → Type 0) (told : K → LinkState) 
   pub is_open : IsSome stand
   pub no_bye : NoBye turned
   pub gave : Gave pieces
-  pub turns : MakesTurns keeps desk turned after
+  pub turns : makes state turned after
   pub consumed : Consumes (told link).left (told now).left (joined pieces)
   pub written : Appends (told link).held (told now).held (session_text turned)
   pub count_is : count ≡ length turned
@@ -170,3 +196,16 @@ Closes kinds.End old new count end total = (end ≡ kinds.End) × (total ≡ cou
 Closes kinds.ReadFailed old new count end total = (end ≡ kinds.ReadFailed) × (total ≡ count) × (new ≡ old)
 Closes kinds.WriteFailed old new count end total = (end ≡ kinds.WriteFailed) × (total ≡ count) × (new ≡ old)
 Closes kind old new count end total = Closing kind old new count end total
+
+-- what each read gave, the session text of it, which was written, and the exchanges, which are the turns that were made
+pub record Ran {S K : Type 0} (makes : S → List Exchange → S → Type 0) (grounds : S → Grounds) (told : K → LinkState) (link final : K) (state after : S) (kind : Kind) (count : ℕ) : Type 0 where
+  pub pieces : List (List ℕ)
+  pub turned : List Exchange
+  pub text : List ℕ
+  pub session : IsSession (grounds state) pieces kind turned text count
+  pub turns : makes state turned after
+  pub consumed : Consumes (told link).left (told final).left (joined pieces)
+  pub written : Appends (told link).held (told final).held text
+  pub reads : (told final).reads ≡ up (length pieces) (told link).reads
+  pub few : length pieces ≤ most_reads
+  pub prompt : IsPrompt told link pieces turned

@@ -8,6 +8,7 @@ use Rattle.report_line.specs.Cutting.{Stand, ended, cut_of}
 use Rattle.report_line.specs.Reading.{Spells}
 use Rattle.report_line.specs.Replies.{reply_text}
 use Rattle.desk.specs.Lawful.{turn_limit}
+use Rattle.coordinator.specs.Passes.{PassState}
 use Rattle.session.specs.declared.kind.Kind.{Kind}
 use Rattle.session.specs.declared.kind.Kind.TheVariants as kinds
 
@@ -45,7 +46,12 @@ pub record LastSaysBye (exchanges : List Exchange) : Type 0 where
   pub none_before : NoBye before
   pub bye : SaysBye last
 
--- the question that for want of memory may get no turn: that for a state
+-- Over what the calls of a session take their turns: a desk that made so many turns before, or a pass as it was before.
+pub data Grounds : Type 0 where
+  at_desk : ℕ → Grounds
+  at_pass : PassState → Grounds
+
+-- the question that at a desk may for want of memory get no turn: that for a state
 abbrev pub IsQuestion : Call → Type 0
 IsQuestion (calls.State p) = ⊤
 IsQuestion _ = ⊥
@@ -58,6 +64,21 @@ pub record StartsWithQuestion (lines : List (List ℕ)) : Type 0 where
   pub lines_are : lines ≡ line ∷ later
   pub means : Means line call
   pub question : IsQuestion call
+
+-- all turns that a desk makes were made, some of them before the session; who has a pass does not know how many others made
+abbrev pub IsWorn : Grounds → List Exchange → Type 0
+IsWorn (at_desk made) turned = made + length turned ≡ turn_limit
+IsWorn (at_pass pass) turned = ⊤
+
+-- for want of memory the first of these later lines may get no turn: at a desk only that question, where a turn is left
+abbrev pub IsUnmade : Grounds → List (List ℕ) → List Exchange → Type 0
+IsUnmade (at_desk made) later turned = StartsWithQuestion later × ¬ IsWorn (at_desk made) turned
+IsUnmade (at_pass pass) later turned = later ≢ []
+
+-- the pass has seen a turn or a front, which another coordinator may not have
+abbrev pub IsForeign : Grounds → List Exchange → Type 0
+IsForeign (at_desk made) turned = ⊥
+IsForeign (at_pass pass) turned = (turned ≢ []) ⊎ ((0 < pass.front) ⊎ (pass.entries ≢ []))
 
 -- ---- the text
 
@@ -124,31 +145,28 @@ abbrev pub IsLastPieceRefused : List (List ℕ) → List (List ℕ) → Type 0
 IsLastPieceRefused pieces front =
     (before : List (List ℕ)) × (last : List ℕ) × (pieces ≡ before ++ last ∷ []) × (front ≡ (cut_of (joined before)).0)
 
--- all turns that a desk makes were made, some of them before the session
-abbrev pub IsWorn : ℕ → List Exchange → Type 0
-IsWorn made turned = made + length turned ≡ turn_limit
-
--- Which lines got a turn where a session ends so, other than by a write, that begins with so many turns made: of what these
--- reads gave, behind whose lines the stream stands so, the front lines did, with these exchanges, and the later ones did not.
-abbrev pub Reached : Kind → ℕ → List (List ℕ) → Stand → List (List ℕ) → List (List ℕ) → List Exchange → Type 0
-Reached kinds.Bye made pieces stand front later turned = LastSaysBye turned
-Reached kinds.Worn made pieces stand front later turned = NoBye turned × (later ≢ []) × IsWorn made turned
-Reached kinds.Memory made pieces stand front later turned =
-    NoBye turned × (IsLastPieceRefused pieces front ⊎ (StartsWithQuestion later × ¬ IsWorn made turned))
-Reached kinds.TooLong made pieces stand front later turned = NoBye turned × (later ≡ []) × IsNone stand
-Reached kinds.Endless made pieces stand front later turned = NoBye turned × (later ≡ []) × IsSome stand × (length pieces ≡ most_reads)
-Reached kinds.WriteFailed made pieces stand front later turned = ⊥
-Reached _ made pieces stand front later turned = NoBye turned × (later ≡ []) × IsSome stand
+-- Which lines got a turn where a session ends so, other than by a write, that begins over this: of what these reads gave, behind
+-- whose lines the stream stands so, the front lines did, with these exchanges, and the later ones did not.
+abbrev pub Reached : Kind → Grounds → List (List ℕ) → Stand → List (List ℕ) → List (List ℕ) → List Exchange → Type 0
+Reached kinds.Bye grounds pieces stand front later turned = LastSaysBye turned
+Reached kinds.Worn grounds pieces stand front later turned = NoBye turned × (later ≢ []) × IsWorn grounds turned
+Reached kinds.Foreign grounds pieces stand front later turned = NoBye turned × (later ≢ []) × IsForeign grounds turned
+Reached kinds.Memory grounds pieces stand front later turned =
+    NoBye turned × (IsLastPieceRefused pieces front ⊎ IsUnmade grounds later turned)
+Reached kinds.TooLong grounds pieces stand front later turned = NoBye turned × (later ≡ []) × IsNone stand
+Reached kinds.Endless grounds pieces stand front later turned = NoBye turned × (later ≡ []) × IsSome stand × (length pieces ≡ most_reads)
+Reached kinds.WriteFailed grounds pieces stand front later turned = ⊥
+Reached _ grounds pieces stand front later turned = NoBye turned × (later ≡ []) × IsSome stand
 
 -- a failed write cuts the text, in a reply or in the ending line; or all was written, and could not be handed on
-abbrev pub IsCutOff : ℕ → List (List ℕ) → Stand → List (List ℕ) → List (List ℕ) → List Exchange → List ℕ → ℕ → Type 0
-IsCutOff made pieces stand front later turned text count =
+abbrev pub IsCutOff : Grounds → List (List ℕ) → Stand → List (List ℕ) → List (List ℕ) → List Exchange → List ℕ → ℕ → Type 0
+IsCutOff grounds pieces stand front later turned text count =
     IsCutInReply turned text count
-    ⊎ ((kind : Kind) × Reached kind made pieces stand front later turned × (IsCutInEnding kind turned text count ⊎ IsWhole kind turned text count))
+    ⊎ ((kind : Kind) × Reached kind grounds pieces stand front later turned × (IsCutInEnding kind turned text count ⊎ IsWhole kind turned text count))
 
-abbrev pub Ends : Kind → ℕ → List (List ℕ) → Stand → List (List ℕ) → List (List ℕ) → List Exchange → List ℕ → ℕ → Type 0
-Ends kinds.WriteFailed made pieces stand front later turned text count = IsCutOff made pieces stand front later turned text count
-Ends kind made pieces stand front later turned text count = Reached kind made pieces stand front later turned × IsWhole kind turned text count
+abbrev pub Ends : Kind → Grounds → List (List ℕ) → Stand → List (List ℕ) → List (List ℕ) → List Exchange → List ℕ → ℕ → Type 0
+Ends kinds.WriteFailed grounds pieces stand front later turned text count = IsCutOff grounds pieces stand front later turned text count
+Ends kind grounds pieces stand front later turned text count = Reached kind grounds pieces stand front later turned × IsWhole kind turned text count
 
 -- each of these reads gave bytes
 abbrev pub Gave : List (List ℕ) → Type 0
@@ -160,12 +178,12 @@ GaveAll kinds.End pieces = (before : List (List ℕ)) × (pieces ≡ before ++ [
 GaveAll kinds.ReadFailed pieces = (before : List (List ℕ)) × (pieces ≡ before ++ [] ∷ []) × Gave before
 GaveAll _ pieces = Gave pieces
 
--- A session that begins with so many turns made and whose reads gave these pieces ended so: with the exchanges that took
--- turns, the one whose reply was cut included, with this text, and so many lines of it whole.
-pub record IsSession (made : ℕ) (pieces : List (List ℕ)) (kind : Kind) (turned : List Exchange) (text : List ℕ) (count : ℕ) : Type 0 where
+-- A session that begins over this and whose reads gave these pieces ended so: with the exchanges that took turns, the one whose
+-- reply was cut included, with this text, and so many lines of it whole.
+pub record IsSession (grounds : Grounds) (pieces : List (List ℕ)) (kind : Kind) (turned : List Exchange) (text : List ℕ) (count : ℕ) : Type 0 where
   pub front : List (List ℕ)
   pub later : List (List ℕ)
   pub lines_are : (cut_of (joined pieces)).0 ≡ front ++ later
   pub gave : GaveAll kind pieces
   pub mean : Mean front turned
-  pub ends : Ends kind made pieces (cut_of (joined pieces)).1 front later turned text count
+  pub ends : Ends kind grounds pieces (cut_of (joined pieces)).1 front later turned text count

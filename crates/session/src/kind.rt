@@ -9,10 +9,10 @@ pub enum Kind {
     Bye,
     /// More than 8,192 bytes came without LF. The lines before them were answered.
     TooLong,
-    /// All 65,536 turns since the desk was opened were made. The next line and what followed it was not handled.
+    /// No turn was left: all 65,536 since the desk was opened were made. The next line and what followed it was not handled.
     Worn,
-    /// Memory was wanting for the lines of the bytes that were read, or for the reply to a question for a state. That line
-    /// and what followed it was not handled.
+    /// Memory was wanting for the lines of the bytes that were read, or for a turn: at a desk, for the reply to a question for a
+    /// state. That line and what followed it was not handled.
     Memory,
     /// A read failed. The lines before it were answered.
     ReadFailed,
@@ -20,6 +20,9 @@ pub enum Kind {
     WriteFailed,
     /// The input did not end within the reads that a session makes. The lines that were read were answered.
     Endless,
+    /// The pass is of another coordinator, which has seen a longer front or a later turn. That line and what followed it was not
+    /// handled.
+    Foreign,
 }
 
 /// How a session ended.

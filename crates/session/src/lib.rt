@@ -1,16 +1,22 @@
-//! One client: lines in, replies out.
+//! Clients: lines in, replies out.
 //!
-//! A session reads some bytes, answers each line that they complete, hands the replies on, and only then reads on.
+//! A session reads some bytes, answers each line that they complete, hands the replies on, and only then reads on. One client is
+//! served over a desk, or many over a coordinator by several threads.
 #![tactic(auto)]
 
 mod kind;
 mod laws;
 mod link;
+mod memory_link;
 mod numbered;
+mod over_coordinator;
+mod over_desk;
 mod reply_line;
+mod server;
 mod serving;
 mod session;
 mod streams;
+mod threads;
 mod turns;
 
 pub use kind::{Kind, SessionEnd};
@@ -18,5 +24,8 @@ pub use laws::{
     exchanges_keep_lists_reachable, exchanges_tell_what_is_accepted, served_without_a_device,
 };
 pub use link::{Link, LinkFault, put, put_all};
-pub use session::run;
+pub use memory_link::MemoryLink;
+pub use over_coordinator::serve_link;
+pub use over_desk::run;
 pub use streams::Streams;
+pub use threads::{Served, workers};

@@ -1,15 +1,14 @@
-//! One client: lines in, replies out.
+//! One client: lines in, replies out, over a desk or over a pass.
 
 ghost use Rattle.std.specs.Prelude.{◌≡◌, ◌≢◌, ◌≤◌, ◌<◌, ◌^◌, ℕ, None};
 ghost use Rattle.session.specs.SessionText.{ending_line, ending_count};
-ghost use Rattle.session.specs.Ends.{Ended, Leaves};
-ghost use Rattle.session.specs.Parts.{Follows, Steps, Closing, Closes};
+ghost use Rattle.session.specs.Ends.{Leaves};
+ghost use Rattle.session.specs.Parts.{AreLawful, Follows, Steps, Closing, Closes, Ran};
 
 use crate::kind::{Kind, SessionEnd};
 use crate::link::{Link, put};
+use crate::server::Server;
 use crate::serving::serve_lines;
-use desk::Desk;
-use line_disk::Disk;
 use report_line::Feed;
 
 /// How many reads a session makes at most.
@@ -23,8 +22,12 @@ fn line_of_end(kind: Kind) -> &'static [u8]
         Kind::TooLong => b"BAD 2\n".as_slice(),
         Kind::Worn => b"NO 17 - 65536\n".as_slice(),
         Kind::Memory => b"NO 16 - -\n".as_slice(),
-        Kind::End | Kind::Bye | Kind::ReadFailed | Kind::WriteFailed | Kind::Endless =>
-            b"".as_slice(),
+        Kind::End
+        | Kind::Bye
+        | Kind::ReadFailed
+        | Kind::WriteFailed
+        | Kind::Endless
+        | Kind::Foreign => b"".as_slice(),
     }
 }
 
@@ -34,7 +37,12 @@ fn lines_of_end(kind: Kind) -> u64
 {
     match kind {
         Kind::TooLong | Kind::Worn | Kind::Memory => 1,
-        Kind::End | Kind::Bye | Kind::ReadFailed | Kind::WriteFailed | Kind::Endless => 0,
+        Kind::End
+        | Kind::Bye
+        | Kind::ReadFailed
+        | Kind::WriteFailed
+        | Kind::Endless
+        | Kind::Foreign => 0,
     }
 }
 
@@ -66,9 +74,8 @@ fn close<K: Link>(link: &mut K, kind: Kind, replies: u64) -> SessionEnd
 {
     match kind {
         Kind::End | Kind::ReadFailed | Kind::WriteFailed => SessionEnd { kind, replies },
-        Kind::Bye | Kind::TooLong | Kind::Worn | Kind::Memory | Kind::Endless => {
-            close_by(link, kind, replies)
-        }
+        Kind::Bye | Kind::TooLong | Kind::Worn | Kind::Memory | Kind::Endless | Kind::Foreign =>
+            close_by(link, kind, replies),
     }
 }
 
@@ -88,9 +95,15 @@ fn kind_after(end: Option<Kind>, feed: &Feed) -> Option<Kind>
 
 /// One read: the lines that it completes are answered. Answers why the session ends, if it does, and how many replies
 /// were written whole.
-fn step<D: Disk, K: Link>(desk: &mut Desk<D>, feed: &mut Feed, link: &mut K) -> (Option<Kind>, u64)
-    requires { feed.old ≢ None }
-    ensures steps { Steps D.keeps (K.told link.old) (K.told link.new) feed.old feed.new desk.old desk.new result.0 result.1 }
+fn step<S, V: Server<S>, K: Link>(
+    server: &V,
+    state: &mut S,
+    feed: &mut Feed,
+    link: &mut K,
+) -> (Option<Kind>, u64)
+    requires laws { AreLawful V.makes V.grounds }
+    requires some { feed.old ≢ None }
+    ensures steps { Steps V.makes V.grounds (K.told link.old) (K.told link.new) feed.old feed.new state.old state.new result.0 result.1 }
     ensures few { result.1 ≤ 8192 }
 {
     let mut buf = [0u8; 8192];
@@ -103,20 +116,18 @@ fn step<D: Disk, K: Link>(desk: &mut Desk<D>, feed: &mut Feed, link: &mut K) -> 
     let Ok(lines) = feed.push(&buf[..n]) else {
         return (Some(Kind::Memory), 0);
     };
-    let (end, replies) = serve_lines(desk, link, &lines);
+    let (end, replies) = serve_lines(server, state, link, &lines);
     (kind_after(end, feed), replies)
 }
 
-/// Serves one client over a desk: after each read it answers the lines that are complete, and writes each reply before the
-/// next line's turn is made; before each read and at the end it hands on what it wrote. What is written is the session text of
-/// what was read, its exchanges are just the turns that the desk made, and each `LINE` in it is the greatest closed cut of every
-/// lawful history that agrees at its place (`specs/Headline.antt`). What a crash leaves then says `Desk::lawful`.
-pub fn run<D: Disk, K: Link>(desk: &mut Desk<D>, link: &mut K) -> SessionEnd
-    ensures session { Ended D.keeps K.told link.old link.new desk.old desk.new result.kind result.replies }
+/// Serves one client: after each read it answers the lines that are complete, and writes each reply before the next line's turn
+/// is made; before each read and at the end it hands on what it wrote.
+pub(crate) fn serve<S, V: Server<S>, K: Link>(server: &V, state: &mut S, link: &mut K) -> SessionEnd
+    requires { AreLawful V.makes V.grounds }
+    ensures session { Ran V.makes V.grounds K.told link.old link.new state.old state.new result.kind result.replies }
     ensures leaves { Leaves result.kind (K.told link.old) (K.told link.new) }
 {
-    desk.lawful();
-    let mut feed = Feed::new(desk.chains().alloc());
+    let mut feed = Feed::new(server.alloc(state));
     let mut replies = 0u64;
     for _ in 0..MOST_READS {
         let Ok(()) = link.hand_on() else {
@@ -125,7 +136,7 @@ pub fn run<D: Disk, K: Link>(desk: &mut Desk<D>, link: &mut K) -> SessionEnd
                 replies,
             };
         };
-        let (end, more) = step(desk, &mut feed, link);
+        let (end, more) = step(server, state, &mut feed, link);
         replies += more;
         if let Some(kind) = end {
             return close(link, kind, replies);

@@ -5,7 +5,10 @@ ghost use Rattle.std.specs.Io.Buffered.{writer_contents, writer_buffer};
 ghost use Rattle.session.specs.Links.{LinkState};
 
 use crate::link::{Link, LinkFault};
-use std::io::{BufWriter, Read, Write};
+use std::alloc::Global;
+use std::io::{self, BufWriter, Read, Write};
+use std::net::OpenStream;
+use std::time::Duration;
 
 /// A reader, and a writer behind a buffer, with their calls counted. What waits is what stands in the buffer.
 #[derive(Drop)]
@@ -40,6 +43,32 @@ impl<R: Read, W: Write + Drop> Streams<R, W> {
         let Streams { input, output, .. } = self;
         (input, output)
     }
+}
+
+impl<S: Read + Write + OpenStream + Drop> Streams<S, S> {
+    /// Both directions of a connection. What is handed on is sent at once. Where there is a limit, a read or a write that waits
+    /// longer fails; it is not zero.
+    pub fn of_connection(
+        alloc: Global,
+        stream: S,
+        idle: Option<Duration>,
+    ) -> Result<Streams<S, S>, LinkFault> {
+        match halves(&stream, idle) {
+            Ok(other) => match BufWriter::new(alloc, other) {
+                Ok(output) => Ok(Streams::new(stream, output)),
+                Err(_) => Err(LinkFault::Device),
+            },
+            Err(_) => Err(LinkFault::Device),
+        }
+    }
+}
+
+/// Another handle of the connection, whose options are set.
+fn halves<S: OpenStream>(stream: &S, idle: Option<Duration>) -> io::Result<S> {
+    stream.set_nodelay(true)?;
+    stream.set_read_timeout(idle)?;
+    stream.set_write_timeout(idle)?;
+    stream.try_clone()
 }
 
 impl<R: Read, W: Write + Drop> Link for Streams<R, W> {

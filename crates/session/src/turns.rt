@@ -94,7 +94,7 @@ fn shown_for(chains: &Chains, call: &Call, reply: Reply) -> Reply
 }
 
 /// The call that a line is read as.
-fn call_of(read: Result<Call, LineFault>) -> Call
+pub(crate) fn call_of(read: Result<Call, LineFault>) -> Call
     ensures { result ≡ call_read read }
 {
     match read {

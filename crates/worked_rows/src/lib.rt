@@ -10,4 +10,6 @@ mod handed;
 #[cfg(test)]
 mod lines;
 #[cfg(test)]
+mod links;
+#[cfg(test)]
 mod sessions;

@@ -4,6 +4,6 @@ use Rattle.session.proofs.serving.serve_lines.Given as goal
 
 abbrev pub invariant-loop-i : goal.invariant-loop-i
 invariant-loop-i g l = record {
-  served : Serves g.D.Disk.keeps (g.K.Link.told l.fn.link) (g.K.Link.told l.link) (take l.i l.fn.lines) l.fn.desk l.desk None l.replies;
+  served : Serves g.V.Server.makes g.V.Server.grounds (g.K.Link.told l.fn.link) (g.K.Link.told l.link) (take l.i l.fn.lines) l.fn.state l.state None l.replies;
   few : l.replies ≤ l.i;
 }

@@ -1,0 +1,29 @@
+use Rattle.std.proofs.Common.{ap, sym, ◌∙◌}
+use Rattle.std.proofs.lemmas.Bool.{false≢true}
+use Rattle.session.specs.Parts.{call_read}
+use Rattle.session.proofs.TurnSteps.{means_read, short_read, bye_read}
+use Rattle.session.proofs.Gaining.{some_entries, answered_on, answered_bye, answered_part, none_made}
+use Rattle.session.proofs.over_coordinator.serve_by_pass.Goals as goal
+
+pub ask-requires : goal.ask-requires
+ask-requires g c = rw c.call_of.ensures (short_read c.args.line.now c.read_line-read.result c.requires.short c.read_line-read.ensures.exact)
+
+pub put_shown-requires : goal.put_shown-requires
+put_shown-requires g c = some_entries _ _ _ c.in-Ok.ensures.ok
+
+pub returns-in-Err : goal.returns-in-Err
+returns-in-Err g c = rw c.kind_of.ensures (none_made _ c.args.line.now _ _ c.in-Err.fault c.in-Err.ensures.err c.in-Err.ensures.foreign)
+
+pub returns-in-Ok-put_shown : goal.returns-in-Ok-put_shown
+returns-in-Ok-put_shown g c =
+    answered_bye _ _ c.args.line.now _ _ (call_read c.read_line-read.result) _ (means_read _ _ c.read_line-read.ensures.exact) (rw c.call_of.ensures at c.in-Ok.ensures.ok) c.in-Ok-put_shown.ensures
+    (ap call_read (c.is_bye-last.ensures.0 c.if-last.true))
+
+pub returns-in-Ok-2 : goal.returns-in-Ok-2
+returns-in-Ok-2 g c =
+    answered_on _ _ c.args.line.now _ _ (call_read c.read_line-read.result) _ (means_read _ _ c.read_line-read.ensures.exact) (rw c.call_of.ensures at c.in-Ok.ensures.ok) c.in-Ok-2.ensures
+    (λ says. false≢true (sym c.if-last.false ∙ c.is_bye-last.ensures.1 (bye_read _ says)))
+
+pub returns-in-Err-put_shown : goal.returns-in-Err-put_shown
+returns-in-Err-put_shown g c =
+    answered_part _ _ c.args.line.now _ _ (call_read c.read_line-read.result) c.in-Err-put_shown.field-0 (means_read _ _ c.read_line-read.ensures.exact) (rw c.call_of.ensures at c.in-Ok.ensures.ok) c.in-Err-put_shown.ensures

@@ -1,0 +1,5 @@
+-- `work`: the loop goes on as long as the runtime does.
+use Rattle.session.proofs.threads.work.Given as goal
+
+abbrev pub invariant-loop : goal.invariant-loop
+invariant-loop g l = (goal.iterator-loop g).can_next l.iterator' × (goal.iterator-loop g).is_finite l.iterator'

@@ -1,0 +1,44 @@
+-- What a session did to its link and to the pass of its client.
+use Rattle.std.specs.Prelude.{◌≡◌, ◌≤◌, ℕ, List, [], ◌∷◌, ◌++◌, length, map}
+use Rattle.std.specs.Io.KnownBytes.{Appends, Consumes}
+use Rattle.coordinator.specs.Passes.{PassEntry, PassState, IsAnswered}
+use Rattle.session.specs.declared.kind.Kind.{Kind}
+use Rattle.session.specs.Links.{up, LinkState}
+use Rattle.session.specs.SessionText.{Exchange, joined, most_reads, at_pass, IsSession}
+use Rattle.session.specs.Ends.{IsPrompt, Leaves}
+
+-- an entry's call, its turn's reply, and the reply that is shown for it
+abbrev pub exchange_of : PassEntry → Exchange
+exchange_of entry = record { call = entry.call; reply = entry.receipt.reply; shown = entry.shown }
+
+-- the pass has one entry more, which has this exchange
+abbrev pub GainsOne : PassState → Exchange → PassState → Type 0
+GainsOne old exchange new = (answered : IsAnswered old exchange.call new) × (exchange ≡ exchange_of answered.entry)
+
+-- the pass was answered these exchanges, one after the other
+abbrev pub GainsEach : PassState → List Exchange → PassState → Type 0
+GainsEach old [] new = new ≡ old
+GainsEach old (exchange ∷ exchanges) new = (between : PassState) × GainsOne old exchange between × GainsEach between exchanges new
+
+-- the entries that the pass gained have just these exchanges, in their order
+pub record Gains (old : PassState) (exchanges : List Exchange) (new : PassState) : Type 0 where
+  pub each : GainsEach old exchanges new
+  pub entries : List PassEntry
+  pub gained : new.entries ≡ old.entries ++ entries
+  pub exchanges_are : exchanges ≡ map exchange_of entries
+  pub number : new.number ≡ old.number
+
+-- A session over a pass: what each read gave, the session text of it, which was written, and the exchanges, which are those of the
+-- entries that the pass gained; and what the link tells then.
+pub record LinkServed (before told : LinkState) (fresh pass : PassState) (kind : Kind) (count : ℕ) : Type 0 where
+  pub pieces : List (List ℕ)
+  pub turned : List Exchange
+  pub text : List ℕ
+  pub session : IsSession (at_pass fresh) pieces kind turned text count
+  pub gains : Gains fresh turned pass
+  pub consumed : Consumes before.left told.left (joined pieces)
+  pub written : Appends before.held told.held text
+  pub reads : told.reads ≡ up (length pieces) before.reads
+  pub few : length pieces ≤ most_reads
+  pub prompt : IsPrompt (λ (state : LinkState). state) before pieces turned
+  pub leaves : Leaves kind before told

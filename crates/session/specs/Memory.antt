@@ -1,0 +1,20 @@
+-- What a link in memory tells beside what each link does.
+use Rattle.std.specs.Prelude.{◌≡◌, ℕ, Option, Some}
+use Rattle.session.specs.Links.{up}
+use Rattle.session.specs.declared.memory_link.MemoryLink.{MemoryLink}
+
+-- how many calls were made
+abbrev pub calls_of : MemoryLink → ℕ
+calls_of link = link.calls
+
+-- which call is planned to fail, counted from 1
+abbrev pub failing_of : MemoryLink → Option ℕ
+failing_of link = link.failing
+
+-- a call was made, and the plan is as it was
+abbrev pub IsCall : MemoryLink → MemoryLink → Type 0
+IsCall old new = (calls_of new ≡ up 1 (calls_of old)) × (failing_of new ≡ failing_of old)
+
+-- the next call is the one that is planned to fail
+abbrev pub IsDue : MemoryLink → Type 0
+IsDue link = failing_of link ≡ Some (up 1 (calls_of link))

@@ -1,0 +1,13 @@
+-- What is known of a session that a worker served.
+use Rattle.std.specs.Prelude.{◌≡◌, ℕ}
+use Rattle.coordinator.specs.Passes.{PassState, IsNewPass}
+use Rattle.session.specs.declared.kind.Kind.{Kind}
+use Rattle.session.specs.Gained.{LinkServed}
+use Rattle.session.specs.Links.{LinkState}
+
+-- A link was served with a new pass, and ended so: it tells this now, and the pass is this now.
+pub record WasServed (now : LinkState) (pass : PassState) (kind : Kind) (count : ℕ) : Type 0 where
+  pub before : LinkState
+  pub fresh : PassState
+  pub is_new : IsNewPass fresh
+  pub served : LinkServed before now fresh pass kind count

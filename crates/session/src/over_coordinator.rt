@@ -1,0 +1,134 @@
+//! One client over a coordinator.
+
+ghost use Rattle.std.specs.Prelude.{◌≡◌, ◌≢◌, [], ◌∷◌, OnOk, OnErr, IfErr};
+ghost use Rattle.report_line.specs.Cutting.{IsLine, ended};
+ghost use Rattle.report_line.specs.Replies.{reply_text};
+ghost use Rattle.coordinator.specs.Calls.{IsForeignOnly};
+ghost use Rattle.coordinator.specs.Passes.{IsAnswered};
+ghost use Rattle.desk.specs.Files.{IsShort};
+ghost use Rattle.session.specs.Gained.{GainsEach, LinkServed};
+ghost use Rattle.session.specs.Parts.{Serves, PutsLast, refused_as, one_reply};
+ghost use Rattle.session.specs.SessionText.{at_pass};
+
+use crate::kind::{Kind, SessionEnd};
+use crate::link::{Link, LinkFault};
+use crate::over_desk::is_bye;
+use crate::reply_line::put_reply;
+use crate::server::Server;
+use crate::session::serve;
+use crate::turns::call_of;
+use coordinator::{CallFault, Coordinator, Gate, Pass};
+use line_disk::Disk;
+use report_line::{Call, read_line};
+use std::alloc::Global;
+use std::sync::Wait;
+use std::sync::ledger::Ledger;
+
+/// Why the session ends where a call got no turn.
+fn kind_of(fault: &CallFault) -> Kind
+    ensures { result ≡ refused_as fault.now }
+{
+    match fault {
+        CallFault::Foreign { .. } => Kind::Foreign,
+        CallFault::Worn => Kind::Worn,
+        CallFault::Memory => Kind::Memory,
+    }
+}
+
+/// Makes the turn of a call, and adds it to the pass. A question for a line waits for it at the gate.
+fn ask<R: Wait, L: Ledger, D: Disk, G: Gate>(
+    rt: &R,
+    coordinator: &Coordinator<L, D>,
+    gate: &G,
+    pass: &mut Pass<L>,
+    call: Call,
+) -> Result<(), CallFault>
+    requires { IsShort call }
+    ensures ok { OnOk result (IsAnswered pass.old call pass.new) }
+    ensures err { OnErr result (pass.new ≡ pass.old) }
+    ensures foreign { IfErr result (λ fault. IsForeignOnly pass.old fault) }
+{
+    match call {
+        Call::Line(names) => coordinator.line(rt, pass, gate, names),
+        Call::Garbage => coordinator.garbage_line(rt, pass, gate),
+        other => coordinator.call(rt, pass, other),
+    }
+}
+
+/// Writes the reply that the pass shows last, and an LF.
+fn put_shown<L: Ledger, K: Link>(pass: &Pass<L>, link: &mut K) -> Result<(), LinkFault>
+    requires { pass.now.entries ≢ [] }
+    ensures { PutsLast pass.now.entries (K.told link.old) (K.told link.new) result }
+{
+    match pass.shown() {
+        Some(shown) => put_reply(link, shown),
+        None => Ok(()),
+    }
+}
+
+/// One line: its turn is made, and then its reply is written. Answers why the session ends, if it does.
+fn serve_by_pass<R: Wait, L: Ledger, D: Disk, G: Gate, K: Link>(
+    rt: &R,
+    coordinator: &Coordinator<L, D>,
+    gate: &G,
+    pass: &mut Pass<L>,
+    link: &mut K,
+    line: &[u8],
+) -> Option<Kind>
+    requires { IsLine line.now }
+    ensures { Serves GainsEach at_pass (K.told link.old) (K.told link.new) (line.now ∷ []) pass.old pass.new result (one_reply result) }
+{
+    let read = read_line(coordinator.alloc(), line);
+    let last = is_bye(&read);
+    match ask(rt, coordinator, gate, pass, call_of(read)) {
+        Err(fault) => Some(kind_of(&fault)),
+        Ok(()) => match put_shown(pass, link) {
+            Ok(()) if last => Some(Kind::Bye),
+            Ok(()) => None,
+            Err(_) => Some(Kind::WriteFailed),
+        },
+    }
+}
+
+/// A coordinator makes the turns.
+#[derive(Drop)]
+struct Shared<'a, R, L: Ledger, D: Disk, G> {
+    rt: &'a R,
+    coordinator: &'a Coordinator<L, D>,
+    gate: &'a G,
+}
+
+impl<'a, R: Wait, L: Ledger, D: Disk, G: Gate> Server<Pass<L>> for Shared<'a, R, L, D, G> {
+    ghost makes = { GainsEach };
+
+    ghost grounds = { at_pass };
+
+    fn alloc(&self, _state: &Pass<L>) -> Global {
+        self.coordinator.alloc()
+    }
+
+    fn serve_line<K: Link>(&self, state: &mut Pass<L>, link: &mut K, line: &[u8]) -> Option<Kind> {
+        serve_by_pass(self.rt, self.coordinator, self.gate, state, link, line)
+    }
+}
+
+/// Serves one client over a coordinator, as `run` does over a desk: each line takes its turn under the coordinator's lock and is
+/// added to the pass, and its reply is written before the next line's turn. The lines of other clients may take theirs in between.
+/// What is written is the session text of what was read, and its exchanges are just the entries that the pass gained. Where the
+/// pass is of another coordinator, the session ends as Foreign with nothing more written.
+pub fn serve_link<R: Wait, L: Ledger, D: Disk, G: Gate, K: Link>(
+    rt: &R,
+    coordinator: &Coordinator<L, D>,
+    pass: &mut Pass<L>,
+    gate: &G,
+    link: &mut K,
+) -> SessionEnd
+    ensures { LinkServed (K.told link.old) (K.told link.new) pass.old pass.new result.kind result.replies }
+{
+    let server = Shared {
+        rt,
+        coordinator,
+        gate,
+    };
+    serve(&server, pass, link)
+}

@@ -58,7 +58,7 @@ end_named : (accepted : List Report) (o : Option Name) (b : Bool) → option_map
 end_named accepted None b is e = absurd (true≢false (sym e ∙ sym is))
 end_named accepted (Some p) b is e = rw e refl
 
-retired_top : (accepted : List Report) (p : ℕ) → is_retired accepted p ≡ true → retired_events accepted p ≡ Some (top accepted (name_of accepted p))
+pub retired_top : (accepted : List Report) (p : ℕ) → is_retired accepted p ≡ true → retired_events accepted p ≡ Some (top accepted (name_of accepted p))
 retired_top accepted p e = end_named accepted (name_of accepted p) (is_retired accepted p) refl e
 
 -- a rank behind the elements is that of a retirement

@@ -2,3 +2,6 @@ pub mod Rising
 pub mod Laws
 pub mod Looking
 pub mod Lawful
+pub mod Listed
+pub mod Thresholding
+pub mod Lasts

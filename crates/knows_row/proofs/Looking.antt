@@ -53,19 +53,32 @@ last_from_beyond accepted x q from to found events stamps all other there h = re
 pub last_none : (accepted : List Report) (x : Place) (q from to : ℕ) → ((k : ℕ) → ¬ KnowsAt accepted x q k) → IsLastKnown accepted x q from to 0
 last_none accepted x q from to none = record { within = omega arith; none = λ k le lt. none k; last = λ lt. absurd (omega arith) }
 
-need_from_last : (accepted : List Report) (x : Place) (q n found : ℕ) → n ≡ length (elements accepted q) → IsLastKnown accepted x q 0 (n + 1) found → IsNeed accepted x q found
-need_from_last accepted x q n zero count h =
-    λ k known. let within = element_within accepted q k known.stamp known.is_element in h.none k (omega arith) (omega arith) known
-need_from_last accepted x q n (suc found) count h = (
-  let e : suc found - 1 ≡ found = omega arith in subst (λ (k : ℕ). KnowsAt accepted x q k) e (h.last (omega arith)),
-  λ j known. elim (cases_lt found j) [
-    | inl past ↦ let within = element_within accepted q j known.stamp known.is_element in absurd (h.none j (omega arith) (omega arith) known)
-    | inr le ↦ le
-  ],
-)
+-- where the place knows no element from the bound on, the last one known below it is the last of all
+pub need_from_last : (accepted : List Report) (x : Place) (q bound found : ℕ) → ((k : ℕ) → bound ≤ k → ¬ KnowsAt accepted x q k) → IsLastKnown accepted x q 0 bound found → IsNeed accepted x q found
+need_from_last accepted x q bound found past h = of_number found refl
+  where
+    none : (k : ℕ) → found ≤ k → ¬ KnowsAt accepted x q k
+    none k le known = elim (cases_lt k bound) [
+      | inl below ↦ h.none k le below known
+      | inr above ↦ past k above known
+    ]
+
+    of_number : (n : ℕ) → n ≡ found → IsNeed accepted x q n
+    of_number zero e = λ k. none k (omega (arith, e))
+    of_number (suc n) e = (
+      let at : found - 1 ≡ n = omega (arith, e) in subst (λ (k : ℕ). KnowsAt accepted x q k) at (h.last (omega (arith, e))),
+      λ j known. elim (cases_lt n j) [
+        | inl above ↦ absurd (none j (omega (arith, above, e)) known)
+        | inr le ↦ le
+      ],
+    )
+
+-- no element has a greater number than there are
+pub past_elements : (accepted : List Report) (x : Place) (q n : ℕ) → n ≡ length (elements accepted q) → (k : ℕ) → n + 1 ≤ k → ¬ KnowsAt accepted x q k
+past_elements accepted x q n count k le known = let within = element_within accepted q k known.stamp known.is_element in omega arith
 
 -- all elements are below one more than their number
 pub need_from_beyond : (accepted : List Report) (x : Place) (q n found : ℕ) (events : EventTree) (stamps : List Stamp) → stamps ≡ elements accepted q → n ≡ length stamps → q ≢ x.process → events_at accepted x ≡ Some events
     → IsLastBeyond events stamps 0 (n + 1) found → IsNeed accepted x q found
 need_from_beyond accepted x q n found events stamps all count other there h =
-    need_from_last accepted x q n found (count ∙ ap (λ (ss : List Stamp). length ss) all) (last_from_beyond accepted x q 0 (n + 1) found events stamps all other there h)
+    need_from_last accepted x q (n + 1) found (past_elements accepted x q n (count ∙ ap (λ (ss : List Stamp). length ss) all)) (last_from_beyond accepted x q 0 (n + 1) found events stamps all other there h)

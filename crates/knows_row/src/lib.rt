@@ -1,5 +1,12 @@
-//! What places know of processes.
+//! What places know of processes: of one each, of many by one look at thresholds, and a table of needs.
 #![tactic(auto)]
+
+mod by_runs;
+mod chunk_gate;
+mod looks;
+mod ranks;
+mod table;
+mod thresholds;
 
 ghost use Rattle.std.specs.Prelude.{◌↔◌, ◌≡◌, ◌≢◌, ◌≤◌, ◌<◌, ℕ, List, IsTrue, MatchOption, Some, length};
 ghost use Rattle.report_line.specs.declared.report.Report.{Report};
@@ -10,8 +17,14 @@ ghost use Rattle.chains.specs.Folded.{IsFolded};
 ghost use Rattle.knows_row.specs.Knowing.{KnowsAt, IsLawful, KnowsRank, IsNeed, IsLastKnown};
 ghost use Rattle.knows_row.specs.Beyond.{IsBeyondAt, IsBeyondFrom, IsLastBeyond};
 
+pub use by_runs::needs;
 use chains::{Chains, Elements, Place, Position};
+pub use chunk_gate::{ChunkGate, OpenChunks};
 use event_tree::Events;
+pub use looks::{first_known, knows_one};
+pub use ranks::{all_processes, place_at, ranks_past_all};
+pub use table::Needs;
+pub use thresholds::Thresholds;
 
 /// Whether the place knows the process after this position: whether it is beyond some element of it, another process than
 /// its own, that is not before the position. It takes no memory.

@@ -12,7 +12,7 @@ use Rattle.chains.specs.Positions.{position_at, place_at, last_rank}
 use Rattle.chains.specs.Knowledge.{Knows}
 use Rattle.reasons.specs.Certificates.{IsReasonChain, AreLinked, AreDistinct, position_below}
 use Rattle.knows_row.proofs.Laws.{at_element, at_end}
-use Rattle.propagate.proofs.Ranked.{last_below}
+use Rattle.knows_row.proofs.Lasts.{last_below}
 
 -- the position below the next place
 pub below_next : (accepted : List Report) (q r : ℕ) → r < last_rank accepted q → position_below accepted (place_at accepted q (r + 1)) ≡ position_at accepted q r

@@ -14,7 +14,7 @@ use Rattle.chains.specs.Positions.{position_at}
 use Rattle.reasons.specs.Certificates.{positions_of}
 use Rattle.propagate.specs.Ranks.{AreNextRanks, AreFallen, IsStage, positions_from, places_from}
 use Rattle.propagate.specs.Rounds.{AreTops}
-use Rattle.propagate.specs.Thresholds.{IsLoweredFrom}
+use Rattle.knows_row.specs.Looks.{IsLoweredFrom}
 use Rattle.propagate.specs.Stages.{IsStanding, AreGroundedBy, AreThere, AreChosenBy, AreRunning, chains_at, chains_due}
 use Rattle.propagate.proofs.Ranked.{rank_at}
 use Rattle.propagate.proofs.Fallen.{member_first}

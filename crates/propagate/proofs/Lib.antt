@@ -9,7 +9,6 @@ pub mod Grounding
 pub mod Unwinding
 pub mod Placing
 pub mod Lowering
-pub mod Thresholding
 pub mod Staging
 pub mod Cutting
 pub mod Choosing

@@ -1,5 +1,5 @@
 -- How a process goes down to a rank that is clear.
-use Rattle.std.proofs.Common.{◌≡◌, inl, inr, ℕ, zero, suc, ◌+◌, ◌-◌, ◌≤◌, ◌<◌, List, length, Option, Some, None, sym, ◌∙◌, subst, arith}
+use Rattle.std.proofs.Common.{◌≡◌, inl, inr, ℕ, zero, suc, ◌+◌, ◌-◌, ◌≤◌, ◌<◌, List, length, Option, Some, None, sym, ap, ◌∙◌, subst, arith}
 use Rattle.std.specs.Prelude.{slice_index, Contains, MatchOption}
 use Rattle.std.specs.List.Sorted.{IsStrictlyIncreasing}
 use Rattle.std.proofs.lemmas.Bool.{cases_lt, cases_eq}
@@ -7,48 +7,12 @@ use Rattle.std.proofs.lemmas.Grind.{get_or_default_zero}
 use Rattle.report_line.specs.declared.report.Report.{Report}
 use Rattle.chains.specs.Positions.{last_rank}
 use Rattle.knows_row.specs.Knowing.{KnowsRank, IsLawful}
-use Rattle.propagate.specs.Ranks.{IsClearBut, IsClearRank, IsNextRank, IsFirstKnown, IsCauseOf, KnowsOne}
+use Rattle.propagate.specs.Ranks.{IsClearBut, IsClearRank, IsNextRank, IsCauseOf}
+use Rattle.chains.specs.Processes.{known}
+use Rattle.knows_row.specs.Looks.{IsFirstKnown, KnowsOne, last_ranks}
+use Rattle.knows_row.specs.Needs.{IsUnknownAtLast}
+use Rattle.knows_row.proofs.Lasts.{lasts_len, last_at}
 use Rattle.propagate.proofs.Rounding.{clear_of_fallen}
-
--- the place at this rank knows none of the first of these processes after its rank in the cut
-abbrev pub AreUnknownTo : List Report → List ℕ → List ℕ → ℕ → ℕ → ℕ → Type 0
-AreUnknownTo accepted cut among p x n = (i : ℕ) → i < n → let q : ℕ = slice_index among i in ¬ KnowsRank accepted p x q (slice_index cut q)
-
--- which element of a list it is
-pub there : (among : List ℕ) (q : ℕ) → Contains among q → (i : ℕ) × (i < length among) × (slice_index among i ≡ q)
-there among q h = (h.0, h.1, sym (get_or_default_zero among h.0 q h.1) ∙ h.2)
-
--- where that holds of as many as there are, it holds of all
-pub all_unknown : (accepted : List Report) (cut among : List ℕ) (p x n : ℕ) → length among ≤ n → AreUnknownTo accepted cut among p x n
-    → (q : ℕ) → Contains among q → ¬ KnowsRank accepted p x q (slice_index cut q)
-all_unknown accepted cut among p x n le none q contains knows =
-    let at = there among q contains in
-    none at.0 (omega (arith, at.1, le)) (subst (λ (j : ℕ). KnowsRank accepted p x j (slice_index cut j)) (sym at.2) knows)
-
--- numbers that rise do so over any distance
-rising : (among : List ℕ) → IsStrictlyIncreasing among → (i d : ℕ) → i + d < length among → slice_index among i ≤ slice_index among (i + d)
-rising among h i zero lt = let e : i + 0 ≡ i = omega arith in rw e (omega arith)
-rising among h i (suc d) lt =
-    let e : i + suc d ≡ (i + d) + 1 = omega arith in
-    let before = rising among h i d (omega arith) in
-    let next = h (i + d) (omega arith) in
-    rw e (omega arith)
-
-pub rises : (among : List ℕ) → IsStrictlyIncreasing among → (i j : ℕ) → i ≤ j → j < length among → slice_index among i ≤ slice_index among j
-rises among h i j le lt = let e : i + (j - i) ≡ j = omega arith in subst (λ (k : ℕ). slice_index among i ≤ slice_index among k) e (rising among h i (j - i) (omega (arith, e, lt)))
-
--- where none before is known, one that is known is the first
-pub is_first_known : (accepted : List Report) (cut among : List ℕ) (p x n : ℕ) → IsStrictlyIncreasing among → AreUnknownTo accepted cut among p x n
-    → KnowsRank accepted p x (slice_index among n) (slice_index cut (slice_index among n)) → IsFirstKnown accepted among cut p x (slice_index among n)
-is_first_known accepted cut among p x n sorted none knows = record {
-  known = knows;
-  first = λ j contains later.
-      let at = there among j contains in
-      elim (cases_lt at.0 n) [
-        | inl before ↦ absurd (none at.0 before (subst (λ (i : ℕ). KnowsRank accepted p x i (slice_index cut i)) (sym at.2) later))
-        | inr past ↦ subst (λ (i : ℕ). slice_index among n ≤ i) at.2 (rises among sorted n at.0 past at.1)
-      ];
-}
 
 -- how far a process went down from its rank in the cut
 pub record IsLoweredTo (accepted : List Report) (fell cut : List ℕ) (p rank : ℕ) : Type 0 where
@@ -108,3 +72,21 @@ pub cause_of : (accepted : List Report) (fell cut : List ℕ) (p r : ℕ) → Is
     → MatchOption found ((q : ℕ) → Contains fell q → ¬ KnowsRank accepted p (r + 1) q (slice_index cut q)) (λ q. (q < length cut) × IsFirstKnown accepted fell cut p (r + 1) q) → IsCauseOf accepted cut p r found
 cause_of accepted fell cut p r laws but pin top below one None none = absurd (none one.0 one.1 one.2)
 cause_of accepted fell cut p r laws but pin top below one (Some q) first = (below, first.0, first.1.known, first_of_all accepted fell cut p (r + 1) laws but pin top q (omega (arith, below)) first.1)
+
+-- a rank that is clear is the next one
+pub clear_stays : (accepted : List Report) (cut : List ℕ) (p r : ℕ) → r ≡ slice_index cut p → IsClearRank accepted cut p (slice_index cut p) → IsNextRank accepted cut p r
+clear_stays accepted cut p r e clear = record {
+  before = omega (arith, e);
+  clear = subst (IsClearRank accepted cut p) (sym e) clear;
+  greatest = λ j past within. absurd (omega (arith, e, past, within));
+}
+
+-- where the last place knows nothing, it is clear in the cut of the last places
+pub clear_at_last : (accepted other : List Report) (cut : List ℕ) (p : ℕ) → other ≡ accepted → cut ≡ last_ranks accepted → p < length cut
+    → ((q : ℕ) → q < length (known other) → IsUnknownAtLast other p q) → IsClearRank accepted cut p (slice_index cut p)
+clear_at_last accepted other cut p same are_lasts pin unknown q qin knows =
+    let count : length cut ≡ length (known accepted) = ap length are_lasts ∙ lasts_len accepted in
+    let here : slice_index cut p ≡ last_rank accepted p = ap (λ (xs : List ℕ). slice_index xs p) are_lasts ∙ last_at accepted p (omega (arith, pin, count)) in
+    let there : slice_index cut q ≡ last_rank accepted q = ap (λ (xs : List ℕ). slice_index xs q) are_lasts ∙ last_at accepted q (omega (arith, qin, count)) in
+    let none : IsUnknownAtLast accepted p q = subst (λ (rs : List Report). IsUnknownAtLast rs p q) same (unknown q (omega (arith, qin, count, ap (λ (rs : List Report). length (known rs)) same))) in
+    none (subst (λ (k : ℕ). KnowsRank accepted p (last_rank accepted p) q k) there (subst (λ (x : ℕ). KnowsRank accepted p x q (slice_index cut q)) here knows))

@@ -16,7 +16,7 @@ use Rattle.reasons.specs.declared.certificate.Certificate.{Certificate}
 use Rattle.propagate.specs.Rounds.{AreLastSurviving, IsRound, IsLowered}
 use Rattle.propagate.specs.Choice.{IsFirstCause, GoesOn, IsNextChain, AreNextChains, ChainsAfter, given, AreChosen, IsChosenCertificate, place_after}
 use Rattle.propagate.proofs.Ranked.{chosen_position}
-use Rattle.propagate.proofs.Lowering.{there, rises}
+use Rattle.knows_row.proofs.Listed.{there, rises}
 use Rattle.propagate.proofs.Fallen.{no_member, member_first, member_more, member_cases}
 
 -- ---- positions

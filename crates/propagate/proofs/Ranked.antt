@@ -10,22 +10,17 @@ use Rattle.chains.specs.declared.position.Position.TheVariants.{At, Retired}
 use Rattle.chains.specs.Processes.{Name, known, target_of}
 use Rattle.chains.specs.Elements.{elements, elements_of, name_of}
 use Rattle.chains.specs.Positions.{is_retired, rank, position_at, last_rank, position_in, IsSurviving, IsChosen}
+use Rattle.knows_row.proofs.Lasts.{last_above, last_below}
 use Rattle.knows_row.proofs.Laws.{at_element, at_end}
 use Rattle.propagate.specs.Ranks.{positions_from}
 
 module _ (accepted : List Report) (p : ℕ) where
-  last_or : (b : Bool) (e : ℕ) → (e ≤ cond b (e + 1) e) × (cond b (e + 1) e ≤ e + 1) × (e < cond b (e + 1) e → b ≡ true)
-  last_or true e = (omega arith, omega arith, λ h. refl)
-  last_or false e = (omega arith, omega arith, λ h. absurd (omega arith))
-
-  pub last_above : length (elements accepted p) ≤ last_rank accepted p
-  last_above = (last_or (is_retired accepted p) (length (elements accepted p))).0
-
-  pub last_below : last_rank accepted p ≤ length (elements accepted p) + 1
-  last_below = (last_or (is_retired accepted p) (length (elements accepted p))).1
+  retired_or : (b : Bool) (e : ℕ) → e < cond b (e + 1) e → b ≡ true
+  retired_or true e h = refl
+  retired_or false e h = absurd (omega arith)
 
   pub past_elements : length (elements accepted p) < last_rank accepted p → is_retired accepted p ≡ true
-  past_elements h = (last_or (is_retired accepted p) (length (elements accepted p))).2 h
+  past_elements h = retired_or (is_retired accepted p) (length (elements accepted p)) h
 
   pub last_retired : is_retired accepted p ≡ true → last_rank accepted p ≡ length (elements accepted p) + 1
   last_retired h = cond-true (is_retired accepted p) (length (elements accepted p) + 1) (length (elements accepted p)) h
@@ -33,7 +28,7 @@ module _ (accepted : List Report) (p : ℕ) where
   -- a rank that the process has is the rank of its position
   pub rank_at : (r : ℕ) → r ≤ last_rank accepted p → rank accepted p (position_at accepted p r) ≡ r
   rank_at r le = elim (cases_lt (length (elements accepted p)) r) [
-    | inl lt ↦ ap (rank accepted p) (at_end accepted p r lt) ∙ omega (arith, lt, le, last_below)
+    | inl lt ↦ ap (rank accepted p) (at_end accepted p r lt) ∙ omega (arith, lt, le, last_below accepted p)
     | inr ge ↦ ap (rank accepted p) (at_element accepted p r ge)
   ]
 
@@ -45,7 +40,7 @@ module _ (accepted : List Report) (p : ℕ) where
 
   -- a position that the process has is the one of its rank, which is at most the last
   surviving_at : (failed : List ℕ) (k : Position) → IsSurviving accepted failed p k → (rank accepted p k ≤ last_rank accepted p) × (position_at accepted p (rank accepted p k) ≡ k)
-  surviving_at failed (At k) h = (omega (arith, h.1, last_above), at_element accepted p k h.1)
+  surviving_at failed (At k) h = (omega (arith, h.1, last_above accepted p), at_element accepted p k h.1)
   surviving_at failed Retired h = (omega (arith, last_retired h), at_end accepted p (length (elements accepted p) + 1) (omega arith))
 
   chosen_at : (failed : List ℕ) (k : Position) → IsChosen accepted failed p k → (rank accepted p k ≤ last_rank accepted p) × (position_at accepted p (rank accepted p k) ≡ k)

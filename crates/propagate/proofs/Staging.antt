@@ -1,6 +1,6 @@
 -- What a round has made of the processes before the i-th, and what it leaves of the others.
 use Rattle.std.proofs.Common.{◌≡◌, ◌≢◌, inl, inr, ℕ, ◌+◌, ◌≤◌, ◌<◌, Some, List, [], ◌∷◌, ◌++◌, length, get_or, Contains, refl, sym, ap, subst, ◌∙◌, arith}
-use Rattle.std.specs.Prelude.{slice_index, ⊤}
+use Rattle.std.specs.Prelude.{slice_index, All}
 use Rattle.std.proofs.lemmas.Bool.{cases_lt}
 use Rattle.std.proofs.lemmas.List.{get_or_append_left, get_or_push, length_push, length-append, get_or-map}
 use Rattle.std.proofs.lemmas.List.Elements.{All-weaker, All-contains_itself}
@@ -11,26 +11,29 @@ use Rattle.chains.specs.Positions.{place_at, last_rank}
 use Rattle.chains.proofs.Listing.{AreListedTo, listed_none, listed_more, listed_other, listed_same}
 use Rattle.knows_row.specs.Knowing.{KnowsRank, IsLawful}
 use Rattle.propagate.specs.Ranks.{IsNextRank, AreNextRanks, AreFallen, IsGrounded, IsCauseOf}
-use Rattle.propagate.specs.Thresholds.{ArePastAll, IsLoweredFrom}
+use Rattle.event_tree.specs.EventTree.{EventTree}
+use Rattle.std.specs.List.Sorted.{IsStrictlyIncreasing}
+use Rattle.knows_row.specs.Looks.{AreBoundsOf, IsLoweredFrom, all_known}
+use Rattle.knows_row.specs.Thresholds.{AreThresholdsOf}
+use Rattle.knows_row.proofs.Lasts.{all_in_order, all_below, all_has}
 use Rattle.propagate.specs.Rounds.{AreTops}
 use Rattle.propagate.specs.Stages.{IsStanding, AreGroundedBy, AreThere}
-use Rattle.propagate.proofs.Ranked.{last_below}
 use Rattle.propagate.proofs.Rounding.{clear_but_fallen}
 use Rattle.propagate.proofs.Grounding.{grounded_first, grounded_more, grounded_still, falls_everywhere}
 
 -- the first stage: every process may be known too far
 pub first_standing : (accepted : List Report) (tops heads fell : List ℕ) → length tops ≡ length (known accepted)
-    → ((p : ℕ) → p < length tops → slice_index tops p ≤ last_rank accepted p) → length heads ≡ length tops → AreListedTo (λ q. ⊤) (length tops) fell
+    → ((p : ℕ) → p < length tops → slice_index tops p ≤ last_rank accepted p) → length heads ≡ length tops → fell ≡ all_known accepted
     → IsStanding accepted tops tops heads fell
-first_standing accepted tops heads fell complete within headed listed = record {
+first_standing accepted tops heads fell complete within headed is = record {
   complete = complete;
   each = refl;
   within = within;
   surviving = λ p lt. omega arith;
   headed = headed;
-  in_order = listed.in_order;
-  fallen = All-weaker (Contains fell) (λ q. q < length tops) (λ q there. ((listed.just_these q).0 there).0) fell (All-contains_itself fell);
-  clear = λ p q pin qin standing. absurd (standing ((listed.just_these q).1 (qin, tt)));
+  in_order = subst IsStrictlyIncreasing (sym is) (all_in_order accepted);
+  fallen = subst (All (λ (q : ℕ). q < length tops)) (sym is) (all_below accepted (length tops) complete);
+  clear = λ p q pin qin standing. absurd (standing (subst (λ (xs : List ℕ). Contains xs q) (sym is) (all_has accepted q (omega (arith, qin, complete)))));
 }
 
 -- no rank is past the last one
@@ -111,16 +114,7 @@ module _ (accepted : List Report) (cut : List ℕ) (i : ℕ) (next fell : List �
     ]);
   }
 
--- ---- the cut before
-
--- before the first round it is behind everything
-pub first_lowered : (accepted : List Report) (tops before : List ℕ) → IsLawful accepted → length tops ≡ length (known accepted) → ((p : ℕ) → p < length tops → slice_index tops p ≤ last_rank accepted p)
-    → ArePastAll accepted before → IsLoweredFrom accepted before tops
-first_lowered accepted tops before laws complete within past = record {
-  complete = past.0 ∙ sym complete;
-  falls = λ q lt. omega (arith, within q lt, last_below accepted q, past.1 q (omega (arith, lt, past.0, complete)));
-  unknown = λ p q pin qin. laws.ended p (slice_index tops p) q (slice_index before q) (omega (arith, past.1 q (omega (arith, qin, past.0, complete))));
-}
+-- ---- the cut before, and thresholds
 
 -- after one it is the cut that the round began with
 pub next_lowered : (accepted : List Report) (cut next : List ℕ) → AreNextRanks accepted cut next → IsLoweredFrom accepted cut next
@@ -128,6 +122,18 @@ next_lowered accepted cut next h = record {
   complete = sym h.complete;
   falls = λ q lt. (h.each q (omega (arith, lt, h.complete))).before;
   unknown = λ p q pin qin. (h.each p (omega (arith, pin, h.complete))).clear q (omega (arith, qin, h.complete));
+}
+
+-- thresholds of what came behind the ranks bound every place of the cut
+pub bounds_of_stage : (accepted : List Report) (tops before cut heads fell : List ℕ) (rows : List (List EventTree)) → IsStanding accepted tops cut heads fell → IsLoweredFrom accepted before cut
+    → AreThresholdsOf accepted cut before fell rows → AreBoundsOf accepted cut fell rows
+bounds_of_stage accepted tops before cut heads fell rows s low h = record {
+  within = below_last accepted tops cut heads fell s;
+  in_order = s.in_order;
+  fallen = s.fallen;
+  before = before;
+  lowered = low;
+  thresholds = h;
 }
 
 -- ---- chains

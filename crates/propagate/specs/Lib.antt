@@ -2,6 +2,5 @@ pub mod Greatest
 pub mod Rounds
 pub mod Choice
 pub mod Ranks
-pub mod Thresholds
 pub mod Stages
 pub mod Nodes

@@ -63,11 +63,6 @@ abbrev pub IsClearBut : List Report → List ℕ → List ℕ → Type 0
 IsClearBut accepted fell cut =
     (p q : ℕ) → p < length cut → q < length cut → ¬ Contains fell q → ¬ KnowsRank accepted p (slice_index cut p) q (slice_index cut q)
 
--- of these processes q is the first, in order of birth, that rank x of p knows after its rank in the cut
-pub record IsFirstKnown (accepted : List Report) (among cut : List ℕ) (p x q : ℕ) : Type 0 where
-  pub known : KnowsRank accepted p x q (slice_index cut q)
-  pub first : (j : ℕ) → Contains among j → KnowsRank accepted p x j (slice_index cut j) → q ≤ j
-
 -- A round that brings p to this rank: none, where it stays; or the first process that the position above knows after its
 -- rank in the cut.
 abbrev pub IsCauseOf : List Report → List ℕ → ℕ → ℕ → Option ℕ → Type 0
@@ -80,7 +75,3 @@ IsCauseOf accepted cut p r (Some q) =
 pub record AreFallen (cut next fell : List ℕ) : Type 0 where
   pub in_order : IsStrictlyIncreasing fell
   pub just_these : (q : ℕ) → (Contains fell q ↔ ((q < length cut) × (slice_index next q < slice_index cut q)))
-
--- rank x of p knows one of these processes after its rank in the cut
-abbrev pub KnowsOne : List Report → List ℕ → List ℕ → ℕ → ℕ → Type 0
-KnowsOne accepted fell cut p x = (q : ℕ) × Contains fell q × KnowsRank accepted p x q (slice_index cut q)

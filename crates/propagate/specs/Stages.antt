@@ -6,7 +6,7 @@ use Rattle.chains.specs.declared.position.Place.{Place}
 use Rattle.chains.specs.Processes.{known}
 use Rattle.chains.specs.Positions.{last_rank, place_at}
 use Rattle.propagate.specs.Ranks.{AreGrounded, RanksAfter, IsClearBut, IsCauseOf, positions_from}
-use Rattle.propagate.specs.Thresholds.{IsLoweredFrom}
+use Rattle.knows_row.specs.Looks.{IsLoweredFrom}
 use Rattle.propagate.specs.Rounds.{AreTops}
 use Rattle.propagate.specs.Choice.{ChainsAfter}
 

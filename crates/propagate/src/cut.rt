@@ -1,6 +1,6 @@
 //! The greatest stamp-consistent cut, and its certificate.
 
-ghost use Rattle.std.specs.Prelude.{◌≡◌, ◌<◌, ◌≤◌, ◌+◌, ◌-◌, ◌^◌, ◌↔◌, ℕ, List, IfOk, Contains, length, map, slice_index, sum};
+ghost use Rattle.std.specs.Prelude.{◌≡◌, ◌<◌, ◌≤◌, ◌+◌, ◌-◌, ◌^◌, ◌↔◌, ℕ, List, IfOk, IfSome, Contains, length, map, slice_index, sum};
 ghost use Rattle.std.specs.List.{range_with_len};
 ghost use Rattle.report_line.specs.declared.report.Report.{Report};
 ghost use Rattle.chains.specs.Processes.{known};
@@ -9,6 +9,8 @@ ghost use Rattle.chains.specs.Folded.{IsFolded};
 ghost use Rattle.chains.specs.declared.position.Place.{Place as AnyPlace};
 ghost use Rattle.reasons.specs.declared.certificate.Certificate.{Certificate as AnyCertificate};
 ghost use Rattle.chains.specs.Held.{Held, held_of};
+ghost use Rattle.knows_row.specs.Looks.{last_ranks};
+ghost use Rattle.knows_row.specs.Needs.{IsTableOf};
 ghost use Rattle.reasons.specs.Certificates.{AreReasons, Certifies, positions_of};
 ghost use Rattle.history_law.specs.Headline.{IsLineOfHistories};
 ghost use Rattle.propagate.specs.Greatest.{IsGreatestCut};
@@ -21,6 +23,7 @@ use crate::arena::Arena;
 use crate::places::{last_surviving_ranks, line_at};
 use crate::rounds::{Stage, first_stage, round};
 use chains::{Chains, Failed, Line};
+use knows_row::Needs;
 use reasons::{Certificate, Numbers, Reasons};
 use std::alloc::AllocError;
 
@@ -63,11 +66,12 @@ struct Settled {
     rounds: u32,
 }
 
-/// Makes rounds up to the first that changes nothing.
-fn settle(chains: &Chains, tops: &[u32]) -> Result<Settled, AllocError>
+/// Makes rounds up to the first that changes nothing, the first one by the table of needs, if there is one.
+fn settle(chains: &Chains, needs: Option<&Needs<'_>>, tops: &[u32]) -> Result<Settled, AllocError>
     requires complete { length tops.now ≡ length (known chains.now.accepted) }
     requires within { (p : ℕ) → p < length tops.now → slice_index tops.now p ≤ last_rank chains.now.accepted p }
     requires few { sum tops.now < 2 ^ 32 - 1 }
+    requires table { IfSome needs (λ n. IsTableOf chains.now.accepted n.now × (tops.now ≡ last_ranks chains.now.accepted)) }
     ensures standing { IfOk result (λ s. IsStanding chains.now.accepted tops.now s.stage.cut.items s.stage.heads.items s.stage.fell.items) }
     ensures grounded { IfOk result (λ s. AreGroundedBy chains.now.accepted tops.now s.stage.cut.items s.stage.heads.items s.arena) }
     ensures there { IfOk result (λ s. AreThere tops.now s.stage.cut.items s.stage.heads.items s.arena) }
@@ -79,8 +83,9 @@ fn settle(chains: &Chains, tops: &[u32]) -> Result<Settled, AllocError>
     let mut arena = Arena::new(chains.alloc());
     let mut stage = first_stage(chains, tops)?;
     let mut rounds = 1;
+    let mut table = needs;
     loop {
-        let next = round(chains, &mut arena, tops, &stage)?;
+        let next = round(chains, table, &mut arena, tops, &stage)?;
         if next.fell.is_empty() {
             return Ok(Settled {
                 stage: next,
@@ -89,8 +94,43 @@ fn settle(chains: &Chains, tops: &[u32]) -> Result<Settled, AllocError>
             });
         }
         stage = next;
+        table = None;
         rounds += 1;
     }
+}
+
+/// The table of needs, where all processes are at their last places.
+fn at_last<'a, 'b>(needs: Option<&'a Needs<'b>>, tops: &[u32]) -> Option<&'a Needs<'b>>
+    ensures { (accepted : List Report) → IfSome needs.entry (λ n. IsTableOf accepted n.now) → IfSome result (λ n. IsTableOf accepted n.now × (tops.now ≡ last_ranks accepted)) }
+{
+    match needs {
+        Some(table) if table.last_ranks() == tops => Some(table),
+        _ => None,
+    }
+}
+
+/// The cut as `greatest_cut` has it, by a table of needs of these chains, if there is one.
+fn cut_by(chains: &Chains, needs: Option<&Needs<'_>>, failed: &Failed) -> Result<Cut, AllocError>
+    requires { IfSome needs (λ n. IsTableOf chains.now.accepted n.now) }
+    ensures in_order { IfOk result (λ cut. map (λ (x : AnyPlace). x.process) cut.line ≡ range_with_len 0 (length (known chains.now.accepted))) }
+    ensures line { IfOk result (λ cut. IsGreatestCut chains.now.accepted failed.now (positions_of cut.line)) }
+    ensures of_histories { IfOk result (λ cut. IsLineOfHistories chains.now.accepted failed.now (positions_of cut.line)) }
+    ensures reasons { IfOk result (λ cut. AreReasons chains.now.accepted failed.now (positions_of cut.line) cut.reasons) }
+    ensures rounds { IfOk result (λ cut. AreRounds chains.now.accepted failed.now cut.rounds (positions_of cut.line)) }
+    ensures chosen { IfOk result (λ cut. AreChosen chains.now.accepted failed.now cut.line cut.reasons cut.rounds) }
+    // The sum counts the surviving positions above 0.
+    ensures few { IfOk result (λ cut. (tops : List ℕ) → AreTops chains.now.accepted failed.now tops → cut.rounds ≤ sum tops + 1) }
+{
+    chains.lawful();
+    let tops = last_surviving_ranks(chains, failed)?;
+    let settled = settle(chains, at_last(needs, &tops), &tops)?;
+    let line = line_at(chains, &settled.stage.cut)?;
+    let reasons = reasons_due(chains, &settled.arena, &tops, &settled.stage)?;
+    Ok(Cut {
+        line,
+        reasons,
+        rounds: settled.rounds,
+    })
 }
 
 /// The greatest stamp-consistent cut over these chains for a failed set. In every lawful history that agrees with the accepted
@@ -105,15 +145,47 @@ pub fn greatest_cut(chains: &Chains, failed: &Failed) -> Result<Cut, AllocError>
     // The sum counts the surviving positions above 0.
     ensures few { IfOk result (λ cut. (tops : List ℕ) → AreTops chains.now.accepted failed.now tops → cut.rounds ≤ sum tops + 1) }
 {
-    chains.lawful();
-    let tops = last_surviving_ranks(chains, failed)?;
-    let settled = settle(chains, &tops)?;
-    let line = line_at(chains, &settled.stage.cut)?;
-    let reasons = reasons_due(chains, &settled.arena, &tops, &settled.stage)?;
-    Ok(Cut {
-        line,
-        reasons,
-        rounds: settled.rounds,
+    cut_by(chains, None, failed)
+}
+
+/// The same cut, with the same chains and as many rounds, by a table of needs of these chains. It waits for nobody.
+pub fn greatest_cut_from(
+    chains: &Chains,
+    needs: &Needs<'_>,
+    failed: &Failed,
+) -> Result<Cut, AllocError>
+    requires { IsTableOf chains.now.accepted needs.now }
+    ensures in_order { IfOk result (λ cut. map (λ (x : AnyPlace). x.process) cut.line ≡ range_with_len 0 (length (known chains.now.accepted))) }
+    ensures line { IfOk result (λ cut. IsGreatestCut chains.now.accepted failed.now (positions_of cut.line)) }
+    ensures of_histories { IfOk result (λ cut. IsLineOfHistories chains.now.accepted failed.now (positions_of cut.line)) }
+    ensures reasons { IfOk result (λ cut. AreReasons chains.now.accepted failed.now (positions_of cut.line) cut.reasons) }
+    ensures rounds { IfOk result (λ cut. AreRounds chains.now.accepted failed.now cut.rounds (positions_of cut.line)) }
+    ensures chosen { IfOk result (λ cut. AreChosen chains.now.accepted failed.now cut.line cut.reasons cut.rounds) }
+    // The sum counts the surviving positions above 0.
+    ensures few { IfOk result (λ cut. (tops : List ℕ) → AreTops chains.now.accepted failed.now tops → cut.rounds ≤ sum tops + 1) }
+{
+    cut_by(chains, Some(needs), failed)
+}
+
+/// The certificate as `certificate` has it, by a table of needs of these chains, if there is one.
+pub fn certificate_by(
+    chains: &Chains,
+    needs: Option<&Needs<'_>>,
+    failed: &Failed,
+) -> Result<Certificate, AllocError>
+    requires { IfSome needs (λ n. IsTableOf chains.now.accepted n.now) }
+    ensures certifies { IfOk result (λ c. Certifies (held_of chains.now) c) }
+    ensures of_histories { IfOk result (λ c. IsLineOfHistories chains.now.accepted c.failed (positions_of c.line)) }
+    ensures failed { IfOk result (λ c. (p : ℕ) → (Contains c.failed p ↔ (Contains failed.now p × (p < length (known chains.now.accepted))))) }
+    ensures chosen { IfOk result (λ c. IsChosenCertificate (held_of chains.now) failed.now c) }
+{
+    let failed = failed.known_to(chains)?;
+    let cut = cut_by(chains, needs, &failed)?;
+    Ok(Certificate {
+        failed: Numbers::from_vec(failed.into_numbers()),
+        front: chains.front() as u64,
+        line: cut.line,
+        reasons: cut.reasons,
     })
 }
 
@@ -124,14 +196,22 @@ pub fn certificate(chains: &Chains, failed: &Failed) -> Result<Certificate, Allo
     ensures failed { IfOk result (λ c. (p : ℕ) → (Contains c.failed p ↔ (Contains failed.now p × (p < length (known chains.now.accepted))))) }
     ensures chosen { IfOk result (λ c. IsChosenCertificate (held_of chains.now) failed.now c) }
 {
-    let failed = failed.known_to(chains)?;
-    let cut = greatest_cut(chains, &failed)?;
-    Ok(Certificate {
-        failed: Numbers::from_vec(failed.into_numbers()),
-        front: chains.front() as u64,
-        line: cut.line,
-        reasons: cut.reasons,
-    })
+    certificate_by(chains, None, failed)
+}
+
+/// The same certificate, by a table of needs of these chains. It waits for nobody.
+pub fn certificate_from(
+    chains: &Chains,
+    needs: &Needs<'_>,
+    failed: &Failed,
+) -> Result<Certificate, AllocError>
+    requires { IsTableOf chains.now.accepted needs.now }
+    ensures certifies { IfOk result (λ c. Certifies (held_of chains.now) c) }
+    ensures of_histories { IfOk result (λ c. IsLineOfHistories chains.now.accepted c.failed (positions_of c.line)) }
+    ensures failed { IfOk result (λ c. (p : ℕ) → (Contains c.failed p ↔ (Contains failed.now p × (p < length (known chains.now.accepted))))) }
+    ensures chosen { IfOk result (λ c. IsChosenCertificate (held_of chains.now) failed.now c) }
+{
+    certificate_by(chains, Some(needs), failed)
 }
 
 /// What certifies for what is held, where its list is folded, is the greatest stamp-consistent cut of that list, and so the

@@ -1,15 +1,14 @@
 //! How far a process falls in a round, and what makes it.
 
-ghost use Rattle.std.specs.Prelude.{◌≡◌, ◌<◌, ◌≤◌, ◌+◌, ◌↔◌, ℕ, IsTrue, MatchOption, Contains, length, slice_index};
-ghost use Rattle.knows_row.specs.Knowing.{KnowsRank};
-ghost use Rattle.propagate.specs.Ranks.{IsNextRank, IsFirstKnown, IsCauseOf, KnowsOne};
+ghost use Rattle.std.specs.Prelude.{◌≡◌, ◌<◌, ◌≤◌, ◌+◌, ◌↔◌, IfSome, IsTrue, length, slice_index};
+ghost use Rattle.chains.specs.Processes.{known};
+ghost use Rattle.knows_row.specs.Looks.{AreBoundsOf, IsFirstOf, KnowsOne, last_ranks};
+ghost use Rattle.propagate.specs.Ranks.{IsClearRank, IsNextRank, IsCauseOf};
 ghost use Rattle.propagate.specs.Stages.{IsStanding};
-ghost use Rattle.propagate.specs.Thresholds.{AreThresholdsOf, IsLoweredFrom};
 
-use crate::places::place_at;
 use crate::rounds::Stage;
-use crate::thresholds::Thresholds;
 use chains::Chains;
+use knows_row::{Needs, Thresholds};
 
 /// Where a round brings a process, and, if that is lower, the first process that the position above knows too much of.
 #[derive(Drop)]
@@ -22,58 +21,48 @@ pub(crate) struct Lowered {
 fn first_known(
     chains: &Chains,
     thresholds: &Thresholds,
-    tops: &[u32],
     stage: &Stage,
     process: u32,
     rank: u32,
 ) -> Option<u32>
-    requires standing { IsStanding chains.now.accepted tops.now stage.now.cut.items stage.now.heads.items stage.now.fell.items }
-    requires from { IsLoweredFrom chains.now.accepted stage.now.before.items stage.now.cut.items }
-    requires thresholds { AreThresholdsOf chains.now.accepted stage.now.cut.items stage.now.before.items stage.now.fell.items thresholds.now }
+    requires bounds { AreBoundsOf chains.now.accepted stage.now.cut.items stage.now.fell.items thresholds.now }
+    requires complete { length stage.now.cut.items ≡ length (known chains.now.accepted) }
     requires process { process < length stage.now.cut.items }
     requires rank { rank ≤ slice_index stage.now.cut.items process }
-    ensures { MatchOption result
-        ((q : ℕ) → Contains stage.now.fell.items q → ¬ KnowsRank chains.now.accepted process rank q (slice_index stage.now.cut.items q))
-        (λ q. (q < length stage.now.cut.items) × IsFirstKnown chains.now.accepted stage.now.fell.items stage.now.cut.items process rank q) }
+    ensures { IsFirstOf chains.now.accepted stage.now.fell.items stage.now.cut.items process rank result }
 {
-    chains.lawful();
-    let place = place_at(chains, process, rank);
-    match chains.events_at(place) {
-        None => None,
-        Some(events) => {
-            events.known();
-            match thresholds.first_passed(events) {
-                None => None,
-                Some(i) => Some(stage.fell[i]),
-            }
-        }
-    }
+    knows_row::first_known(chains, thresholds, &stage.cut, &stage.fell, process, rank)
 }
 
 /// Whether the place at this rank knows one of the processes that fell after its rank in the cut.
 fn knows_one(
     chains: &Chains,
     thresholds: &Thresholds,
-    tops: &[u32],
     stage: &Stage,
     process: u32,
     rank: u32,
 ) -> bool
-    requires standing { IsStanding chains.now.accepted tops.now stage.now.cut.items stage.now.heads.items stage.now.fell.items }
-    requires from { IsLoweredFrom chains.now.accepted stage.now.before.items stage.now.cut.items }
-    requires thresholds { AreThresholdsOf chains.now.accepted stage.now.cut.items stage.now.before.items stage.now.fell.items thresholds.now }
+    requires bounds { AreBoundsOf chains.now.accepted stage.now.cut.items stage.now.fell.items thresholds.now }
+    requires complete { length stage.now.cut.items ≡ length (known chains.now.accepted) }
     requires process { process < length stage.now.cut.items }
     requires rank { rank ≤ slice_index stage.now.cut.items process }
     ensures { IsTrue result ↔ KnowsOne chains.now.accepted stage.now.fell.items stage.now.cut.items process rank }
 {
-    chains.lawful();
-    let place = place_at(chains, process, rank);
-    match chains.events_at(place) {
+    knows_row::knows_one(chains, thresholds, &stage.cut, &stage.fell, process, rank)
+}
+
+/// Whether a table of needs tells that the process stays where it is.
+fn stays(chains: &Chains, table: Option<&Needs<'_>>, stage: &Stage, process: u32) -> bool
+    requires table { IfSome table (λ needs. (needs.now.accepted ≡ chains.now.accepted) × (stage.now.cut.items ≡ last_ranks chains.now.accepted)) }
+    requires complete { length stage.now.cut.items ≡ length (known chains.now.accepted) }
+    requires process { process < length stage.now.cut.items }
+    ensures { IsTrue result → IsClearRank chains.now.accepted stage.now.cut.items process (slice_index stage.now.cut.items process) }
+{
+    let _chains = chains;
+    let _stage = stage;
+    match table {
         None => false,
-        Some(events) => {
-            events.known();
-            thresholds.is_passed(events)
-        }
+        Some(needs) => needs.is_clear_at_last(process),
     }
 }
 
@@ -86,8 +75,7 @@ fn next_rank(
     process: u32,
 ) -> u32
     requires standing { IsStanding chains.now.accepted tops.now stage.now.cut.items stage.now.heads.items stage.now.fell.items }
-    requires from { IsLoweredFrom chains.now.accepted stage.now.before.items stage.now.cut.items }
-    requires thresholds { AreThresholdsOf chains.now.accepted stage.now.cut.items stage.now.before.items stage.now.fell.items thresholds.now }
+    requires bounds { AreBoundsOf chains.now.accepted stage.now.cut.items stage.now.fell.items thresholds.now }
     requires process { process < length stage.now.cut.items }
     ensures rank { IsNextRank chains.now.accepted stage.now.cut.items process result }
     ensures known { result < slice_index stage.now.cut.items process → KnowsOne chains.now.accepted stage.now.fell.items stage.now.cut.items process (result + 1) }
@@ -95,7 +83,7 @@ fn next_rank(
     chains.lawful();
     let mut rank = stage.cut[process as usize];
     while rank > 0 {
-        if !knows_one(chains, thresholds, tops, stage, process, rank) {
+        if !knows_one(chains, thresholds, stage, process, rank) {
             return rank;
         }
         rank -= 1;
@@ -107,22 +95,29 @@ fn next_rank(
 pub(crate) fn lower(
     chains: &Chains,
     thresholds: &Thresholds,
+    table: Option<&Needs<'_>>,
     tops: &[u32],
     stage: &Stage,
     process: u32,
 ) -> Lowered
     requires standing { IsStanding chains.now.accepted tops.now stage.now.cut.items stage.now.heads.items stage.now.fell.items }
-    requires from { IsLoweredFrom chains.now.accepted stage.now.before.items stage.now.cut.items }
-    requires thresholds { AreThresholdsOf chains.now.accepted stage.now.cut.items stage.now.before.items stage.now.fell.items thresholds.now }
+    requires bounds { AreBoundsOf chains.now.accepted stage.now.cut.items stage.now.fell.items thresholds.now }
+    requires table { IfSome table (λ needs. (needs.now.accepted ≡ chains.now.accepted) × (stage.now.cut.items ≡ last_ranks chains.now.accepted)) }
     requires process { process < length stage.now.cut.items }
     ensures rank { IsNextRank chains.now.accepted stage.now.cut.items process result.rank }
     ensures cause { IsCauseOf chains.now.accepted stage.now.cut.items process result.rank result.cause }
 {
     chains.lawful();
+    if stays(chains, table, stage, process) {
+        return Lowered {
+            rank: stage.cut[process as usize],
+            cause: None,
+        };
+    }
     let rank = next_rank(chains, thresholds, tops, stage, process);
     if rank == stage.cut[process as usize] {
         return Lowered { rank, cause: None };
     }
-    let cause = first_known(chains, thresholds, tops, stage, process, rank + 1);
+    let cause = first_known(chains, thresholds, stage, process, rank + 1);
     Lowered { rank, cause }
 }

@@ -6,8 +6,8 @@ mod cut;
 mod falls;
 mod places;
 mod rounds;
-mod thresholds;
 
 pub use cut::{
-    Cut, certificate, certified_lines_are_the_greatest, greatest_cut, the_rounds_choose_once,
+    Cut, certificate, certificate_by, certificate_from, certified_lines_are_the_greatest,
+    greatest_cut, greatest_cut_from, the_rounds_choose_once,
 };

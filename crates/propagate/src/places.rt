@@ -2,27 +2,14 @@
 
 ghost use Rattle.std.specs.Prelude.{◌≡◌, ◌<◌, ◌≤◌, ◌+◌, All, IfOk, length};
 ghost use Rattle.chains.specs.Processes.{known};
-ghost use Rattle.chains.specs.Positions.{place_at, position_at, last_rank, IsLastSurviving};
+ghost use Rattle.chains.specs.Positions.{position_at, last_rank, IsLastSurviving};
 ghost use Rattle.chains.specs.Admission.{report_limit};
 ghost use Rattle.propagate.specs.Ranks.{places_from};
 ghost use Rattle.propagate.specs.Rounds.{AreTops};
 
-use chains::{Chains, Failed, Line, Place, Position};
+use chains::{Chains, Failed, Line, Position};
+use knows_row::place_at;
 use std::alloc::AllocError;
-
-/// The place of a process at a rank that it has.
-pub(crate) fn place_at(chains: &Chains, process: u32, rank: u32) -> Place
-    requires { process < length (known chains.now.accepted) }
-    ensures { result ≡ place_at chains.now.accepted process rank }
-{
-    let last = chains.elements(process).len();
-    let position = if last < rank {
-        Position::Retired
-    } else {
-        Position::At(rank)
-    };
-    Place { process, position }
-}
 
 /// The rank of the last surviving position of a process.
 fn last_surviving_rank(chains: &Chains, process: u32, failed: &Failed) -> u32

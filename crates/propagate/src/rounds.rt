@@ -1,19 +1,19 @@
 //! The rounds of rollback propagation.
 
-ghost use Rattle.std.specs.Prelude.{◌≡◌, ◌<◌, ◌≤◌, ◌+◌, ◌++◌, ℕ, List, [], IfOk, length, get_or, slice_index};
+ghost use Rattle.std.specs.Prelude.{◌≡◌, ◌<◌, ◌≤◌, ◌+◌, ◌++◌, ℕ, List, [], IfOk, IfSome, length, get_or, slice_index};
 ghost use Rattle.chains.specs.Processes.{known};
 ghost use Rattle.chains.specs.Positions.{place_at as place_of_rank, last_rank};
 ghost use Rattle.chains.specs.declared.position.Place.{Place as AnyPlace};
 ghost use Rattle.propagate.specs.Ranks.{AreNextRanks, IsGrounded, IsCauseOf, AreFallen};
 ghost use Rattle.propagate.specs.Rounds.{AreTops};
-ghost use Rattle.propagate.specs.Thresholds.{IsLoweredFrom, ArePastAll};
+ghost use Rattle.knows_row.specs.Looks.{AreBoundsOf, IsLoweredFrom, all_known, last_ranks};
+ghost use Rattle.knows_row.specs.Needs.{IsTableOf};
 ghost use Rattle.propagate.specs.Stages.{IsStanding, AreGroundedBy, AreThere, IsChainAt, AreChainsAt};
 
 use crate::arena::Arena;
 use crate::falls::{Lowered, lower};
-use crate::places::place_at;
-use crate::thresholds::Thresholds;
 use chains::Chains;
+use knows_row::{Needs, Thresholds, all_processes, place_at, ranks_past_all};
 use std::alloc::AllocError;
 
 /// A cut after some rounds: the rank of each process, before the last round and after it; for those below their last surviving
@@ -26,17 +26,6 @@ pub(crate) struct Stage {
     pub(crate) fell: Vec<u32>,
 }
 
-/// For each process a rank behind all its elements.
-fn ranks_past_all(chains: &Chains) -> Result<Vec<u32>, AllocError>
-    ensures { IfOk result (λ ranks. ArePastAll chains.now.accepted ranks.items) }
-{
-    let mut ranks = Vec::with_capacity(chains.alloc(), chains.count() as usize)?;
-    for process in 0..chains.count() {
-        ranks.push(chains.elements(process).len() + 1)?;
-    }
-    Ok(ranks)
-}
-
 /// The first cut, of all last surviving ranks, from which any process may be known too far.
 pub(crate) fn first_stage(chains: &Chains, tops: &[u32]) -> Result<Stage, AllocError>
     requires complete { length tops.now ≡ length (known chains.now.accepted) }
@@ -45,14 +34,13 @@ pub(crate) fn first_stage(chains: &Chains, tops: &[u32]) -> Result<Stage, AllocE
     ensures standing { IfOk result (λ s. IsStanding chains.now.accepted tops.now s.cut.items s.heads.items s.fell.items) }
     ensures from { IfOk result (λ s. IsLoweredFrom chains.now.accepted s.before.items s.cut.items) }
     ensures there { IfOk result (λ s. (arena : List (List AnyPlace)) → AreThere tops.now s.cut.items s.heads.items arena) }
+    ensures all { IfOk result (λ s. s.fell.items ≡ all_known chains.now.accepted) }
 {
     let cut = Vec::from_slice(chains.alloc(), tops)?;
     let heads = Vec::from_elem(chains.alloc(), 0, tops.len())?;
     let before = ranks_past_all(chains)?;
-    let mut fell = Vec::with_capacity(chains.alloc(), tops.len())?;
-    for process in 0..chains.count() {
-        fell.push(process)?;
-    }
+    let fell = all_processes(chains)?;
+    chains.lawful();
     Ok(Stage {
         before,
         cut,
@@ -97,9 +85,12 @@ fn next_head(
     arena.prolong(before, place)
 }
 
-/// One round, in which every process is looked at against the same cut.
-pub(crate) fn round(
+/// One round, in which every process is looked at against the same cut by these thresholds. Where there is a table of needs, all
+/// processes stand at their last places, and it tells of some that they stay.
+fn round_by(
     chains: &Chains,
+    thresholds: &Thresholds,
+    table: Option<&Needs<'_>>,
     arena: &mut Arena,
     tops: &[u32],
     stage: &Stage,
@@ -107,7 +98,8 @@ pub(crate) fn round(
     requires standing { IsStanding chains.now.accepted tops.now stage.now.cut.items stage.now.heads.items stage.now.fell.items }
     requires grounded { AreGroundedBy chains.now.accepted tops.now stage.now.cut.items stage.now.heads.items arena.old }
     requires there { AreThere tops.now stage.now.cut.items stage.now.heads.items arena.old }
-    requires from { IsLoweredFrom chains.now.accepted stage.now.before.items stage.now.cut.items }
+    requires bounds { AreBoundsOf chains.now.accepted stage.now.cut.items stage.now.fell.items thresholds.now }
+    requires table { IfSome table (λ needs. (needs.now.accepted ≡ chains.now.accepted) × (stage.now.cut.items ≡ last_ranks chains.now.accepted)) }
     ensures ranks { IfOk result (λ next. AreNextRanks chains.now.accepted stage.now.cut.items next.cut.items) }
     ensures fallen { IfOk result (λ next. AreFallen stage.now.cut.items next.cut.items next.fell.items) }
     ensures standing { IfOk result (λ next. IsStanding chains.now.accepted tops.now next.cut.items next.heads.items next.fell.items) }
@@ -116,13 +108,12 @@ pub(crate) fn round(
     ensures from { IfOk result (λ next. IsLoweredFrom chains.now.accepted next.before.items next.cut.items) }
     ensures chains { IfOk result (λ next. AreChainsAt chains.now.accepted tops.now stage.now.cut.items stage.now.heads.items arena.old next.cut.items next.heads.items arena.new) }
 {
-    let thresholds = Thresholds::of(chains, &stage.cut, &stage.before, &stage.fell)?;
     let before = Vec::from_slice(chains.alloc(), &stage.cut)?;
     let mut cut = Vec::with_capacity(chains.alloc(), stage.cut.len())?;
     let mut heads = Vec::with_capacity(chains.alloc(), stage.cut.len())?;
     let mut fell = Vec::new(chains.alloc());
     for process in 0..chains.count() {
-        let low = lower(chains, &thresholds, tops, stage, process);
+        let low = lower(chains, thresholds, table, tops, stage, process);
         let head = next_head(chains, arena, tops, stage, process, &low)?;
         if low.rank < stage.cut[process as usize] {
             fell.push(process)?;
@@ -136,4 +127,45 @@ pub(crate) fn round(
         heads,
         fell,
     })
+}
+
+/// The thresholds of what fell before a round.
+fn thresholds_of(chains: &Chains, tops: &[u32], stage: &Stage) -> Result<Thresholds, AllocError>
+    requires standing { IsStanding chains.now.accepted tops.now stage.now.cut.items stage.now.heads.items stage.now.fell.items }
+    requires from { IsLoweredFrom chains.now.accepted stage.now.before.items stage.now.cut.items }
+    ensures { IfOk result (λ t. AreBoundsOf chains.now.accepted stage.now.cut.items stage.now.fell.items t) }
+{
+    let _tops = tops;
+    Thresholds::of(chains, &stage.cut, &stage.before, &stage.fell)
+}
+
+/// One round, in which every process is looked at against the same cut. The first round goes by the table of needs, where there is one
+/// and all processes stand at their last places.
+pub(crate) fn round(
+    chains: &Chains,
+    table: Option<&Needs<'_>>,
+    arena: &mut Arena,
+    tops: &[u32],
+    stage: &Stage,
+) -> Result<Stage, AllocError>
+    requires standing { IsStanding chains.now.accepted tops.now stage.now.cut.items stage.now.heads.items stage.now.fell.items }
+    requires grounded { AreGroundedBy chains.now.accepted tops.now stage.now.cut.items stage.now.heads.items arena.old }
+    requires there { AreThere tops.now stage.now.cut.items stage.now.heads.items arena.old }
+    requires from { IsLoweredFrom chains.now.accepted stage.now.before.items stage.now.cut.items }
+    requires table { IfSome table (λ needs. IsTableOf chains.now.accepted needs.now × (stage.now.cut.items ≡ last_ranks chains.now.accepted) × (stage.now.fell.items ≡ all_known chains.now.accepted)) }
+    ensures ranks { IfOk result (λ next. AreNextRanks chains.now.accepted stage.now.cut.items next.cut.items) }
+    ensures fallen { IfOk result (λ next. AreFallen stage.now.cut.items next.cut.items next.fell.items) }
+    ensures standing { IfOk result (λ next. IsStanding chains.now.accepted tops.now next.cut.items next.heads.items next.fell.items) }
+    ensures grounded { IfOk result (λ next. AreGroundedBy chains.now.accepted tops.now next.cut.items next.heads.items arena.new) }
+    ensures there { IfOk result (λ next. AreThere tops.now next.cut.items next.heads.items arena.new) }
+    ensures from { IfOk result (λ next. IsLoweredFrom chains.now.accepted next.before.items next.cut.items) }
+    ensures chains { IfOk result (λ next. AreChainsAt chains.now.accepted tops.now stage.now.cut.items stage.now.heads.items arena.old next.cut.items next.heads.items arena.new) }
+{
+    match table {
+        None => {
+            let thresholds = thresholds_of(chains, tops, stage)?;
+            round_by(chains, &thresholds, None, arena, tops, stage)
+        }
+        Some(needs) => round_by(chains, needs.thresholds(), Some(needs), arena, tops, stage),
+    }
 }

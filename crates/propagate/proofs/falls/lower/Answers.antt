@@ -14,7 +14,7 @@ returns-clause-cause c =
     let fell = c.args.stage.now.fell.items in
     let p = c.args.process in
     let r = c.next_rank-rank.result in
-    let here : c.index.result.now ≡ slice_index cut p = c.index.ensures ∙ get_or_default cut p c.index.result.now 0 c.requires.process in
+    let here : c.index-2.result.now ≡ slice_index cut p = c.index-2.ensures ∙ get_or_default cut p c.index-2.result.now 0 c.requires.process in
     let lower : r < slice_index cut p = omega (arith, c.next_rank-rank.ensures.rank.before, c.if-rank-index.false, here) in
     cause_of accepted fell cut p r (lawful accepted c.lawful.ensures.folded) s.clear c.requires.process
     (below_last accepted c.args.tops.now cut c.args.stage.now.heads.items fell s p c.requires.process) lower (c.next_rank-rank.ensures.known lower) c.first_known-cause.result c.first_known-cause.ensures

@@ -2,7 +2,7 @@ use Rattle.std.proofs.Common.{length, refl, sym, arith}
 use Rattle.std.proofs.lemmas.Bool.{true≢false}
 use Rattle.knows_row.proofs.Lawful.{lawful}
 use Rattle.propagate.proofs.Staging.{below_last}
-use Rattle.propagate.proofs.Thresholding.{all_contained}
+use Rattle.knows_row.proofs.Thresholding.{all_contained}
 use Rattle.propagate.proofs.Lowering.{one_lower, next_clear}
 use Rattle.propagate.proofs.falls.next_rank.Goals as goal
 

@@ -1,5 +1,0 @@
-use Rattle.propagate.proofs.Thresholding.{AreThresholdsTo}
-use Rattle.propagate.proofs.thresholds.leaves.Given as goal
-
-abbrev pub invariant-loop-i : goal.invariant-loop-i
-invariant-loop-i l = AreThresholdsTo l.chains.accepted l.cut l.before l.fell l.i l.trees.items

@@ -1,9 +1,0 @@
-use Rattle.std.proofs.Common.{arith}
-use Rattle.std.proofs.lemmas.Result.{IfOk-weaker}
-use Rattle.propagate.proofs.Thresholding.{element_more, numbered_of}
-use Rattle.propagate.proofs.thresholds.with_element.Goals as goal
-
-pub returns-in-Some : goal.returns-in-Some
-returns-in-Some c = IfOk-weaker c.lowered.result _ _ (λ t h v small.
-    element_more v c.args.bound.now t c.args.elements.now c.args.k (record { id = c.in-Some.element.id.now; events = c.in-Some.element.events.now })
-    (numbered_of c.args.elements.now c.args.k _ (omega (arith, c.if-k-eq0.false)) c.in-Some.ensures) (h v small)) c.lowered.ensures

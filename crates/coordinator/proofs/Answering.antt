@@ -18,7 +18,7 @@ use Rattle.history_law.proofs.Lines.{line_of_histories}
 use Rattle.propagate.proofs.Certified.{certified_is_greatest}
 use Rattle.desk.specs.Desks.{DeskState}
 use Rattle.coordinator.specs.Passes.{PassEntry, PassState, IsAnswered, IsShownOver, Sees, IsLineFor}
-use Rattle.coordinator.specs.Parts.{IsShownInstead, MayShowLine, with_line}
+use Rattle.coordinator.specs.Parts.{IsShownInstead, LastTaken, MayShowLine, with_line}
 use Rattle.coordinator.specs.Calls.{IsTurnFor, IsTakenFor}
 
 -- the text of a certificate that certifies is right
@@ -94,3 +94,10 @@ answered_when before after old asked call snapshot chains mid new same is t show
     answered_by before after old call chains mid new
     (subst (λ (s : Option Kept). IsTakenFor before after old call s mid) is (subst (λ (c : Call). IsTakenFor before after old c snapshot mid) same t))
     shows
+
+-- where there is a snapshot, a line was taken last
+pub taken_when : {D : Type 0} (before after : DeskState D) (old : PassState) (call : Call) (snapshot : Option Kept) (chains : Kept) (new : PassState)
+    → snapshot ≡ Some chains → IsTakenFor before after old call snapshot new → (front : ℕ) × LastTaken new.entries front
+taken_when before after old call snapshot chains new is t =
+    let made = subst (λ (s : Option Kept). IsTakenFor before after old call s new) is t in
+    (chains.front, (old.entries, made.made.entry, made.made.one.entries, made.snapshot_is.1))

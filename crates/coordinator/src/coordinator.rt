@@ -1,6 +1,6 @@
 //! The desk under one lock, and what clients call.
 
-ghost use Rattle.std.specs.Prelude.{◌≡◌, [], IfOk, IfErr, OnOk, OnErr};
+ghost use Rattle.std.specs.Prelude.{◌≡◌, ◌<◌, ◌≤◌, [], IfOk, IfErr, OnOk, OnErr};
 ghost use Rattle.report_line.specs.declared.call.Call.TheVariants as calls;
 ghost use Rattle.desk.specs.Files.{IsShort};
 ghost use Rattle.coordinator.specs.Passes.{IsPlain, IsAnswered, IsNewPass, line_call};
@@ -14,15 +14,17 @@ use crate::locked::Locked;
 use crate::pass::Pass;
 use chains::Chains;
 use desk::Desk;
+use knows_row::ChunkGate;
 use line_disk::Disk;
 use report_line::{Call, Names};
 use std::alloc::Global;
 use std::marker::Model;
 use std::sync::ledger::{Blank, Ledger};
 use std::sync::{Mutex, Wait};
+use std::thread::Threads;
 
-/// What is called before a line is computed. No lock is held then.
-pub trait Gate {
+/// What is called before a line is computed, and within that before each run of the table of needs. No lock is held then.
+pub trait Gate: ChunkGate {
     /// The line of the pass of this number comes next.
     fn before_line(&self, pass: u64);
 }
@@ -30,6 +32,10 @@ pub trait Gate {
 /// A gate that does nothing.
 #[derive(Clone, Copy, Debug, Drop)]
 pub struct OpenGate;
+
+impl ChunkGate for OpenGate {
+    fn before_chunk(&self, _run: u64) {}
+}
 
 impl Gate for OpenGate {
     fn before_line(&self, _pass: u64) {}
@@ -72,9 +78,11 @@ pub struct Coordinator<L: Ledger, D: Disk> {
     alloc: Global,
     opening: Chains,
     locked: Mutex<Locked<L, D>>,
+    workers: usize,
 }
 
 impl<L: Ledger, D: Disk> Model for Coordinator<L, D> {
+    ghost use Rattle.std.specs.Prelude.{◌<◌, ◌≤◌};
     ghost use Rattle.chains.specs.Held.{Held, held_of};
     ghost use Rattle.desk.specs.Codes.{held_code};
 
@@ -83,15 +91,35 @@ impl<L: Ledger, D: Disk> Model for Coordinator<L, D> {
     ghost coded = { held_code };
 
     ghost view = { λ c. held_of c.opening };
+
+    ghost invariant = { λ c. (0 < c.workers) × (c.workers ≤ 64) };
 }
 
 impl<L: Ledger, D: Disk> Coordinator<L, D> {
     /// The desk under a lock, with a ledger of 8,193 parts that L names: one for each pass, and one that stays. The desk has
-    /// made no turn. What was held when it was opened is kept beside the lock. Where memory is wanting for that, both come back.
+    /// made no turn. What was held when it was opened is kept beside the lock. Where memory is wanting for that, both come back. A line
+    /// is computed by the thread that asks for it.
     pub fn new(alloc: Global, blank: Blank, desk: Desk<D>) -> Result<Coordinator<L, D>, Refused<D>>
         requires name { blank.name ≡ L.name }
         requires parts { (blank.parts ≡ L.parts) × (blank.parts ≡ 8193) }
         requires fresh { desk.turns ≡ [] }
+        ensures ok { IfOk result (λ c. c ≡ desk.opening) }
+        ensures err { IfErr result (λ r. (r.blank ≡ blank) × (r.desk ≡ desk)) }
+    {
+        Coordinator::with_workers(alloc, blank, desk, 1)
+    }
+
+    /// The same, where the table of needs of a line is made by this many threads, 1 to 64.
+    pub fn with_workers(
+        alloc: Global,
+        blank: Blank,
+        desk: Desk<D>,
+        workers: usize,
+    ) -> Result<Coordinator<L, D>, Refused<D>>
+        requires name { blank.name ≡ L.name }
+        requires parts { (blank.parts ≡ L.parts) × (blank.parts ≡ 8193) }
+        requires fresh { desk.turns ≡ [] }
+        requires workers { (0 < workers) × (workers ≤ 64) }
         ensures ok { IfOk result (λ c. c ≡ desk.opening) }
         ensures err { IfErr result (λ r. (r.blank ≡ blank) × (r.desk ≡ desk)) }
     {
@@ -102,6 +130,7 @@ impl<L: Ledger, D: Disk> Coordinator<L, D> {
             alloc,
             opening,
             locked: Mutex::new(Locked::new(blank, desk)),
+            workers,
         })
     }
 
@@ -139,7 +168,7 @@ impl<L: Ledger, D: Disk> Coordinator<L, D> {
     /// Makes one turn for the question for the line of these failed processes, and computes the line with the lock given up,
     /// behind the gate. The pass shows the line, or that memory was wanting for it, or the turn's own reply where no line was
     /// taken.
-    pub fn line<R: Wait, G: Gate>(
+    pub fn line<R: Wait + Threads + Sync, G: Gate + Sync>(
         &self,
         rt: &R,
         pass: &mut Pass<L>,
@@ -150,11 +179,11 @@ impl<L: Ledger, D: Disk> Coordinator<L, D> {
         ensures err { OnErr result (pass.new ≡ pass.old) }
         ensures foreign { IfErr result (λ fault. IsForeignOnly pass.old fault) }
     {
-        self.ask(rt, pass, gate, Call::Line(names))
+        self.ask(rt, pass, gate, gate, Call::Line(names))
     }
 
     /// Makes one turn for the question for the line with every process failed, and computes it as `line` does.
-    pub fn garbage_line<R: Wait, G: Gate>(
+    pub fn garbage_line<R: Wait + Threads + Sync, G: Gate + Sync>(
         &self,
         rt: &R,
         pass: &mut Pass<L>,
@@ -164,15 +193,17 @@ impl<L: Ledger, D: Disk> Coordinator<L, D> {
         ensures err { OnErr result (pass.new ≡ pass.old) }
         ensures foreign { IfErr result (λ fault. IsForeignOnly pass.old fault) }
     {
-        self.ask(rt, pass, gate, Call::Garbage)
+        self.ask(rt, pass, gate, gate, Call::Garbage)
     }
 
-    /// Makes one turn for a question, and computes the line that was taken with the lock given up.
-    fn ask<R: Wait, G: Gate>(
+    /// Makes one turn for a question of either kind, and computes the line that was taken with the lock given up: behind the gate, and
+    /// each run of its table of needs behind that of the runs. For another call it makes the turn alone.
+    pub fn ask<R: Wait + Threads + Sync, G: Gate, C: ChunkGate + Sync>(
         &self,
         rt: &R,
         pass: &mut Pass<L>,
         gate: &G,
+        runs: &C,
         call: Call,
     ) -> Result<(), CallFault>
         requires { IsShort call }
@@ -191,7 +222,7 @@ impl<L: Ledger, D: Disk> Coordinator<L, D> {
         let Some(chains) = snapshot else {
             return Ok(());
         };
-        show_line(pass, &chains, &call);
+        show_line(rt, pass, &chains, &call, self.workers, runs);
         Ok(())
     }
 
@@ -204,6 +235,7 @@ impl<L: Ledger, D: Disk> Coordinator<L, D> {
             alloc,
             opening,
             locked,
+            workers,
         } = self;
         opening.lawful();
         let locked = locked.into_inner();
@@ -212,6 +244,7 @@ impl<L: Ledger, D: Disk> Coordinator<L, D> {
                 alloc,
                 opening,
                 locked: Mutex::new(locked),
+                workers,
             };
             return Err(Unclosed {
                 fault,

@@ -1,9 +1,10 @@
 //! The line that is shown for a question.
 
-ghost use Rattle.std.specs.Prelude.{◌≡◌, ℕ, List, IfOk, IfSome};
+ghost use Rattle.std.specs.Prelude.{◌≡◌, ◌<◌, ◌≤◌, ℕ, List, IfOk, IfSome};
 ghost use Rattle.chains.specs.Processes.{known};
 ghost use Rattle.chains.specs.Held.{held_of};
 ghost use Rattle.chains.specs.Failures.{IsFailedSet};
+ghost use Rattle.knows_row.specs.Needs.{IsTableOf};
 ghost use Rattle.reasons.specs.CertificateText.{certificate_text};
 ghost use Rattle.reasons.specs.Shown.{IsLineText};
 ghost use Rattle.coordinator.specs.Passes.{IsLineFor};
@@ -11,12 +12,14 @@ ghost use Rattle.coordinator.specs.Parts.{LastTaken, MayShowLine};
 
 use crate::pass::Pass;
 use chains::{Chains, Failed};
-use garbage_line::garbage;
-use propagate::certificate;
+use garbage_line::garbage_from;
+use knows_row::{ChunkGate, Needs, needs};
+use propagate::certificate_from;
 use reasons::{Certificate, to_json};
 use report_line::{Call, Name, Text};
 use std::alloc::AllocError;
 use std::sync::ledger::Ledger;
+use std::thread::Threads;
 
 /// The text of a certificate.
 fn written(chains: &Chains, certificate: &Certificate) -> Result<Text, AllocError>
@@ -27,62 +30,85 @@ fn written(chains: &Chains, certificate: &Certificate) -> Result<Text, AllocErro
 }
 
 /// The text of the line of these failed processes.
-fn line_text(chains: &Chains, failed: &Failed) -> Result<Text, AllocError>
+fn line_text(chains: &Chains, needs: &Needs<'_>, failed: &Failed) -> Result<Text, AllocError>
+    requires { IsTableOf chains.now.accepted needs.now }
     ensures { IfOk result (λ text. (names : List (List ℕ)) → IsFailedSet chains.now.accepted names failed.now → IsLineText (held_of chains.now) names text) }
 {
-    let certificate = certificate(chains, failed)?;
+    let certificate = certificate_from(chains, needs, failed)?;
     written(chains, &certificate)
 }
 
 /// The text of the line of all processes.
-fn garbage_text(chains: &Chains) -> Result<Text, AllocError>
+fn garbage_text(chains: &Chains, needs: &Needs<'_>) -> Result<Text, AllocError>
+    requires { IsTableOf chains.now.accepted needs.now }
     ensures { IfOk result (λ text. IsLineText (held_of chains.now) (known chains.now.accepted) text) }
 {
-    let certificate = garbage(chains)?;
+    let certificate = garbage_from(chains, needs)?;
     written(chains, &certificate)
 }
 
 /// The text of the line for these names, if they are known and memory suffices for it.
-fn text_for(chains: &Chains, names: &[Name]) -> Option<Text>
+fn text_for(chains: &Chains, needs: &Needs<'_>, names: &[Name]) -> Option<Text>
+    requires { IsTableOf chains.now.accepted needs.now }
     ensures { IfSome result (λ text. IsLineText (held_of chains.now) names.now text) }
 {
     let Ok(failed) = Failed::from_names(chains, names) else {
         return None;
     };
-    match line_text(chains, &failed) {
+    match line_text(chains, needs, &failed) {
         Ok(text) => Some(text),
         Err(_) => None,
     }
 }
 
 /// The text of the line with every process failed, if memory suffices for it.
-fn garbage_for(chains: &Chains) -> Option<Text>
+fn garbage_for(chains: &Chains, needs: &Needs<'_>) -> Option<Text>
+    requires { IsTableOf chains.now.accepted needs.now }
     ensures { IfSome result (λ text. IsLineText (held_of chains.now) (known chains.now.accepted) text) }
 {
-    match garbage_text(chains) {
+    match garbage_text(chains, needs) {
         Ok(text) => Some(text),
         Err(_) => None,
     }
 }
 
-/// The text of the line that the call asks for, if it asks for one and memory suffices for it.
-fn line_for(chains: &Chains, call: &Call) -> Option<Text>
+/// The text of the line that the call asks for, if it asks for one and memory suffices for it: by a table of needs that so many threads
+/// make.
+fn line_for<R: Threads + Sync, G: ChunkGate + Sync>(
+    rt: &R,
+    chains: &Chains,
+    call: &Call,
+    workers: usize,
+    gate: &G,
+) -> Option<Text>
+    requires { (0 < workers) × (workers ≤ 64) }
     ensures { IfSome result (λ text. IsLineFor (held_of chains.now) call.now text) }
 {
+    let Ok(table) = needs(rt, chains, workers, gate) else {
+        return None;
+    };
     match call {
-        Call::Line(names) => text_for(chains, names.as_slice()),
-        Call::Garbage => garbage_for(chains),
+        Call::Line(names) => text_for(chains, &table, names.as_slice()),
+        Call::Garbage => garbage_for(chains, &table),
         Call::Report(_) | Call::State(_) | Call::Bye | Call::Bad(_) | Call::Unread => None,
     }
 }
 
 /// Shows the line that was taken last, if memory suffices for it.
-pub(crate) fn show_line<L: Ledger>(pass: &mut Pass<L>, chains: &Chains, call: &Call)
-    requires { (front : ℕ) × LastTaken pass.old.entries front }
+pub(crate) fn show_line<L: Ledger, R: Threads + Sync, G: ChunkGate + Sync>(
+    rt: &R,
+    pass: &mut Pass<L>,
+    chains: &Chains,
+    call: &Call,
+    workers: usize,
+    gate: &G,
+)
+    requires workers { (0 < workers) × (workers ≤ 64) }
+    requires taken { (front : ℕ) × LastTaken pass.old.entries front }
     ensures { MayShowLine (held_of chains.now) call.now pass.old pass.new }
 {
     chains.lawful();
-    if let Some(text) = line_for(chains, call) {
+    if let Some(text) = line_for(rt, chains, call, workers, gate) {
         pass.show(text);
     }
 }

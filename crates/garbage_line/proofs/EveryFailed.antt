@@ -1,5 +1,5 @@
 -- What the certificate of all known processes says.
-use Rattle.std.proofs.Common.{◌≡◌, ◌<◌, ◌↔◌, ℕ, List, length, Result, Ok, Err, inl, inr, arith}
+use Rattle.std.proofs.Common.{◌≡◌, ◌<◌, ◌↔◌, ℕ, List, length, Result, Ok, Err, inl, inr, subst, arith}
 use Rattle.std.specs.Prelude.{Contains, IfOk}
 use Rattle.std.specs.List.{range_with_len}
 use Rattle.std.proofs.lemmas.Option.{slice_get_within, slice_get_cases}
@@ -13,6 +13,7 @@ use Rattle.knows_row.proofs.Lawful.{lawful}
 use Rattle.reasons.specs.declared.certificate.Certificate.{Certificate}
 use Rattle.reasons.specs.Certificates.{Certifies, IsForNames, positions_of}
 use Rattle.history_law.proofs.GarbageLine.{garbage_line_never_falls}
+use Rattle.propagate.specs.Choice.{IsChosenCertificate}
 use Rattle.propagate.proofs.Certified.{certified_is_greatest}
 use Rattle.garbage_line.specs.LaterLines.{IsBeforeLaterLines}
 use Rattle.garbage_line.proofs.AllInOrder.{all_in_order}
@@ -29,6 +30,13 @@ module _ (held : Held) (all : List ℕ) (c : Certificate) (set : IsFailedSet hel
 
   pub all_failed : Certifies held c → c.failed ≡ range_with_len 0 (length (known held.accepted))
   all_failed h = all_in_order c.failed (length (known held.accepted)) h.failed (λ p. (h.known_failed p, there p))
+
+  in_range : Certifies held c → (p : ℕ) → (Contains c.failed p ↔ (Contains (range_with_len 0 (length (known held.accepted))) p × (p < length (known held.accepted))))
+  in_range h p = (λ has. (subst (λ (ps : List ℕ). Contains ps p) (all_failed h) has, h.known_failed p has), λ within. there p within.1)
+
+  -- the same certificate is chosen for all numbers in order
+  pub chosen_for_all : Certifies held c → IsChosenCertificate held all c → IsChosenCertificate held (range_with_len 0 (length (known held.accepted))) c
+  chosen_for_all h chosen = record { front = chosen.front; in_order = chosen.in_order; just_these = in_range h; rounds = chosen.rounds; chosen = chosen.chosen }
 
   pub for_all_names : IsForNames held.accepted (known held.accepted) c
   for_all_names p name at = (λ contains. known_from held.accepted p name at, λ named. there p (slice_get_within (known held.accepted) p name at))

@@ -10,7 +10,7 @@ use Rattle.chains.proofs.Turning.{unchanged, after_report_turn, turn_reached}
 use Rattle.session.specs.SessionText.{Exchange}
 use Rattle.session.specs.Turned.{IsExchange, Served, after_call, held_by}
 
-after_turn : (held after : Held) (call : Call) (reply : Reply) → IsTurn held call reply after → after ≡ after_call held call reply
+pub after_turn : (held after : Held) (call : Call) (reply : Reply) → IsTurn held call reply after → after ≡ after_call held call reply
 after_turn held after (calls.Report r) reply (fate, t) = after_report_turn held.stopped fate held r reply after t
 after_turn held after (calls.Line names) reply (fate, t) = unchanged held.stopped fate held _ reply after t
 after_turn held after calls.Garbage reply (fate, t) = unchanged held.stopped fate held _ reply after t

@@ -3,7 +3,7 @@ use Rattle.std.proofs.Common.{◌≡◌, ◌≢◌, ℕ, zero, suc, ◌+◌, ◌
 use Rattle.std.specs.Prelude.{◌↔◌, Contains}
 use Rattle.std.specs.List.{slice_get, AllByRecursion}
 use Rattle.std.proofs.lemmas.List.{length-append}
-use Rattle.std.proofs.lemmas.Option.{same_Some, slice_get_within}
+use Rattle.std.proofs.lemmas.Option.{same_Some}
 use Rattle.chains.proofs.Showing.{get_behind}
 use Rattle.report_line.specs.Cutting.{IsLine}
 use Rattle.report_line.specs.declared.call.Call.{Call}
@@ -26,9 +26,12 @@ use Rattle.reasons.specs.Shown.{IsLineText, IsLineShown, IsShown}
 use Rattle.reasons.specs.declared.certificate.Certificate.{Certificate}
 use Rattle.reasons.specs.Certificates.{Certifies}
 use Rattle.reasons.specs.CertificateText.{certificate_text}
+use Rattle.chains.proofs.Unfailing.{no_line}
 use Rattle.session.specs.SessionText.{Means}
+use Rattle.session.specs.ChosenText.{IsChosenFor}
 use Rattle.session.specs.Turned.{MakesTurns}
 use Rattle.session.specs.Parts.{call_read}
+use Rattle.session.proofs.ChosenTexts.{for_set, chosen_at}
 
 -- ---- what is shown
 
@@ -37,10 +40,7 @@ pub line_of_names : (held : Held) (names : List Name) (failed text : List ℕ) (
     → ((p : ℕ) → (Contains c.failed p ↔ (Contains failed p × (p < length (known held.accepted))))) → Certifies held c → text ≡ certificate_text held.accepted c → IsLineText held names text
 line_of_names held names failed text c set just certifies is = record {
   certificate = c;
-  for_names = λ p name at. (
-    λ there. (set.just_named p name at).0 ((just p).0 there).0,
-    λ named. (just p).1 ((set.just_named p name at).1 named, slice_get_within (known held.accepted) p name at),
-  );
+  for_names = for_set held names failed c set just;
   certifies = certifies;
   text_is = is;
 }
@@ -112,10 +112,14 @@ last_turn turns old x y is at =
 -- a desk's turn, and what is shown for it
 pub makes_turn : {D : Type 0} (keeps : D → Type 0) (desk after : DeskState D) (k : Kept) (call : Call) (reply shown : Reply) (number : ℕ) → IsTurn desk.held call reply after.held
     → after.turns ≡ desk.turns ++ record { call = call; receipt = record { turn = number; reply = reply } } ∷ [] → number ≡ length desk.turns + 1 → after.opening ≡ desk.opening → (keeps after.disk ↔ keeps desk.disk)
-    → k.accepted ≡ after.held.accepted → k.front ≡ after.held.front → IsShown (held_of k) call reply shown → MakesTurns keeps desk (record { call = call; reply = reply; shown = shown } ∷ []) after
-makes_turn keeps desk after k call reply shown number turned turns is opening premise list n fits =
+    → k.accepted ≡ after.held.accepted → k.front ≡ after.held.front → IsShown (held_of k) call reply shown → ((text : List ℕ) → reply ≢ replies.Line text → shown ≡ replies.Line text → IsChosenFor (held_of k) call text) → MakesTurns keeps desk (record { call = call; reply = reply; shown = shown } ∷ []) after
+makes_turn keeps desk after k call reply shown number turned turns is opening premise list n fits chose =
     record {
       served = (after.held, record { turned = turned; fits = fits_at desk.held after.held k call reply shown turned list n fits }, refl);
+      chosen = (
+        λ text e. chosen_at desk.held after.held k call reply text turned list n (chose text (λ line. no_line desk.held after.held call text (subst (λ (r : Reply). IsTurn desk.held call r after.held) line turned)) e),
+        tt,
+      );
       turns = turns ∙ ap (λ (m : ℕ). desk.turns ++ record { call = call; receipt = record { turn = m; reply = reply } } ∷ []) is;
       opening = opening;
       premise = premise;

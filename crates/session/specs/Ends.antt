@@ -7,7 +7,7 @@ use Rattle.session.specs.declared.kind.Kind.{Kind}
 use Rattle.session.specs.declared.kind.Kind.TheVariants as kinds
 use Rattle.session.specs.Links.{up, LinkState, IsSound, IsFault}
 use Rattle.session.specs.SessionText.{Exchange, NoBye, session_text, joined, most_reads, at_desk, IsSession}
-use Rattle.session.specs.Turned.{MakesTurns}
+use Rattle.session.specs.Turned.{EachLineIsChosen, MakesTurns}
 use Rattle.session.specs.Headline.{EachLineIsRight}
 
 -- A read after so many others, which gave these bytes: by then each line that is complete was answered, and all of the
@@ -30,7 +30,7 @@ abbrev pub IsPrompt : {K : Type 0} → (K → LinkState) → K → List (List �
 IsPrompt told link pieces turned = (n : ℕ) → n < length pieces → IsReadAt told link n (joined (take n pieces)) turned
 
 -- What each read gave, the session text of it, which was written, and the exchanges, which are the turns that were made; each
--- LINE among them is right.
+-- LINE among them is right, and is the one that the rounds choose.
 pub record Ended {D K : Type 0} (keeps : D → Type 0) (told : K → LinkState) (link after_link : K) (desk after : DeskState D) (kind : Kind) (count : ℕ) : Type 0 where
   pub pieces : List (List ℕ)
   pub turned : List Exchange
@@ -43,6 +43,7 @@ pub record Ended {D K : Type 0} (keeps : D → Type 0) (told : K → LinkState) 
   pub few : length pieces ≤ most_reads
   pub prompt : IsPrompt told link pieces turned
   pub lines : EachLineIsRight desk.held turned
+  pub chosen : EachLineIsChosen desk.held turned
 
 -- What a link tells where a session ends so: a read failed, or a write or a hand-on; or none did, and nothing waits.
 abbrev pub Leaves : Kind → LinkState → LinkState → Type 0

@@ -1,6 +1,8 @@
 pub mod Links
 pub mod SessionText
+pub mod ChosenText
 pub mod Turned
+pub mod OneText
 pub mod Ends
 pub mod Parts
 pub mod Headline

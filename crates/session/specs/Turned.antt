@@ -1,10 +1,10 @@
 -- Exchanges as turns over what is held, one after the other.
-use Rattle.std.specs.Prelude.{◌≡◌, ◌↔◌, ℕ, ◌+◌, List, [], ◌∷◌, ◌++◌, length}
+use Rattle.std.specs.Prelude.{◌≡◌, ◌↔◌, ℕ, ◌+◌, List, [], ◌∷◌, ◌++◌, length, ⊤}
 use Rattle.report_line.specs.declared.call.Call.{Call}
 use Rattle.report_line.specs.declared.call.Call.TheVariants as calls
 use Rattle.report_line.specs.declared.reply.Outcome.{Outcome}
 use Rattle.report_line.specs.declared.reply.Reply.{Reply}
-use Rattle.report_line.specs.declared.reply.Reply.TheVariants.{Fail}
+use Rattle.report_line.specs.declared.reply.Reply.TheVariants.{Fail, Line}
 use Rattle.chains.specs.Held.{Held}
 use Rattle.chains.specs.Admission.{held_after}
 use Rattle.chains.specs.Turns.{IsTurn}
@@ -12,6 +12,7 @@ use Rattle.reasons.specs.Shown.{IsShown}
 use Rattle.desk.specs.Desks.{DeskState}
 use Rattle.desk.specs.declared.turn.Turn.{Turn}
 use Rattle.session.specs.SessionText.{Exchange}
+use Rattle.session.specs.ChosenText.{IsChosenFor}
 
 -- the call takes its turn with this reply, and what is shown is shown for it
 pub record IsExchange (held : Held) (exchange : Exchange) (after : Held) : Type 0 where
@@ -42,6 +43,15 @@ abbrev pub held_by : Held → List Exchange → Held
 held_by held [] = held
 held_by held (e ∷ es) = held_by (after_call held e.call e.reply) es
 
+-- what is shown as a LINE is the chosen text for the call
+abbrev pub ShowsChosen : Held → Exchange → Type 0
+ShowsChosen held exchange = (text : List ℕ) → exchange.shown ≡ Line text → IsChosenFor held exchange.call text
+
+-- each LINE among these exchanges is the chosen text for its call, over what was held at its place
+abbrev pub EachLineIsChosen : Held → List Exchange → Type 0
+EachLineIsChosen held [] = ⊤
+EachLineIsChosen held (e ∷ es) = ShowsChosen held e × EachLineIsChosen (after_call held e.call e.reply) es
+
 -- ---- over a desk
 
 -- the turns of these exchanges, where so many were made before
@@ -52,6 +62,7 @@ turns_of made (e ∷ es) = record { call = e.call; receipt = record { turn = mad
 -- The turns that a desk made are just those of these exchanges, in their order.
 pub record MakesTurns {D : Type 0} (keeps : D → Type 0) (desk : DeskState D) (exchanges : List Exchange) (after : DeskState D) : Type 0 where
   pub served : Served desk.held exchanges after.held
+  pub chosen : EachLineIsChosen desk.held exchanges
   pub turns : after.turns ≡ desk.turns ++ turns_of (length desk.turns) exchanges
   pub opening : after.opening ≡ desk.opening
   -- what is premised of the disk stays so

@@ -1,10 +1,14 @@
 //! Laws of the definitions of sessions.
 
-ghost use Rattle.std.specs.Prelude.{◌≡◌, ◌++◌, List, false};
+ghost use Rattle.std.specs.Prelude.{◌≡◌, ◌++◌, ℕ, List, false, map};
 ghost use Rattle.std.specs.List.{AllByRecursion};
+ghost use Rattle.chains.specs.Processes.{Name as AnyName};
 ghost use Rattle.chains.specs.Held.{Held};
 ghost use Rattle.chains.specs.Admission.{IsReached};
-ghost use Rattle.session.specs.SessionText.{Exchange};
+ghost use Rattle.session.specs.declared.kind.Kind.TheVariants as kinds;
+ghost use Rattle.session.specs.ChosenText.{IsChosenText};
+ghost use Rattle.session.specs.OneText.{IsUndisturbed};
+ghost use Rattle.session.specs.SessionText.{Exchange, Grounds, IsSession, Mean, joined, session_text};
 ghost use Rattle.session.specs.Turned.{Served, ShowsFailure, held_by};
 
 /// What is held behind exchanges that took turns is told by the exchanges alone.
@@ -20,4 +24,24 @@ pub fn exchanges_keep_lists_reachable()
 /// Where the store is stopped neither before the exchanges nor behind them, no device failed in between.
 pub fn served_without_a_device()
     ensures { (held after : Held) (exchanges : List Exchange) → held.stopped ≡ false → after.stopped ≡ false → Served held exchanges after → AllByRecursion (λ e. ¬ ShowsFailure e) exchanges }
+{}
+
+/// The rounds choose one text for what is held and the names that are asked.
+pub fn a_question_has_one_text()
+    ensures { (held : Held) (names : List AnyName) (text other : List ℕ) → IsChosenText held names text → IsChosenText held names other → text ≡ other }
+{}
+
+/// Two runs from one accepted list over the same calls, for which memory sufficed and no device failed, have the same exchanges;
+/// and so have two over the same lines. One over more lines begins with the same exchanges, and two sessions that read the same to
+/// its end write the same text.
+pub fn same_lines_have_one_text()
+    ensures calls { (held : Held) (ours theirs : List Exchange) → IsUndisturbed held ours → IsUndisturbed held theirs → map (λ (e : Exchange). e.call) ours ≡ map (λ (e : Exchange). e.call) theirs → ours ≡ theirs }
+    ensures lines { (held : Held) (lines : List (List ℕ)) (ours theirs : List Exchange) → IsUndisturbed held ours → IsUndisturbed held theirs → Mean lines ours → Mean lines theirs
+        → (ours ≡ theirs) × (session_text ours ≡ session_text theirs) }
+    // What is replied to a line is told by the lines before it.
+    ensures more { (held : Held) (lines more : List (List ℕ)) (ours theirs : List Exchange) → IsUndisturbed held ours → IsUndisturbed held theirs → Mean lines ours → Mean (lines ++ more) theirs
+        → (rest : List Exchange) × (theirs ≡ ours ++ rest) }
+    // How the bytes come in pieces does not matter.
+    ensures sessions { (held : Held) (over other : Grounds) (pieces others : List (List ℕ)) (ours theirs : List Exchange) (text written : List ℕ) (n m : ℕ) → IsUndisturbed held ours → IsUndisturbed held theirs
+        → IsSession over pieces kinds.End ours text n → IsSession other others kinds.End theirs written m → joined pieces ≡ joined others → text ≡ written }
 {}

@@ -21,7 +21,8 @@ mod turns;
 
 pub use kind::{Kind, SessionEnd};
 pub use laws::{
-    exchanges_keep_lists_reachable, exchanges_tell_what_is_accepted, served_without_a_device,
+    a_question_has_one_text, exchanges_keep_lists_reachable, exchanges_tell_what_is_accepted,
+    same_lines_have_one_text, served_without_a_device,
 };
 pub use link::{Link, LinkFault, put, put_all};
 pub use memory_link::MemoryLink;

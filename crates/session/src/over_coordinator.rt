@@ -1,5 +1,6 @@
 //! One client over a coordinator.
 
+ghost use denote.Param.Send.{IsSync};
 ghost use Rattle.std.specs.Prelude.{◌≡◌, ◌≢◌, [], ◌∷◌, OnOk, OnErr, IfErr};
 ghost use Rattle.report_line.specs.Cutting.{IsLine, ended};
 ghost use Rattle.report_line.specs.Replies.{reply_text};
@@ -18,11 +19,13 @@ use crate::server::Server;
 use crate::session::serve;
 use crate::turns::call_of;
 use coordinator::{CallFault, Coordinator, Gate, Pass};
+use knows_row::OpenChunks;
 use line_disk::Disk;
 use report_line::{Call, read_line};
 use std::alloc::Global;
 use std::sync::Wait;
 use std::sync::ledger::Ledger;
+use std::thread::Threads;
 
 /// Why the session ends where a call got no turn.
 fn kind_of(fault: &CallFault) -> Kind
@@ -35,22 +38,23 @@ fn kind_of(fault: &CallFault) -> Kind
     }
 }
 
-/// Makes the turn of a call, and adds it to the pass. A question for a line waits for it at the gate.
-fn ask<R: Wait, L: Ledger, D: Disk, G: Gate>(
+/// Makes the turn of a call, and adds it to the pass. A question for a line waits for it at the gate; the runs of its table of needs have
+/// none of their own.
+fn ask<R: Threads + Wait + Sync, L: Ledger, D: Disk, G: Gate>(
     rt: &R,
     coordinator: &Coordinator<L, D>,
     gate: &G,
     pass: &mut Pass<L>,
     call: Call,
 ) -> Result<(), CallFault>
-    requires { IsShort call }
+    requires short { IsShort call }
     ensures ok { OnOk result (IsAnswered pass.old call pass.new) }
     ensures err { OnErr result (pass.new ≡ pass.old) }
     ensures foreign { IfErr result (λ fault. IsForeignOnly pass.old fault) }
 {
     match call {
-        Call::Line(names) => coordinator.line(rt, pass, gate, names),
-        Call::Garbage => coordinator.garbage_line(rt, pass, gate),
+        Call::Line(names) => coordinator.ask(rt, pass, gate, &OpenChunks, Call::Line(names)),
+        Call::Garbage => coordinator.ask(rt, pass, gate, &OpenChunks, Call::Garbage),
         other => coordinator.call(rt, pass, other),
     }
 }
@@ -67,7 +71,7 @@ fn put_shown<L: Ledger, K: Link>(pass: &Pass<L>, link: &mut K) -> Result<(), Lin
 }
 
 /// One line: its turn is made, and then its reply is written. Answers why the session ends, if it does.
-fn serve_by_pass<R: Wait, L: Ledger, D: Disk, G: Gate, K: Link>(
+fn serve_by_pass<R: Threads + Wait + Sync, L: Ledger, D: Disk, G: Gate, K: Link>(
     rt: &R,
     coordinator: &Coordinator<L, D>,
     gate: &G,
@@ -98,10 +102,13 @@ struct Shared<'a, R, L: Ledger, D: Disk, G> {
     gate: &'a G,
 }
 
-impl<'a, R: Wait, L: Ledger, D: Disk, G: Gate> Server<Pass<L>> for Shared<'a, R, L, D, G> {
+impl<'a, R: Threads + Wait + Sync, L: Ledger, D: Disk, G: Gate> Server<Pass<L>>
+    for Shared<'a, R, L, D, G> {
     ghost makes = { GainsEach };
 
     ghost grounds = { at_pass };
+
+    ghost leave = { IsSync R.row };
 
     fn alloc(&self, _state: &Pass<L>) -> Global {
         self.coordinator.alloc()
@@ -116,7 +123,7 @@ impl<'a, R: Wait, L: Ledger, D: Disk, G: Gate> Server<Pass<L>> for Shared<'a, R,
 /// added to the pass, and its reply is written before the next line's turn. The lines of other clients may take theirs in between.
 /// What is written is the session text of what was read, and its exchanges are just the entries that the pass gained. Where the
 /// pass is of another coordinator, the session ends as Foreign with nothing more written.
-pub fn serve_link<R: Wait, L: Ledger, D: Disk, G: Gate, K: Link>(
+pub fn serve_link<R: Threads + Wait + Sync, L: Ledger, D: Disk, G: Gate, K: Link>(
     rt: &R,
     coordinator: &Coordinator<L, D>,
     pass: &mut Pass<L>,

@@ -63,6 +63,8 @@ impl<D: Disk> Server<Desk<D>> for Alone {
 
     ghost grounds = { λ d. at_desk (length d.turns) };
 
+    ghost leave = { Unit {0} };
+
     fn alloc(&self, state: &Desk<D>) -> Global {
         state.chains().alloc()
     }

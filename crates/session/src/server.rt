@@ -17,11 +17,15 @@ pub(crate) trait Server<S> {
     /// What a session text knows of the state.
     ghost grounds: { S → Grounds };
 
+    /// What has to be known of the runtime, where lines are answered by more threads.
+    ghost leave: { Type 0 };
+
     /// The allocator for what is read.
     fn alloc(&self, state: &S) -> Global;
 
     /// One line: its turn is made, and then its reply is written. Answers why the session ends, if it does.
     fn serve_line<K: Link>(&self, state: &mut S, link: &mut K, line: &[u8]) -> Option<Kind>
-        requires { IsLine line.now }
+        requires leave { leave }
+        requires line { IsLine line.now }
         ensures { Serves makes grounds (K.told link.old) (K.told link.new) (line.now ∷ []) state.old state.new result (one_reply result) };
 }

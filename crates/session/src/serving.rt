@@ -35,6 +35,7 @@ pub(crate) fn serve_lines<S, V: Server<S>, K: Link>(
     link: &mut K,
     lines: &Lines,
 ) -> (Option<Kind>, u64)
+    requires leave { V.leave }
     requires laws { AreLawful V.makes V.grounds }
     requires lines { AllByRecursion IsLine lines.now }
     ensures served { Serves V.makes V.grounds (K.told link.old) (K.told link.new) lines.now state.old state.new result.0 result.1 }

@@ -101,6 +101,7 @@ fn step<S, V: Server<S>, K: Link>(
     feed: &mut Feed,
     link: &mut K,
 ) -> (Option<Kind>, u64)
+    requires leave { V.leave }
     requires laws { AreLawful V.makes V.grounds }
     requires some { feed.old ≢ None }
     ensures steps { Steps V.makes V.grounds (K.told link.old) (K.told link.new) feed.old feed.new state.old state.new result.0 result.1 }
@@ -123,7 +124,8 @@ fn step<S, V: Server<S>, K: Link>(
 /// Serves one client: after each read it answers the lines that are complete, and writes each reply before the next line's turn
 /// is made; before each read and at the end it hands on what it wrote.
 pub(crate) fn serve<S, V: Server<S>, K: Link>(server: &V, state: &mut S, link: &mut K) -> SessionEnd
-    requires { AreLawful V.makes V.grounds }
+    requires leave { V.leave }
+    requires laws { AreLawful V.makes V.grounds }
     ensures session { Ran V.makes V.grounds K.told link.old link.new state.old state.new result.kind result.replies }
     ensures leaves { Leaves result.kind (K.told link.old) (K.told link.new) }
 {

@@ -28,7 +28,7 @@ pub struct Served<L: Ledger, K: Link + Drop> {
 
 /// Serves one link after the other, each with a pass of its own, until the channel is closed, or memory or a pass is wanting.
 /// The pass, and the room for what is answered, are there before a link is taken.
-fn work<L: Ledger, D: Disk, G: Gate, K: Link + Drop, R: Wait>(
+fn work<L: Ledger, D: Disk, G: Gate + Sync, K: Link + Drop, R: Threads + Wait + Sync>(
     rt: &R,
     coordinator: &Coordinator<L, D>,
     gate: &G,

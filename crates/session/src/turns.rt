@@ -1,12 +1,13 @@
 //! Turns.
 
-ghost use Rattle.std.specs.Prelude.{◌≡◌, ℕ, List, IfOk, None};
+ghost use Rattle.std.specs.Prelude.{◌≡◌, ◌≢◌, ℕ, List, IfOk, None};
 ghost use Rattle.chains.specs.Processes.{known};
 ghost use Rattle.chains.specs.Held.{held_of};
 ghost use Rattle.chains.specs.Failures.{IsFailedSet};
 ghost use Rattle.desk.specs.Files.{IsShort};
 ghost use Rattle.reasons.specs.CertificateText.{certificate_text};
 ghost use Rattle.reasons.specs.Shown.{IsLineText, IsLineShown, IsShown};
+ghost use Rattle.session.specs.ChosenText.{IsChosenText, IsChosenFor};
 ghost use Rattle.session.specs.Parts.{MakesTurn, call_read};
 
 use chains::{Chains, Failed};
@@ -39,7 +40,8 @@ fn written(chains: &Chains, certificate: &Certificate) -> Result<Text, AllocErro
 
 /// The text of the certificate of these failed processes.
 fn line_text(chains: &Chains, failed: &Failed) -> Result<Text, AllocError>
-    ensures { IfOk result (λ text. (names : List (List ℕ)) → IsFailedSet chains.now.accepted names failed.now → IsLineText (held_of chains.now) names text) }
+    ensures certified { IfOk result (λ text. (names : List (List ℕ)) → IsFailedSet chains.now.accepted names failed.now → IsLineText (held_of chains.now) names text) }
+    ensures chosen { IfOk result (λ text. (names : List (List ℕ)) → IsFailedSet chains.now.accepted names failed.now → IsChosenText (held_of chains.now) names text) }
 {
     let certificate = certificate(chains, failed)?;
     written(chains, &certificate)
@@ -47,7 +49,8 @@ fn line_text(chains: &Chains, failed: &Failed) -> Result<Text, AllocError>
 
 /// The text of the certificate of all processes.
 fn garbage_text(chains: &Chains) -> Result<Text, AllocError>
-    ensures { IfOk result (λ text. IsLineText (held_of chains.now) (known chains.now.accepted) text) }
+    ensures certified { IfOk result (λ text. IsLineText (held_of chains.now) (known chains.now.accepted) text) }
+    ensures chosen { IfOk result (λ text. IsChosenText (held_of chains.now) (known chains.now.accepted) text) }
 {
     let certificate = garbage(chains)?;
     written(chains, &certificate)
@@ -55,7 +58,8 @@ fn garbage_text(chains: &Chains) -> Result<Text, AllocError>
 
 /// What is shown for a question for a line that was taken.
 fn line_of(chains: &Chains, names: &[Name]) -> Reply
-    ensures { (front : ℕ) → IsLineShown (held_of chains.now) names.now (Reply.Taken front) result }
+    ensures shown { (front : ℕ) → IsLineShown (held_of chains.now) names.now (Reply.Taken front) result }
+    ensures chosen { (text : List ℕ) → result ≡ Reply.Line text → IsChosenText (held_of chains.now) names.now text }
 {
     // The names of a question that was taken are known.
     let Ok(failed) = Failed::from_names(chains, names) else {
@@ -69,7 +73,8 @@ fn line_of(chains: &Chains, names: &[Name]) -> Reply
 
 /// What is shown for the question for the line with every process failed, where it was taken.
 fn garbage_of(chains: &Chains) -> Reply
-    ensures { (front : ℕ) → IsLineShown (held_of chains.now) (known chains.now.accepted) (Reply.Taken front) result }
+    ensures shown { (front : ℕ) → IsLineShown (held_of chains.now) (known chains.now.accepted) (Reply.Taken front) result }
+    ensures chosen { (text : List ℕ) → result ≡ Reply.Line text → IsChosenText (held_of chains.now) (known chains.now.accepted) text }
 {
     match garbage_text(chains) {
         Ok(text) => Reply::Line(text),
@@ -79,7 +84,9 @@ fn garbage_of(chains: &Chains) -> Reply
 
 /// What is shown for the reply of a call's turn: for a line that was taken the line, or that memory was wanting.
 fn shown_for(chains: &Chains, call: &Call, reply: Reply) -> Reply
-    ensures { IsShown (held_of chains.now) call.now reply result }
+    ensures shown { IsShown (held_of chains.now) call.now reply result }
+    // No turn has a line for its reply.
+    ensures chosen { (text : List ℕ) → reply ≢ Reply.Line text → result ≡ Reply.Line text → IsChosenFor (held_of chains.now) call.now text }
 {
     match reply {
         Reply::Taken(front) => match call {

@@ -4,8 +4,8 @@ use Rattle.session.proofs.ServeSteps.{serves_none, serves_to, serves_on}
 use Rattle.session.proofs.TurnSteps.{line_at}
 use Rattle.session.proofs.serving.serve_lines.Goals as goal
 
-pub serve_line-requires : goal.serve_line-requires
-serve_line-requires g c = line_at c.args.lines.now c.loop-i.i c.line.result.now c.requires.lines c.line.ensures
+pub serve_line-requires-clause-line : goal.serve_line-requires-clause-line
+serve_line-requires-clause-line g c = line_at c.args.lines.now c.loop-i.i c.line.result.now c.requires.lines c.line.ensures
 
 pub loop-i-init : goal.loop-i-init
 loop-i-init g c = record { served = serves_none g.V.Server.makes g.V.Server.grounds c.requires.laws _ _; few = omega arith }

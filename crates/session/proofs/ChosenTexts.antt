@@ -1,0 +1,110 @@
+-- The text that the rounds choose: there is one, and where it holds.
+use Rattle.std.proofs.Common.{◌≡◌, ◌<◌, ◌↔◌, ℕ, Bool, List, length, sym, ap, subst, ◌∙◌, inl, inr, arith}
+use Rattle.std.specs.Prelude.{Contains}
+use Rattle.std.proofs.lemmas.Option.{slice_get_within, slice_get_cases}
+use Rattle.report_line.specs.declared.report.Report.{Report}
+use Rattle.report_line.specs.declared.call.Call.{Call}
+use Rattle.report_line.specs.declared.call.Call.TheVariants as calls
+use Rattle.report_line.specs.declared.reply.Reply.{Reply}
+use Rattle.chains.specs.Processes.{Name, known}
+use Rattle.chains.specs.Kept.{Kept}
+use Rattle.chains.specs.Held.{Held, held_of}
+use Rattle.chains.specs.Failures.{IsFailedSet}
+use Rattle.chains.specs.Turns.{IsTurn}
+use Rattle.chains.proofs.Turning.{unchanged}
+use Rattle.reasons.specs.declared.certificate.Certificate.{Certificate}
+use Rattle.reasons.specs.Certificates.{IsForNames}
+use Rattle.reasons.specs.CertificateText.{certificate_text}
+use Rattle.propagate.specs.Choice.{IsChosenCertificate}
+use Rattle.propagate.proofs.Once.{one_certificate}
+use Rattle.session.specs.ChosenText.{IsChosenText, IsChosenFor}
+
+-- ---- the certificate
+
+-- it is chosen for its own numbers
+own_numbers : (held : Held) (failed : List ℕ) (c : Certificate) → IsChosenCertificate held failed c → IsChosenCertificate held c.failed c
+own_numbers held failed c h = record {
+  front = h.front;
+  in_order = h.in_order;
+  just_these = λ p. (λ has. (has, ((h.just_these p).0 has).1), λ both. both.0);
+  rounds = h.rounds;
+  chosen = h.chosen;
+}
+
+-- one of a failed set that these names have is one for the names
+pub for_set : (held : Held) (names : List Name) (failed : List ℕ) (c : Certificate) → IsFailedSet held.accepted names failed
+    → ((p : ℕ) → (Contains c.failed p ↔ (Contains failed p × (p < length (known held.accepted))))) → IsForNames held.accepted names c
+for_set held names failed c set just p name at = (
+  λ there. (set.just_named p name at).0 ((just p).0 there).0,
+  λ named. (just p).1 ((set.just_named p name at).1 named, slice_get_within (known held.accepted) p name at),
+)
+
+pub text_of : (held : Held) (names : List Name) (failed text : List ℕ) (c : Certificate) → IsForNames held.accepted names c → IsChosenCertificate held failed c → text ≡ certificate_text held.accepted c → IsChosenText held names text
+text_of held names failed text c for chosen is = record { certificate = c; for_names = for; chosen = own_numbers held failed c chosen; text_is = is }
+
+-- ---- one text
+
+module _ (held : Held) (names : List Name) (c d : Certificate) (ours : IsForNames held.accepted names c) (theirs : IsForNames held.accepted names d) where
+  has_too : (p : ℕ) → p < length (known held.accepted) → Contains c.failed p → Contains d.failed p
+  has_too p lt has = elim (slice_get_cases (known held.accepted) p).1 [
+    | inl s ↦ (theirs p s.0 s.2).1 ((ours p s.0 s.2).0 has)
+    | inr past ↦ absurd (omega (arith, past.0))
+  ]
+
+-- one for the same names is chosen for the same numbers
+for_same : (held : Held) (names : List Name) (c d : Certificate) → IsForNames held.accepted names c → IsForNames held.accepted names d → IsChosenCertificate held c.failed c → IsChosenCertificate held d.failed d → IsChosenCertificate held c.failed d
+for_same held names c d ours theirs first second = record {
+  front = second.front;
+  in_order = second.in_order;
+  just_these = λ p. (
+    λ has. let lt = ((second.just_these p).0 has).1 in (has_too held names d c theirs ours p lt has, lt),
+    λ both. has_too held names c d ours theirs p both.1 both.0,
+  );
+  rounds = second.rounds;
+  chosen = second.chosen;
+}
+
+pub one_text : (held : Held) (names : List Name) (text other : List ℕ) → IsChosenText held names text → IsChosenText held names other → text ≡ other
+one_text held names text other a b =
+    let same = one_certificate held a.certificate.failed a.certificate b.certificate a.chosen (for_same held names a.certificate b.certificate a.for_names b.for_names a.chosen b.chosen) in
+    a.text_is ∙ ap (certificate_text held.accepted) same ∙ sym b.text_is
+
+-- ---- over chains behind a turn
+
+-- whether a store is stopped is not asked
+over_list : (accepted : List Report) (front : ℕ) (stopped down : Bool) (names : List Name) (text : List ℕ) → IsChosenText (record { accepted = accepted; front = front; stopped = stopped }) names text
+    → IsChosenText (record { accepted = accepted; front = front; stopped = down }) names text
+over_list accepted front stopped down names text h = record {
+  certificate = h.certificate;
+  for_names = h.for_names;
+  chosen = record { front = h.chosen.front; in_order = h.chosen.in_order; just_these = h.chosen.just_these; rounds = h.chosen.rounds; chosen = h.chosen.chosen };
+  text_is = h.text_is;
+}
+
+over_held : (held after : Held) (k : Kept) (names : List Report → List Name) (text : List ℕ) → after ≡ held → k.accepted ≡ after.accepted → k.front ≡ after.front → IsChosenText (held_of k) (names k.accepted) text → IsChosenText held (names held.accepted) text
+over_held held after k names text same list front h =
+    let a = list ∙ ap (λ (x : Held). x.accepted) same in
+    let f = front ∙ ap (λ (x : Held). x.front) same in
+    let over = over_list k.accepted k.front (held_of k).stopped held.stopped (names k.accepted) text h in
+    let listed = subst (λ (l : List Report). IsChosenText (record { accepted = l; front = k.front; stopped = held.stopped }) (names l) text) a over in
+    subst (λ (n : ℕ). IsChosenText (record { accepted = held.accepted; front = n; stopped = held.stopped }) (names held.accepted) text) f listed
+
+-- what is chosen over the chains behind a turn is chosen over what was held before it
+pub chosen_at : (held after : Held) (k : Kept) (call : Call) (reply : Reply) (text : List ℕ) → IsTurn held call reply after → k.accepted ≡ after.accepted → k.front ≡ after.front → IsChosenFor (held_of k) call text → IsChosenFor held call text
+chosen_at held after k (calls.Line names) reply text (fate, t) list front h = over_held held after k (λ l. names) text (unchanged held.stopped fate held _ reply after t) list front h
+chosen_at held after k calls.Garbage reply text (fate, t) list front h = over_held held after k known text (unchanged held.stopped fate held _ reply after t) list front h
+chosen_at held after k (calls.Report r) reply text t list front h = absurd h
+chosen_at held after k (calls.State p) reply text t list front h = absurd h
+chosen_at held after k calls.Bye reply text t list front h = absurd h
+chosen_at held after k (calls.Bad n) reply text t list front h = absurd h
+chosen_at held after k calls.Unread reply text t list front h = absurd h
+
+-- one text for each call
+pub one_for : (held : Held) (call : Call) (text other : List ℕ) → IsChosenFor held call text → IsChosenFor held call other → text ≡ other
+one_for held (calls.Line names) text other a b = one_text held names text other a b
+one_for held calls.Garbage text other a b = one_text held (known held.accepted) text other a b
+one_for held (calls.Report r) text other a b = absurd a
+one_for held (calls.State p) text other a b = absurd a
+one_for held calls.Bye text other a b = absurd a
+one_for held (calls.Bad n) text other a b = absurd a
+one_for held calls.Unread text other a b = absurd a

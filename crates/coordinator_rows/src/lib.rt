@@ -12,4 +12,6 @@ mod passes;
 #[cfg(test)]
 mod sessions;
 #[cfg(test)]
+mod tables;
+#[cfg(test)]
 mod worn;

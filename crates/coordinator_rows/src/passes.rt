@@ -12,6 +12,7 @@ use std::process::Abort;
 use std::sync::Wait;
 use std::sync::ledger::{Blank, Ledger};
 use std::test::Fail;
+use std::thread::Threads;
 
 #[test]
 fn passes_and_close(rt: HostRuntime) -> Result<(), Fail> {
@@ -20,7 +21,11 @@ fn passes_and_close(rt: HostRuntime) -> Result<(), Fail> {
 }
 
 /// Pass 1 makes two turns, and pass 2 one.
-fn two_passes<L: Ledger, R: Wait + Abort>(rt: &R, alloc: Global, blank: Blank) -> Result<(), Fail>
+fn two_passes<L: Ledger, R: Threads + Wait + Abort + Sync>(
+    rt: &R,
+    alloc: Global,
+    blank: Blank,
+) -> Result<(), Fail>
     requires name { blank.name ≡ L.name }
     requires parts { (blank.parts ≡ L.parts) × (blank.parts ≡ 8193) }
 {

@@ -22,6 +22,7 @@ struct MetLink<'a> {
     inner: MemoryLink,
     read: &'a AtomicU64,
     other: &'a AtomicU64,
+    late: &'a AtomicU64,
 }
 
 impl<'a> Link for MetLink<'a> {
@@ -29,7 +30,9 @@ impl<'a> Link for MetLink<'a> {
 
     fn read(&mut self, buf: &mut [u8]) -> Result<usize, LinkFault> {
         self.read.store(1, Ordering::SeqCst);
-        wait_for(self.other);
+        if !wait_for(self.other) {
+            self.late.store(1, Ordering::SeqCst);
+        }
         self.inner.read(buf)
     }
 
@@ -64,9 +67,10 @@ fn two_sessions<L: Ledger + Send + Sync, R: Threads + Wait + Abort + Sync>(
     let coordinator = opened::<L>(rt, alloc, blank)?;
     let one = AtomicU64::new(0);
     let two = AtomicU64::new(0);
+    let late = AtomicU64::new(0);
     let (links, clients) = bounded::<MetLink, _>(alloc, 2)?;
-    send(rt, alloc, &links, &one, &two)?;
-    send(rt, alloc, &links, &two, &one)?;
+    send(rt, alloc, &links, &one, &two, &late)?;
+    send(rt, alloc, &links, &two, &one, &late)?;
     drop(links);
     let lists = workers(rt, alloc, &coordinator, &OpenGate, 2, clients)?;
     let mut passes = Vec::new(alloc);
@@ -78,6 +82,7 @@ fn two_sessions<L: Ledger + Send + Sync, R: Threads + Wait + Abort + Sync>(
             passes.push(pass)?;
         }
     }
+    assert_eq!(rt; late.load(Ordering::SeqCst), 0);
     assert_eq!(rt; (passes.len(), accepted), (2, 1));
     assert_eq!(rt; ended(rt, coordinator, passes), (2, 1));
     Ok(())
@@ -90,9 +95,18 @@ fn send<'a, R: Wait + Abort>(
     links: &Sender<MetLink<'a>>,
     read: &'a AtomicU64,
     other: &'a AtomicU64,
+    late: &'a AtomicU64,
 ) -> Result<(), Fail> {
     let inner = MemoryLink::new(alloc, &[b"BEGIN a\n".as_slice()], 64)?;
-    let Ok(()) = links.send(rt, MetLink { inner, read, other }) else {
+    let Ok(()) = links.send(
+        rt,
+        MetLink {
+            inner,
+            read,
+            other,
+            late,
+        },
+    ) else {
         panic!(rt; "there is room");
     };
     Ok(())

@@ -7,6 +7,8 @@ use Rattle.chains.specs.Held.{Held}
 use Rattle.desk.specs.Desks.{DeskState}
 use Rattle.coordinator.specs.Passes.{PassState}
 use Rattle.coordinator.specs.Closing.{IsEnded}
+use Rattle.coordinator.specs.declared.fault.CloseFault.{CloseFault}
+use Rattle.coordinator.specs.declared.fault.CloseFault.TheVariants as faults
 use Rattle.report_line.specs.Cutting.{ended}
 use Rattle.session.specs.declared.kind.Kind.{Kind}
 use Rattle.session.specs.Links.{LinkState, IsSound}
@@ -35,6 +37,12 @@ abbrev pub stop_line : Stop → List ℕ
 stop_line stops.Device = ended (codes "recline: device")
 stop_line stops.Memory = ended (codes "recline: memory")
 stop_line stops.Foreign = ended (codes "recline: foreign")
+
+-- why a service stops where the turns are not those of its passes
+abbrev pub stopped_by : CloseFault → Stop
+stopped_by faults.Memory = stops.Memory
+stopped_by (faults.Stranger number) = stops.Foreign
+stopped_by (faults.Missing shares turns) = stops.Foreign
 
 -- a session was served with this pass, from when it was new
 pub record IsOfSession (pass : PassState) : Type 0 where

@@ -4,7 +4,7 @@ ghost use Rattle.std.specs.Prelude.{◌≡◌, ◌<◌, ◌≤◌, IfOk, IfSome,
 ghost use Rattle.std.specs.List.{flat_map};
 ghost use Rattle.std.specs.Thread.{IsSend, IsSync};
 ghost use Rattle.recline.specs.Driving.{Writes};
-ghost use Rattle.recline.specs.Serving.{AreLimited, AreServed, IsService, IsServed, ServesOn, end_line, port_line, stop_line};
+ghost use Rattle.recline.specs.Serving.{AreLimited, AreServed, IsService, IsServed, ServesOn, end_line, port_line, stop_line, stopped_by};
 
 use crate::running::{tell, tell_unopened};
 use coordinator::{CloseFault, Coordinator, Ended, OpenGate, Pass};
@@ -67,6 +67,16 @@ enum Stop {
     Memory,
     /// What the clients were shown is not what the desk answered. No true run meets it.
     Foreign,
+}
+
+/// Why a service stops whose turns are not those of its passes.
+fn stop_of(fault: &CloseFault) -> Stop
+    ensures { result ≡ stopped_by fault.now }
+{
+    match fault {
+        CloseFault::Memory => Stop::Memory,
+        CloseFault::Stranger(_) | CloseFault::Missing { .. } => Stop::Foreign,
+    }
 }
 
 /// The fault line for it.
@@ -267,7 +277,8 @@ fn serve_desk<
     requires service { IsService service }
     ensures { IfOk result (λ disk. IsServed D.keeps D.view desk.opening service.sessions (O.told output.old) (O.told output.new) disk) }
 {
-    let Ok(coordinator) = Coordinator::<L, D>::new(alloc, blank, desk) else {
+    let workers = service.workers as usize;
+    let Ok(coordinator) = Coordinator::<L, D>::with_workers(alloc, blank, desk, workers) else {
         return Err(Stop::Memory);
     };
     let Ok(passes) = Vec::with_capacity(alloc, service.sessions as usize) else {
@@ -296,15 +307,12 @@ fn serve_desk<
             Ok(()) => Ok(disk),
             Err(_) => Err(Stop::Device),
         },
-        Err(unclosed) => match unclosed.fault {
-            CloseFault::Memory => Err(Stop::Memory),
-            CloseFault::Stranger(_) | CloseFault::Missing { .. } => Err(Stop::Foreign),
-        },
+        Err(unclosed) => Err(stop_of(&unclosed.fault)),
     }
 }
 
 /// The command `serve`: opens the record file on a disk, tells the port of the listener, serves so many sessions over one desk by
-/// so many workers, holds what the clients were shown against the turns, and tells how many reports were accepted. Answers the
+/// so many workers, of which each computes lines by as many threads more, holds what the clients were shown against the turns, and tells how many reports were accepted. Answers the
 /// status of the process, and the disk where it came back.
 pub fn serve_on<
     D: Disk + Send + Drop,

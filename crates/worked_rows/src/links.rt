@@ -12,6 +12,7 @@ use std::process::Abort;
 use std::sync::Wait;
 use std::sync::ledger::{Blank, Ledger};
 use std::test::Fail;
+use std::thread::Threads;
 
 /// A desk of which nothing is kept on a disk.
 fn fresh(rt: &impl Abort, alloc: Global) -> Desk<NullDisk>
@@ -24,7 +25,7 @@ fn fresh(rt: &impl Abort, alloc: Global) -> Desk<NullDisk>
 }
 
 /// A session over a new pass, whose link gives these two pieces and has one call fail (0: none).
-fn served<L: Ledger, R: Wait + Abort>(
+fn served<L: Ledger, R: Threads + Wait + Abort + Sync>(
     rt: &R,
     alloc: Global,
     coordinator: &Coordinator<L, NullDisk>,
@@ -48,7 +49,11 @@ fn links_end(rt: HostRuntime) -> Result<(), Fail> {
 }
 
 /// All sessions over one coordinator, whose turns are theirs.
-fn links<L: Ledger, R: Wait + Abort>(rt: &R, alloc: Global, blank: Blank) -> Result<(), Fail>
+fn links<L: Ledger, R: Threads + Wait + Abort + Sync>(
+    rt: &R,
+    alloc: Global,
+    blank: Blank,
+) -> Result<(), Fail>
     requires name { blank.name ≡ L.name }
     requires parts { (blank.parts ≡ L.parts) × (blank.parts ≡ 8193) }
 {
@@ -65,7 +70,7 @@ fn links<L: Ledger, R: Wait + Abort>(rt: &R, alloc: Global, blank: Blank) -> Res
 
 /// What the pieces are, which call fails, how the session ends, what was written, and how many lines whole and entries there are. The
 /// calls are a hand-on, a read, a write for each reply, and again.
-fn sessions<L: Ledger, R: Wait + Abort>(
+fn sessions<L: Ledger, R: Threads + Wait + Abort + Sync>(
     rt: &R,
     alloc: Global,
     coordinator: &Coordinator<L, NullDisk>,
@@ -107,7 +112,7 @@ fn sessions<L: Ledger, R: Wait + Abort>(
 }
 
 /// A line of 8,193 bytes behind one that is answered.
-fn too_long<L: Ledger, R: Wait + Abort>(
+fn too_long<L: Ledger, R: Threads + Wait + Abort + Sync>(
     rt: &R,
     alloc: Global,
     coordinator: &Coordinator<L, NullDisk>,

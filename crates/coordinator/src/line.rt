@@ -72,6 +72,24 @@ fn garbage_for(chains: &Chains, needs: &Needs<'_>) -> Option<Text>
     }
 }
 
+/// How many processes a thread looks at, at the least: to start one takes as long as to look at some tens.
+const PROCESSES_A_THREAD: u32 = 128;
+
+/// How many threads make a table: as many as there may be, where there are processes enough for them.
+fn threads_for(chains: &Chains, workers: usize) -> usize
+    requires { (0 < workers) × (workers ≤ 64) }
+    ensures { (0 < result) × (result ≤ 64) }
+{
+    let enough = (chains.count() / PROCESSES_A_THREAD) as usize;
+    if enough == 0 {
+        1
+    } else if enough < workers {
+        enough
+    } else {
+        workers
+    }
+}
+
 /// The text of the line that the call asks for, if it asks for one and memory suffices for it: by a table of needs that so many threads
 /// make.
 fn line_for<R: Threads + Sync, G: ChunkGate + Sync>(
@@ -84,7 +102,8 @@ fn line_for<R: Threads + Sync, G: ChunkGate + Sync>(
     requires { (0 < workers) × (workers ≤ 64) }
     ensures { IfSome result (λ text. IsLineFor (held_of chains.now) call.now text) }
 {
-    let Ok(table) = needs(rt, chains, workers, gate) else {
+    let threads = threads_for(chains, workers);
+    let Ok(table) = needs(rt, chains, threads, gate) else {
         return None;
     };
     match call {

@@ -109,7 +109,7 @@ impl<L: Ledger, D: Disk> Coordinator<L, D> {
         Coordinator::with_workers(alloc, blank, desk, 1)
     }
 
-    /// The same, where the table of needs of a line is made by this many threads, 1 to 64.
+    /// The same, where the table of needs of a line is made by this many threads at most, 1 to 64.
     pub fn with_workers(
         alloc: Global,
         blank: Blank,

@@ -72,7 +72,7 @@ fn garbage_for(chains: &Chains, needs: &Needs<'_>) -> Option<Text>
     }
 }
 
-/// How many processes a thread looks at, at the least: to start one takes as long as to look at some tens.
+/// How many processes a thread looks at, at the least, where there is more than one.
 const PROCESSES_A_THREAD: u32 = 128;
 
 /// How many threads make a table: as many as there may be, where there are processes enough for them.

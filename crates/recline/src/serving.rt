@@ -312,7 +312,7 @@ fn serve_desk<
 }
 
 /// The command `serve`: opens the record file on a disk, tells the port of the listener, serves so many sessions over one desk by
-/// so many workers, of which each computes lines by as many threads more, holds what the clients were shown against the turns, and tells how many reports were accepted. Answers the
+/// so many workers, of which each computes lines by as many threads at most, holds what the clients were shown against the turns, and tells how many reports were accepted. Answers the
 /// status of the process, and the disk where it came back.
 pub fn serve_on<
     D: Disk + Send + Drop,

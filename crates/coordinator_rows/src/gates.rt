@@ -6,6 +6,7 @@ use crate::helpers::{accepted, ended, handed_out, opened, report, shows_line};
 use coordinator::{CallFault, Coordinator, Gate, Pass};
 use knows_row::ChunkGate;
 use line_disk::MemoryDisk;
+use needs_rows::wait_for;
 use report_line::Names;
 use std::alloc::Global;
 use std::marker::Brand;
@@ -55,17 +56,6 @@ impl Gate for HeldGate {
             self.hold();
         }
     }
-}
-
-/// Waits until the number is not 0, or for ten million turns.
-pub(crate) fn wait_for(word: &AtomicU64) -> bool {
-    for _ in 0..10_000_000u64 {
-        if word.load(Ordering::SeqCst) != 0 {
-            return true;
-        }
-        thread::yield_now();
-    }
-    false
 }
 
 #[test]

@@ -12,6 +12,4 @@ mod passes;
 #[cfg(test)]
 mod sessions;
 #[cfg(test)]
-mod tables;
-#[cfg(test)]
 mod worn;

@@ -2,10 +2,10 @@
 
 ghost use Rattle.std.specs.Prelude.{◌≡◌};
 
-use crate::gates::wait_for;
 use crate::helpers::{ended, opened};
 use coordinator::{OpenGate, Pass};
 use crossbeam_channel::{Sender, bounded};
+use needs_rows::wait_for;
 use session::{Kind, Link, LinkFault, MemoryLink, Served, workers};
 use std::alloc::Global;
 use std::marker::Brand;

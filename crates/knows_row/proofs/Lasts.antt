@@ -1,10 +1,9 @@
 -- The last places of all processes.
-use Rattle.std.proofs.Common.{◌≡◌, inl, inr, ℕ, zero, suc, ◌+◌, ◌≤◌, ◌<◌, Bool, true, false, cond, List, [], ◌∷◌, ◌++◌, length, map, get_or, Option, Some, None, refl, sym, ap, subst, ◌∙◌, arith}
+use Rattle.std.proofs.Common.{◌≡◌, ℕ, zero, suc, ◌+◌, ◌≤◌, ◌<◌, Bool, true, false, cond, List, [], ◌∷◌, ◌++◌, length, map, Option, Some, None, refl, sym, ap, subst, ◌∙◌, arith}
 use Rattle.std.specs.Prelude.{slice_index, Contains, All}
 use Rattle.std.specs.List.{range_with_len}
 use Rattle.std.specs.List.Sorted.{IsStrictlyIncreasing}
 use Rattle.std.specs.Option.{option_map}
-use Rattle.std.proofs.lemmas.Bool.{cases_lt}
 use Rattle.std.proofs.lemmas.List.Elements.{All-weaker, All-contains_itself}
 use Rattle.std.proofs.lemmas.List.FromFn.{length-range_with_len, get_or-range_with_len, length-map-range_with_len, get_or-map-range_with_len, map-range_with_len_more}
 use Rattle.event_tree.specs.EventTree.{EventTree}
@@ -16,7 +15,7 @@ use Rattle.chains.specs.Positions.{is_retired, last_rank, place_at}
 use Rattle.chains.specs.Knowledge.{retired_events}
 use Rattle.knows_row.specs.Knowing.{KnowsAt, KnowsRank, IsLawful}
 use Rattle.knows_row.specs.Looks.{IsFirstKnown, IsLoweredFrom, AreBoundsOf, all_known, last_ranks, ranks_past_all}
-use Rattle.knows_row.specs.Needs.{AreUnknown, IsUnknownAtLast}
+use Rattle.knows_row.specs.Needs.{AreUnknown, IsUnknownAtLast, IsUnknownCount}
 use Rattle.knows_row.specs.Thresholds.{AreThresholdsOf}
 use Rattle.knows_row.proofs.Laws.{retired_top}
 use Rattle.knows_row.proofs.Listed.{there}
@@ -162,6 +161,18 @@ module _ (accepted : List Report) where
     pub before_first : (f : ℕ) → IsFirstKnown accepted all lasts p rank f → (q : ℕ) → q < f → q < length (known accepted) → IsUnknownAtLast accepted p q
     before_first f first q below qin knows = let le = first.first q (has q qin) (known_so q qin knows) in omega arith
 
+    pub count_none : (n : ℕ) → n ≡ length (known accepted) → ((q : ℕ) → Contains all q → ¬ KnowsRank accepted p rank q (slice_index lasts q)) → IsUnknownCount accepted p n
+    count_none n e none = record { none = λ q below qin. none_at_last none q qin; next = λ lt. absurd (omega (arith, e, lt)) }
+
+    pub count_first : (f : ℕ) → IsFirstKnown accepted all lasts p rank f → IsUnknownCount accepted p f
+    count_first f first = record {
+      none = before_first f first;
+      next = λ fin un. un (
+          subst (λ (k : ℕ). KnowsRank accepted p (last_rank accepted p) f k) (ap (λ (xs : List ℕ). slice_index xs f) are_lasts ∙ last_at f fin)
+          (subst (λ (x : ℕ). KnowsRank accepted p x f (slice_index lasts f)) rank_is first.known)
+          );
+    }
+
   -- what the last place does not know after the last place, it knows at no element from there on
   pub unknown_from : IsLawful accepted → (p q : ℕ) → IsUnknownAtLast accepted p q → (k : ℕ) → last_rank accepted q ≤ k → ¬ KnowsAt accepted (place_at accepted p (last_rank accepted p)) q k
   unknown_from laws p q unknown k le known = unknown (laws.from_element p (last_rank accepted p) q (last_rank accepted q) k le known)
@@ -173,5 +184,5 @@ module _ (accepted : List Report) where
   unknown_at laws p rank bound q place lasts unknown pin qin are_lasts h is at below end k le known =
       let last : rank ≡ last_rank accepted p = is ∙ ap (λ (xs : List ℕ). slice_index xs p) are_lasts ∙ last_at p pin in
       let bounded : bound ≡ last_rank accepted q = end ∙ ap (λ (xs : List ℕ). slice_index xs q) are_lasts ∙ last_at q qin in
-      unknown_from laws p q (h.each p q (omega (arith, pin, h.complete)) below qin) k (omega (arith, le, bounded))
+      unknown_from laws p q ((h.each p (omega (arith, pin, h.complete))).none q below qin) k (omega (arith, le, bounded))
       (subst (λ (x : Place). KnowsAt accepted x q k) (at ∙ ap (place_at accepted p) last) known)

@@ -4,6 +4,7 @@ use Rattle.std.specs.Prelude.{slice_index, Contains}
 use Rattle.std.specs.List.Sorted.{IsStrictlyIncreasing}
 use Rattle.std.proofs.lemmas.Bool.{cases_lt}
 use Rattle.std.proofs.lemmas.Grind.{get_or_default_zero}
+use Rattle.std.proofs.lemmas.List.{get_or_default}
 use Rattle.report_line.specs.declared.report.Report.{Report}
 use Rattle.knows_row.specs.Knowing.{KnowsRank}
 use Rattle.knows_row.specs.Looks.{IsFirstKnown}
@@ -36,9 +37,10 @@ pub rises : (among : List ℕ) → IsStrictlyIncreasing among → (i j : ℕ) �
 rises among h i j le lt = let e : i + (j - i) ≡ j = omega arith in subst (λ (k : ℕ). slice_index among i ≤ slice_index among k) e (rising among h i (j - i) (omega (arith, e, lt)))
 
 -- where none before is known, one that is known is the first
-pub is_first_known : (accepted : List Report) (cut among : List ℕ) (p x n : ℕ) → IsStrictlyIncreasing among → AreUnknownTo accepted cut among p x n
+pub is_first_known : (accepted : List Report) (cut among : List ℕ) (p x n : ℕ) → n < length among → IsStrictlyIncreasing among → AreUnknownTo accepted cut among p x n
     → KnowsRank accepted p x (slice_index among n) (slice_index cut (slice_index among n)) → IsFirstKnown accepted among cut p x (slice_index among n)
-is_first_known accepted cut among p x n sorted none knows = record {
+is_first_known accepted cut among p x n lt sorted none knows = record {
+  one = (n, lt, get_or_default among n (slice_index among n) 0 lt);
   known = knows;
   first = λ j contains later.
       let at = there among j contains in

@@ -233,6 +233,13 @@ module _ (accepted : List Report) (q from : ℕ) where
             (made v small).1 (inr (subst (IsBeyondAt v (elements accepted q)) e beyond.3))
       ]
 
+  -- of one element
+  pub threshold_one : (to : ℕ) (t : EventTree) → to ≡ from + 1 → ((v : EventTree) → greatest v ≤ value_limit → Passes v t ↔ IsBeyondAt v (elements accepted q) from) → IsThreshold accepted q from to t
+  threshold_one to t one made v small = (λ passes. (from, omega arith, omega (arith, one), (made v small).0 passes), back)
+    where
+      back : IsBeyondOne accepted q from to v → Passes v t
+      back beyond = let e : beyond.0 ≡ from = omega (arith, one, beyond.1, beyond.2) in (made v small).1 (subst (IsBeyondAt v (elements accepted q)) e beyond.3)
+
 -- what is lowered by an element's restriction
 pub lowered_more : (v own bound t events : EventTree) (i : IdTree) → Passes v own ↔ ExceedsOn i v events → Passes v t ↔ (Passes v bound ⊎ Passes v own) → Passes v t ↔ (Passes v bound ⊎ ExceedsOn i v events)
 lowered_more v own bound t events i h k = (λ passes. to (k.0 passes), λ one. k.1 (from one))
@@ -253,6 +260,10 @@ absent_more v bound stamps k none = (λ passes. inl passes, from)
     from (inl passes) = passes
     from (inr beyond) = absurd (let e = sym none ∙ beyond.is_element in cc)
 
+-- so what nothing passes bounds it
+pub absent_alone : (v t : EventTree) (stamps : List Stamp) (k : ℕ) → numbered stamps k ≡ None → ¬ Passes v t → Passes v t ↔ IsBeyondAt v stamps k
+absent_alone v t stamps k none passed_by_none = (λ passes. absurd (passed_by_none passes), λ beyond. absurd (let e = sym none ∙ beyond.is_element in cc))
+
 -- and where there is one, what exceeds it
 pub element_more : (v bound t : EventTree) (stamps : List Stamp) (k : ℕ) (s : Stamp) → numbered stamps k ≡ Some s → Passes v t ↔ (Passes v bound ⊎ ExceedsOn s.id v s.events) → Passes v t ↔ (Passes v bound ⊎ IsBeyondAt v stamps k)
 element_more v bound t stamps k s is h = (λ passes. to (h.0 passes), λ one. h.1 (from one))
@@ -264,6 +275,10 @@ element_more v bound t stamps k s is h = (λ passes. to (h.0 passes), λ one. h.
     from : Passes v bound ⊎ IsBeyondAt v stamps k → Passes v bound ⊎ ExceedsOn s.id v s.events
     from (inl passes) = inl passes
     from (inr beyond) = inr (subst (λ (y : Stamp). ExceedsOn y.id v y.events) (same_Some beyond.stamp s (sym beyond.is_element ∙ is)) beyond.exceeds)
+
+pub element_alone : (v t : EventTree) (stamps : List Stamp) (k : ℕ) (s : Stamp) → numbered stamps k ≡ Some s → Passes v t ↔ ExceedsOn s.id v s.events → Passes v t ↔ IsBeyondAt v stamps k
+element_alone v t stamps k s is h =
+    (λ passes. record { stamp = s; is_element = is; exceeds = h.0 passes }, λ beyond. h.1 (subst (λ (y : Stamp). ExceedsOn y.id v y.events) (same_Some beyond.stamp s (sym beyond.is_element ∙ is)) beyond.exceeds))
 
 pub numbered_of : (stamps : List Stamp) (k : ℕ) (s : Stamp) → 0 < k → Some s ≡ slice_get stamps (k - 1) → numbered stamps k ≡ Some s
 numbered_of stamps zero s some is = absurd (omega (arith, some))
@@ -355,7 +370,7 @@ module _ (accepted : List Report) (cut before : List ℕ) (laws : IsLawful accep
     pub first_known_of : ((i : ℕ) → i < length fell → slice_index fell i < length cut) → IsStrictlyIncreasing fell → (i : ℕ) → IsFirstPassed v row i → IsFirstKnown accepted fell cut p x (slice_index fell i)
     first_known_of within rises i f =
         let iin : i < length fell = omega (arith, f.within, h.complete) in
-        is_first_known accepted cut fell p x i rises unknown (from_one (slice_index fell i) ((h.each i iin v small).0 f.passes))
+        is_first_known accepted cut fell p x i iin rises unknown (from_one (slice_index fell i) ((h.each i iin v small).0 f.passes))
       where
         unknown : AreUnknownTo accepted cut fell p x i
         unknown j lt knows =

@@ -17,6 +17,7 @@ KnowsOne accepted fell cut p x = (q : ℕ) × Contains fell q × KnowsRank accep
 
 -- of these processes q is the first, in order of birth, that rank x of p knows after its rank in the cut
 pub record IsFirstKnown (accepted : List Report) (among cut : List ℕ) (p x q : ℕ) : Type 0 where
+  pub one : Contains among q
   pub known : KnowsRank accepted p x q (slice_index cut q)
   pub first : (j : ℕ) → Contains among j → KnowsRank accepted p x j (slice_index cut j) → q ≤ j
 

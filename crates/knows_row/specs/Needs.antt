@@ -1,5 +1,5 @@
 -- What a table of needs holds.
-use Rattle.std.specs.Prelude.{◌≡◌, ℕ, ◌≤◌, ◌<◌, List, length, slice_index, refl}
+use Rattle.std.specs.Prelude.{◌≡◌, ℕ, ◌<◌, List, length, slice_index, refl}
 use Rattle.std.specs.Coded.{Coded, code_by, coded×, coded_list}
 use Rattle.event_tree.specs.EventTree.{EventTree, event_tree_code}
 use Rattle.report_line.specs.Codes.{report_code}
@@ -23,10 +23,15 @@ table_code =
 abbrev pub IsUnknownAtLast : List Report → ℕ → ℕ → Type 0
 IsUnknownAtLast accepted p q = ¬ KnowsRank accepted p (last_rank accepted p) q (last_rank accepted q)
 
--- for each process of how many, the first ones in order of birth, its last place knows nothing so
+-- of so many processes, the first ones in order of birth, the last place of p knows nothing so; and of the next one it does, if there is one
+pub record IsUnknownCount (accepted : List Report) (p n : ℕ) : Type 0 where
+  pub none : (q : ℕ) → q < n → q < length (known accepted) → IsUnknownAtLast accepted p q
+  pub next : n < length (known accepted) → ¬ IsUnknownAtLast accepted p n
+
+-- for each process its number of these
 pub record AreUnknown (accepted : List Report) (unknown : List ℕ) : Type 0 where
   pub complete : length unknown ≡ length (known accepted)
-  pub each : (p q : ℕ) → p < length unknown → q < slice_index unknown p → q < length (known accepted) → IsUnknownAtLast accepted p q
+  pub each : (p : ℕ) → p < length unknown → IsUnknownCount accepted p (slice_index unknown p)
 
 -- the table was made of this list
 pub record IsTableOf (accepted : List Report) (t : NeedsTable) : Type 0 where

@@ -3,7 +3,7 @@
 ghost use Rattle.std.specs.Prelude.{◌≡◌, ◌≤◌, ◌<◌, ◌+◌, ℕ, IfOk, length, slice_index};
 ghost use Rattle.chains.specs.Processes.{known};
 ghost use Rattle.knows_row.specs.Looks.{AreBoundsOf, all_known, last_ranks as ranks_of_last};
-ghost use Rattle.knows_row.specs.Needs.{AreUnknown, IsTableOf, IsUnknownAtLast};
+ghost use Rattle.knows_row.specs.Needs.{AreUnknown, IsTableOf, IsUnknownCount};
 
 use crate::chunk_gate::ChunkGate;
 use crate::looks::first_known;
@@ -26,7 +26,7 @@ fn unknown_to(
     requires lasts { lasts.now ≡ ranks_of_last chains.now.accepted }
     requires all { all.now ≡ all_known chains.now.accepted }
     requires process { process < length (known chains.now.accepted) }
-    ensures { (q : ℕ) → q < result → q < length (known chains.now.accepted) → IsUnknownAtLast chains.now.accepted process q }
+    ensures { IsUnknownCount chains.now.accepted process result }
 {
     let rank = lasts[process as usize];
     match first_known(chains, thresholds, lasts, all, process, rank) {
@@ -48,7 +48,7 @@ fn look(
     requires lasts { lasts.now ≡ ranks_of_last chains.now.accepted }
     requires all { all.now ≡ all_known chains.now.accepted }
     requires within { start + length slots.old ≤ length (known chains.now.accepted) }
-    ensures { (k q : ℕ) → k < length slots.old → q < slice_index slots.new k → q < length (known chains.now.accepted) → IsUnknownAtLast chains.now.accepted (start + k) q }
+    ensures { (k : ℕ) → k < length slots.old → IsUnknownCount chains.now.accepted (start + k) (slice_index slots.new k) }
 {
     chains.lawful();
     for k in 0..slots.len() {
@@ -78,7 +78,7 @@ fn look_by_runs<R: Threads + Sync, G: ChunkGate + Sync>(
     let run = |start: usize, slots: &mut [u32]|
         requires { (0 < size) × AreBoundsOf chains.now.accepted lasts.now all.now thresholds.now × (lasts.now ≡ ranks_of_last chains.now.accepted)
             × (all.now ≡ all_known chains.now.accepted) × (start + length slots.old ≤ length (known chains.now.accepted)) }
-        ensures { (k q : ℕ) → k < length slots.old → q < slice_index slots.new k → q < length (known chains.entry.now.accepted) → IsUnknownAtLast chains.entry.now.accepted (start + k) q }
+        ensures { (k : ℕ) → k < length slots.old → IsUnknownCount chains.entry.now.accepted (start + k) (slice_index slots.new k) }
     {
         chains.lawful();
         gate.before_chunk((start / size) as u64 + 1);

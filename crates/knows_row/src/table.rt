@@ -1,6 +1,6 @@
 //! A table of needs.
 
-ghost use Rattle.std.specs.Prelude.{◌≡◌, ◌≤◌, ◌<◌, ℕ, IsTrue, length};
+ghost use Rattle.std.specs.Prelude.{◌≡◌, ◌↔◌, ◌≤◌, ◌<◌, ℕ, IsTrue, length};
 ghost use Rattle.chains.specs.Processes.{known};
 ghost use Rattle.chains.specs.Positions.{place_at};
 ghost use Rattle.knows_row.specs.Knowing.{IsNeed, KnowsAt};
@@ -53,7 +53,7 @@ impl<'a> Needs<'a> {
     /// Whether the last place of the process knows nothing of any process after its last place. It takes no memory.
     pub fn is_clear_at_last(&self, process: u32) -> bool
         requires { process < length (known self.now.accepted) }
-        ensures { IsTrue result → (q : ℕ) → q < length (known self.now.accepted) → IsUnknownAtLast self.now.accepted process q }
+        ensures { IsTrue result ↔ ((q : ℕ) → q < length (known self.now.accepted) → IsUnknownAtLast self.now.accepted process q) }
     {
         self.unknown[process as usize] >= self.chains.count()
     }

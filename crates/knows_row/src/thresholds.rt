@@ -107,8 +107,34 @@ fn lowered(alloc: Global, bound: &Events, events: &Events, id: &Id) -> Result<Ev
     bound.meet(alloc, &own)
 }
 
-/// The threshold of the elements of a process from this one on and below that one.
-fn threshold(chains: &Chains, process: u32, from: u32, to: u32) -> Result<Events, AllocError>
+/// A tree that just what exceeds these events on the id passes.
+fn bound_of(alloc: Global, events: &Events, id: &Id) -> Result<Events, AllocError>
+    ensures { IfOk result (λ t. (v : EventTree) → greatest v ≤ value_limit → Passes v t ↔ ExceedsOn id.now v events.now) }
+{
+    a_restricted_tree_bounds_what_exceeds_nowhere();
+    events.restricted(alloc, id)
+}
+
+/// A tree that just what is beyond this element passes.
+fn bound_of_element(alloc: Global, elements: &Elements<'_>, k: u32) -> Result<Events, AllocError>
+    ensures { IfOk result (λ t. (v : EventTree) → greatest v ≤ value_limit → Passes v t ↔ IsBeyondAt v elements.now k) }
+{
+    if k == 0 {
+        return no_bound(alloc);
+    }
+    match elements.get(k - 1) {
+        None => no_bound(alloc),
+        Some(element) => bound_of(alloc, element.events, element.id),
+    }
+}
+
+/// The threshold of the elements of a process from this one on and below that one, one after the other.
+fn threshold_of_many(
+    chains: &Chains,
+    process: u32,
+    from: u32,
+    to: u32,
+) -> Result<Events, AllocError>
     requires process { process < length (known chains.now.accepted) }
     requires order { from ≤ to }
     ensures { IfOk result (λ t. IsThreshold chains.now.accepted process from to t) }
@@ -119,6 +145,18 @@ fn threshold(chains: &Chains, process: u32, from: u32, to: u32) -> Result<Events
         bound = with_element(chains.alloc(), &bound, &elements, k)?;
     }
     Ok(bound)
+}
+
+/// The threshold of the elements of a process from this one on and below that one: mostly it is one, of which no meet is made.
+fn threshold(chains: &Chains, process: u32, from: u32, to: u32) -> Result<Events, AllocError>
+    requires process { process < length (known chains.now.accepted) }
+    requires order { from ≤ to }
+    ensures { IfOk result (λ t. IsThreshold chains.now.accepted process from to t) }
+{
+    if to - from == 1 {
+        return bound_of_element(chains.alloc(), &chains.elements(process), from);
+    }
+    threshold_of_many(chains, process, from, to)
 }
 
 /// The thresholds of these processes, one each.

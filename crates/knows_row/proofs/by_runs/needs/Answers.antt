@@ -1,9 +1,6 @@
-use Rattle.std.proofs.Common.{◌≡◌, ◌<◌, ◌≤◌, ℕ, List, length, refl, sym, ap, subst, ◌∙◌, arith}
-use Rattle.std.specs.Prelude.{All, slice_index}
-use Rattle.event_tree.specs.EventTree.{EventTree}
-use Rattle.chains.specs.Processes.{known}
-use Rattle.knows_row.specs.Looks.{AreBoundsOf, all_known, last_ranks, ranks_past_all}
-use Rattle.knows_row.specs.Thresholds.{AreThresholdsOf}
+use Rattle.std.proofs.Common.{◌<◌, ℕ, List, length, refl, sym, ap, subst, ◌∙◌, arith}
+use Rattle.std.specs.Prelude.{All}
+use Rattle.knows_row.specs.Looks.{AreBoundsOf, all_known}
 use Rattle.knows_row.proofs.Lawful.{lawful}
 use Rattle.knows_row.proofs.Lasts.{lasts_len, all_below, bounds_of, falls_from_past}
 use Rattle.knows_row.proofs.by_runs.needs.Goals as goal

@@ -1,8 +1,6 @@
-use Rattle.std.proofs.Common.{◌≡◌, ◌+◌, ◌-◌, ◌<◌, ◌≤◌, ℕ, List, [], length, get_or, refl, sym, ap, ◌∙◌, subst, arith}
+use Rattle.std.proofs.Common.{◌-◌, length, refl, sym, subst, arith}
 use Rattle.std.proofs.lemmas.Bool.{true≢false}
-use Rattle.std.proofs.lemmas.List.{get_or_default}
-use Rattle.event_tree.specs.EventTree.{EventTree}
-use Rattle.knows_row.specs.Thresholds.{Passes, PassesOne, tree_in, AreRows}
+use Rattle.knows_row.specs.Thresholds.{Passes, PassesOne}
 use Rattle.knows_row.proofs.Thresholding.{PassesNone, root_none, none_first, one_first, root_at, root_few}
 use Rattle.knows_row.proofs.thresholds.are_passed.Goals.{then-len-eq0-via-then-len-eq0, then-len-eq0-via-else-len-eq0+then-leq}
 use Rattle.knows_row.proofs.thresholds.are_passed.Goals as goal

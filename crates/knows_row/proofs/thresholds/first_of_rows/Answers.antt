@@ -1,6 +1,6 @@
-use Rattle.std.proofs.Common.{◌≡◌, ◌+◌, ◌-◌, ◌<◌, ◌≤◌, ℕ, List, [], length, get_or, sym, ap, ◌∙◌, subst, arith}
+use Rattle.std.proofs.Common.{◌-◌, length, sym, subst, arith}
 use Rattle.std.proofs.lemmas.Bool.{true≢false}
-use Rattle.knows_row.specs.Thresholds.{Passes, tree_in}
+use Rattle.knows_row.specs.Thresholds.{Passes}
 use Rattle.knows_row.proofs.Thresholding.{PassesNone, root_none, none_first, root_at, root_few}
 use Rattle.knows_row.proofs.thresholds.first_of_rows.Goals.{then-len-eq0-via-then-len-eq0, then-len-eq0-via-else-len-eq0+then-leq}
 use Rattle.knows_row.proofs.thresholds.first_of_rows.Goals as goal

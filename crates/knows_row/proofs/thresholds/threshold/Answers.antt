@@ -1,21 +1,14 @@
-use Rattle.std.proofs.Common.{◌≤◌, ◌↔◌, ◌⊎◌, ℕ, List, subst, arith}
+use Rattle.std.proofs.Common.{◌≤◌, ◌↔◌, List, subst, arith}
+use Rattle.std.proofs.lemmas.Result.{IfOk-weaker}
 use Rattle.event_tree.specs.EventTree.{EventTree}
 use Rattle.event_tree.specs.NormalForm.{greatest, value_limit}
 use Rattle.stamp.specs.declared.stamp.Stamp.{Stamp}
 use Rattle.knows_row.specs.Beyond.{IsBeyondAt}
-use Rattle.knows_row.specs.Thresholds.{Passes, IsThreshold}
-use Rattle.knows_row.proofs.Thresholding.{threshold_more}
+use Rattle.knows_row.specs.Thresholds.{Passes}
+use Rattle.knows_row.proofs.Thresholding.{threshold_one}
 use Rattle.knows_row.proofs.thresholds.threshold.Goals as goal
 
-pub loop-k-preserved : goal.loop-k-preserved
-loop-k-preserved c =
-    let t = c.in_ok-bound-2.bound in
-    let from = c.loop-k.invariant.0 in (
-      omega (arith, from),
-      threshold_more c.args.chains.now.accepted c.args.process c.args.from c.loop-k.k c.loop-k.bound t from c.loop-k.invariant.1
-          (subst (λ (ss : List Stamp). (v : EventTree) → greatest v ≤ value_limit → Passes v t ↔ (Passes v c.loop-k.bound ⊎ IsBeyondAt v ss c.loop-k.k)) c.elements-elements.ensures c.in_ok-bound-2.ensures),
-    )
-
-pub returns : goal.returns
-returns c =
-    subst (λ (k : ℕ). IsThreshold c.args.chains.now.accepted c.args.process c.args.from k c.loop-k.bound) (omega (arith, c.loop-k-test.false, c.loop-k.auto.k-end, c.requires.order)) c.loop-k.invariant.1
+pub returns-then-to-from-eq1 : goal.returns-then-to-from-eq1
+returns-then-to-from-eq1 c = IfOk-weaker c.bound_of_element.result _ _ (λ t made.
+    threshold_one c.args.chains.now.accepted c.args.process c.args.from c.args.to t (omega (arith, c.requires.order))
+    (subst (λ (ss : List Stamp). (v : EventTree) → greatest v ≤ value_limit → Passes v t ↔ IsBeyondAt v ss c.args.from) c.elements.ensures made)) c.bound_of_element.ensures

@@ -1,4 +1,4 @@
-use Rattle.std.proofs.Common.{◌≡◌, ◌↔◌, IsTrue, List, [], get_or, sym, ◌∙◌, subst}
+use Rattle.std.proofs.Common.{◌↔◌, IsTrue, List, [], get_or, sym, ◌∙◌, subst}
 use Rattle.event_tree.specs.EventTree.{EventTree}
 use Rattle.knows_row.specs.Thresholds.{AreRows, PassesOne}
 use Rattle.knows_row.proofs.thresholds.Thresholds.is_passed.Goals as goal

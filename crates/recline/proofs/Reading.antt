@@ -1,8 +1,9 @@
 -- What reads gave, one after the other, and what was written then.
-use Rattle.std.proofs.Common.{◌≡◌, ℕ, ◌+◌, ◌⊎◌, inl, inr, List, ◌++◌, take, Option, Some, None, Ok, sym, ap, append_assoc, subst, ◌∙◌, arith}
+use Rattle.std.proofs.Common.{◌≡◌, ◌<◌, ◌≤◌, ℕ, ◌+◌, inl, inr, List, ◌++◌, take, Option, Some, None, Ok, sym, ap, append_assoc, subst, ◌∙◌, arith}
 use Rattle.std.specs.Io.KnownBytes.{Appends, Consumes, IsAtEnd}
 use Rattle.session.specs.declared.link.LinkFault.{LinkFault}
 use Rattle.session.specs.Links.{up, LinkState, IsFault, IsSound, IsRead}
+use Rattle.session.specs.SessionText.{most_reads}
 use Rattle.recline.specs.Checking.{IsReadWhole}
 use Rattle.recline.specs.Driving.{OnlyReads, ReadsAll, WritesPart}
 
@@ -12,6 +13,10 @@ consumes_then (Some xs) None c x y p q = absurd p
 consumes_then (Some xs) (Some ys) None x y p q = absurd q
 consumes_then (Some xs) (Some ys) (Some zs) x y p q = p ∙ ap (λ (l : List ℕ). x ++ l) q ∙ sym (append_assoc x y zs)
 
+-- one read more is none too many
+pub few_then : (first now next count : ℕ) → now ≡ up count first → count < most_reads → next ≡ up 1 now → next ≤ up most_reads first
+few_then first now next count reads within counted = omega (arith, reads, within, counted)
+
 -- so many reads gave these bytes, and nothing was written
 pub record Reading (first now : LinkState) (bytes : List ℕ) (count : ℕ) : Type 0 where
   pub only : OnlyReads first now bytes
@@ -19,9 +24,10 @@ pub record Reading (first now : LinkState) (bytes : List ℕ) (count : ℕ) : Ty
   pub reads : now.reads ≡ up count first.reads
 
 pub one_more : (first now next : LinkState) (bytes after buf : List ℕ) (n count : ℕ) → OnlyReads first now bytes → IsSound first now → now.reads ≡ up count first.reads
-    → IsRead {E = LinkFault} now next (Ok n) buf → after ≡ bytes ++ take n buf → Reading first next after (count + 1)
-one_more first now next bytes after buf n count only sound reads read is = record {
+    → count < most_reads → IsRead {E = LinkFault} now next (Ok n) buf → after ≡ bytes ++ take n buf → Reading first next after (count + 1)
+one_more first now next bytes after buf n count only sound reads within read is = record {
   only = record {
+    few = few_then first.reads now.reads next.reads count reads within read.counted;
     consumed = subst (λ (l : List ℕ). Consumes first.left next.left l) (sym is) (consumes_then first.left now.left next.left bytes (take n buf) only.consumed read.bytes.0);
     held = read.held ∙ only.held;
     waiting = read.waiting ∙ only.waiting;
@@ -31,13 +37,14 @@ one_more first now next bytes after buf n count only sound reads read is = recor
 }
 
 -- what was read is all that there was, where no more was read then
-pub read_whole : (old read new : LinkState) (text : List ℕ) → ReadsAll old read text → new.left ≡ read.left → IsReadWhole old new text
-read_whole old read new text reads left = record {
+pub read_whole : (old read new : LinkState) (text : List ℕ) → ReadsAll old read text → new.left ≡ read.left → new.reads ≡ read.reads → IsReadWhole old new text
+read_whole old read new text reads left count = record {
+  few = rw count reads.only.few;
   consumed = subst (λ (rest : Option (List ℕ)). Consumes old.left rest text) (sym left) reads.only.consumed;
   at_end = subst (λ (rest : Option (List ℕ)). IsAtEnd rest) (sym left) reads.at_end;
 }
 
-fault_behind : (old read new : LinkState) → IsSound old read → IsFault read new → IsFault old new
+pub fault_behind : (old read new : LinkState) → IsSound old read → IsFault read new → IsFault old new
 fault_behind old read new sound (inl f) = inl (omega (arith, f.0, sound.failures), f.1 ∙ sound.stalls)
 fault_behind old read new sound (inr f) = inr (f.0 ∙ sound.failures, omega (arith, f.1, sound.stalls))
 

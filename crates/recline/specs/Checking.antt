@@ -1,5 +1,5 @@
 -- What the program answers when a certificate was checked over a record file.
-use Rattle.std.specs.Prelude.{◌≡◌, ◌⊎◌, ℕ, List, [], ◌++◌, codes, Result, Ok, Err, string_bytes}
+use Rattle.std.specs.Prelude.{◌≡◌, ◌⊎◌, ℕ, List, [], ◌++◌, codes, Ok, Err, string_bytes}
 use Rattle.std.specs.Io.KnownBytes.{Consumes, IsAtEnd}
 use Rattle.line_disk.specs.Disk.{View}
 use Rattle.report_line.specs.Cutting.{ended}
@@ -18,7 +18,7 @@ use Rattle.desk.specs.Desks.{DeskState}
 use Rattle.desk.specs.Lawful.{IsLawful}
 use Rattle.session.specs.Links.{LinkState, IsSound}
 use Rattle.recline.specs.Outcome.{IsNotOpened, IsOpened, Tells}
-use Rattle.recline.specs.Driving.{OnlyReads, ReadsInVain, WritesAll, WritesPart}
+use Rattle.recline.specs.Driving.{HasFewReads, OnlyReads, ReadsInVain, WritesAll, WritesPart}
 use Rattle.recline.specs.declared.checking.Checked.{Checked}
 use Rattle.recline.specs.declared.checking.Checked.TheVariants as checked
 
@@ -49,6 +49,7 @@ check_fault checked.Device = ended (codes "recline: device")
 pub record IsReadWhole (old new : LinkState) (text : List ℕ) : Type 0 where
   pub consumed : Consumes old.left new.left text
   pub at_end : IsAtEnd new.left
+  pub few : HasFewReads old new
 
 -- The verdict on a certificate. Yes says that its line is the greatest closed cut of every lawful history that agrees with the
 -- accepted reports.

@@ -1,5 +1,5 @@
 -- What the program answers when a script was driven.
-use Rattle.std.specs.Prelude.{◌≡◌, ◌⊎◌, ℕ, List, [], ◌∷◌, ◌++◌, codes, Result, Ok, Err}
+use Rattle.std.specs.Prelude.{◌≡◌, ◌≤◌, ◌⊎◌, ℕ, List, [], ◌∷◌, ◌++◌, codes, Result, Ok, Err}
 use Rattle.std.specs.Fmt.{decimal}
 use Rattle.std.specs.Io.KnownBytes.{Appends, Consumes, IsAtEnd}
 use Rattle.report_line.specs.Cutting.{ended}
@@ -28,9 +28,14 @@ script_fault (Ok (Refused step cause)) = ended (codes "recline: step " ++ decima
 script_fault (Ok Memory) = ended (codes "recline: memory")
 script_fault (Err fault) = ended (codes "recline: device")
 
+-- by then no more reads were made than a script or a certificate takes at most
+abbrev pub HasFewReads : LinkState → LinkState → Type 0
+HasFewReads old new = new.reads ≤ up most_reads old.reads
+
 -- these bytes were read, and nothing was written
 pub record OnlyReads (old new : LinkState) (bytes : List ℕ) : Type 0 where
   pub consumed : Consumes old.left new.left bytes
+  pub few : HasFewReads old new
   pub held : new.held ≡ old.held
   pub waiting : new.waiting ≡ old.waiting
 
@@ -45,6 +50,7 @@ pub record IsScript (old new : LinkState) (text : List ℕ) (end : End) : Type 0
   pub script : List ℕ
   pub consumed : Consumes old.left new.left script
   pub at_end : IsAtEnd new.left
+  pub few : HasFewReads old new
   pub driven : IsDriven script text end
 
 -- all of the text was written and handed on

@@ -1,5 +1,5 @@
 -- What the command `serve` answers.
-use Rattle.std.specs.Prelude.{◌≡◌, ◌⊎◌, ◌<◌, ◌≤◌, ℕ, List, [], ◌∷◌, ◌++◌, length, codes, Option, Some, None, IfSome, All}
+use Rattle.std.specs.Prelude.{◌≡◌, ◌≢◌, ◌⊎◌, ◌<◌, ◌≤◌, ℕ, List, [], ◌∷◌, ◌++◌, length, codes, Option, Some, None, IfSome, All}
 use Rattle.std.specs.Fmt.{decimal}
 use Rattle.std.specs.Io.KnownBytes.{Appends}
 use Rattle.line_disk.specs.Disk.{View}
@@ -14,6 +14,7 @@ use Rattle.session.specs.declared.kind.Kind.{Kind}
 use Rattle.session.specs.Links.{LinkState, IsSound}
 use Rattle.session.specs.Sessions.{WasServed}
 use Rattle.recline.specs.Outcome.{IsOpened, IsNotOpened, Tells}
+use Rattle.recline.specs.Driving.{WritesAll, WritesPart}
 use Rattle.recline.specs.declared.serving.Service.{Service}
 use Rattle.recline.specs.declared.serving.Stop.{Stop}
 use Rattle.recline.specs.declared.serving.Stop.TheVariants as stops
@@ -68,18 +69,65 @@ pub record IsServed {D : Type 0} (keeps : D → Type 0) (view : D → View) (ope
   pub nothing_waits : new.waiting ≡ []
   pub sound : IsSound old new
 
--- the sessions were served to their end, or not, and then it is told why
-abbrev pub ServesTo : {D O F : Type 0} → (D → Type 0) → (D → View) → (O → LinkState) → (F → LinkState) → ℕ → Held → Option D → O → O → F → F → ℕ → Type 0
-ServesTo keeps view output_told faults_told sessions opening (Some disk) output output_after faults faults_after status =
-    IsServed keeps view opening sessions (output_told output) (output_told output_after) disk × (faults_after ≡ faults) × (status ≡ 0)
-ServesTo keeps view output_told faults_told sessions opening None output output_after faults faults_after status =
-    ((stop : Stop) × Tells (faults_told faults) (faults_told faults_after) (stop_line stop)) × (status ≡ 3)
+-- ---- a service that stops
+
+-- the line of a port was printed, or a part of it, and then a call failed
+abbrev pub WritesPort : LinkState → LinkState → Type 0
+WritesPort old new = (port : ℕ) × (WritesAll old new (port_line port) ⊎ WritesPart old new (port_line port))
+
+-- what is printed of a service that stops, of which this is the end: the port alone, or no more than a part of it, or all but a part
+-- of the end, once all sessions were served; where a line is not whole, a device failed
+abbrev pub PrintsSome : ℕ → ℕ → ℕ → Stop → LinkState → LinkState → Type 0
+PrintsSome served sessions front stop old new =
+    (port : ℕ) × (WritesAll old new (port_line port)
+    ⊎ ((stop ≡ stops.Device) × (WritesPart old new (port_line port) ⊎ ((served ≡ sessions) × WritesPart old new (port_line port ++ end_line front)))))
+
+-- The service stopped: the coordinator ended with the passes of the sessions that there were, as it does at the end of a service, and
+-- left the disk so.
+pub record IsCutShort {D : Type 0} (keeps : D → Type 0) (view : D → View) (opening : Held) (sessions : ℕ) (old new : LinkState) (disk : D) (stop : Stop) : Type 0 where
+  pub passes : List PassState
+  pub turns : ℕ
+  pub front : ℕ
+  pub ends : IsEnded keeps view opening passes turns front disk
+  pub served : AreServed passes
+  pub printed : PrintsSome (length passes) sessions front stop old new
+
+-- Or the disk did not come back, since memory was wanting, or what the clients were shown is not what the desk answered.
+abbrev pub IsStopped : {D : Type 0} → (D → Type 0) → (D → View) → Held → ℕ → LinkState → LinkState → Option D → Stop → Type 0
+IsStopped keeps view opening sessions old new (Some disk) stop = IsCutShort keeps view opening sessions old new disk stop
+IsStopped keeps view opening sessions old new None stop = (stop ≢ stops.Device) × WritesPort old new
+
+-- or it stopped before its first session, with nothing printed, and the disk is as the desk had it
+abbrev pub IsUnserved : {D : Type 0} → DeskState D → LinkState → LinkState → Option D → Stop → Type 0
+IsUnserved desk old new disk stop = (stop ≢ stops.Foreign) × (disk ≡ Some desk.disk) × (new ≡ old)
+
+abbrev pub Stops : {D : Type 0} → (D → Type 0) → (D → View) → DeskState D → ℕ → LinkState → LinkState → Option D → Stop → Type 0
+Stops keeps view desk sessions old new disk stop =
+    IsUnserved desk old new disk stop ⊎ IsStopped keeps view desk.opening sessions old new disk stop
+
+-- ---- the command
+
+-- the sessions were served to their end, and no fault is told
+pub record ServesToEnd {D O F : Type 0} (keeps : D → Type 0) (view : D → View) (output_told : O → LinkState) (sessions : ℕ) (desk : DeskState D) (disk_after : Option D) (output output_after : O) (faults faults_after : F) (status : ℕ) : Type 0 where
+  pub disk : D
+  pub is_back : disk_after ≡ Some disk
+  pub served : IsServed keeps view desk.opening sessions (output_told output) (output_told output_after) disk
+  pub no_fault : faults_after ≡ faults
+  pub status_is : status ≡ 0
+
+-- the service stopped, and it is told why
+pub record ServesInPart {D O F : Type 0} (keeps : D → Type 0) (view : D → View) (output_told : O → LinkState) (faults_told : F → LinkState) (sessions : ℕ) (desk : DeskState D) (disk_after : Option D) (output output_after : O) (faults faults_after : F) (status : ℕ) : Type 0 where
+  pub stop : Stop
+  pub stops_so : Stops keeps view desk sessions (output_told output) (output_told output_after) disk_after stop
+  pub faults_are : Tells (faults_told faults) (faults_told faults_after) (stop_line stop)
+  pub status_is : status ≡ 3
 
 -- the file on this disk was opened, and clients were served over it
 pub record ServesOpened {D O F : Type 0} (keeps : D → Type 0) (view : D → View) (output_told : O → LinkState) (faults_told : F → LinkState) (sessions : ℕ) (disk : D) (disk_after : Option D) (output output_after : O) (faults faults_after : F) (status : ℕ) : Type 0 where
   pub desk : DeskState D
   pub opened : IsOpened keeps view disk desk
-  pub serves : ServesTo keeps view output_told faults_told sessions desk.opening disk_after output output_after faults faults_after status
+  pub serves : ServesToEnd keeps view output_told sessions desk disk_after output output_after faults faults_after status
+      ⊎ ServesInPart keeps view output_told faults_told sessions desk disk_after output output_after faults faults_after status
 
 -- the file was not opened, and the disk came back
 pub record ServesNone {D O F : Type 0} (keeps : D → Type 0) (view : D → View) (failed : D → ℕ) (faults_told : F → LinkState) (disk : D) (disk_after : Option D) (output output_after : O) (faults faults_after : F) (status : ℕ) : Type 0 where
@@ -91,3 +139,34 @@ abbrev pub ServesOn : {D O F : Type 0} → (D → Type 0) → (D → View) → (
 ServesOn keeps view failed output_told faults_told sessions disk disk_after output output_after faults faults_after status =
     ServesOpened keeps view output_told faults_told sessions disk disk_after output output_after faults faults_after status
     ⊎ ServesNone keeps view failed faults_told disk disk_after output output_after faults faults_after status
+
+-- Working definitions from here on: the parts of it.
+
+-- the port was printed; or the service stops, and a line that is not whole says that a device failed
+abbrev pub PrintsPort : Option Stop → LinkState → LinkState → Type 0
+PrintsPort None old new = (port : ℕ) × WritesAll old new (port_line port)
+PrintsPort (Some stop) old new = (port : ℕ) × (WritesAll old new (port_line port) ⊎ ((stop ≡ stops.Device) × WritesPart old new (port_line port)))
+
+-- why a service stops behind its sessions: as it did before, or for memory where there were others than were wanted
+abbrev pub StopsBehind : Option Stop → ℕ → ℕ → Option Stop → Type 0
+StopsBehind before served wanted None = (before ≡ None) × (served ≡ wanted)
+StopsBehind before served wanted (Some stop) = (before ≡ Some stop) ⊎ ((before ≡ None) × (stop ≡ stops.Memory))
+
+-- the coordinator ended with these passes, and that was told
+pub record EndsWith {D : Type 0} (keeps : D → Type 0) (view : D → View) (opening : Held) (passes : List PassState) (old new : LinkState) (disk : D) : Type 0 where
+  pub turns : ℕ
+  pub front : ℕ
+  pub ends : IsEnded keeps view opening passes turns front disk
+  pub written : WritesAll old new (end_line front)
+
+-- the coordinator ended with these passes: nothing was told, since the service stops, or a part of the end
+pub record EndsWithStop {D : Type 0} (keeps : D → Type 0) (view : D → View) (opening : Held) (passes : List PassState) (before : Option Stop) (old new : LinkState) (disk : D) (stop : Stop) : Type 0 where
+  pub turns : ℕ
+  pub front : ℕ
+  pub ends : IsEnded keeps view opening passes turns front disk
+  pub told : ((before ≡ Some stop) × (new ≡ old)) ⊎ ((before ≡ None) × (stop ≡ stops.Device) × WritesPart old new (end_line front))
+
+-- or it did not
+abbrev pub EndsShort : {D : Type 0} → (D → Type 0) → (D → View) → Held → List PassState → Option Stop → LinkState → LinkState → Option D → Stop → Type 0
+EndsShort keeps view opening passes before old new (Some disk) stop = EndsWithStop keeps view opening passes before old new disk stop
+EndsShort keeps view opening passes before old new None stop = (stop ≢ stops.Device) × (new ≡ old)

@@ -1,13 +1,13 @@
 //! The command `serve`.
 
-ghost use Rattle.std.specs.Prelude.{◌≡◌, ◌<◌, ◌≤◌, IfOk, IfSome, IfNone, []};
+ghost use Rattle.std.specs.Prelude.{◌≡◌, ◌<◌, ◌≤◌, IfOk, IfErr, IfSome, IfNone, [], None, Some, length};
 ghost use Rattle.std.specs.List.{flat_map};
 ghost use Rattle.std.specs.Thread.{IsSend, IsSync};
 ghost use Rattle.recline.specs.Driving.{Writes};
-ghost use Rattle.recline.specs.Serving.{AreLimited, AreServed, IsService, IsServed, ServesOn, end_line, port_line, stop_line, stopped_by};
+ghost use Rattle.recline.specs.Serving.{AreLimited, AreServed, EndsShort, EndsWith, IsService, IsServed, IsStopped, PrintsPort, ServesOn, Stops, StopsBehind, WritesPort, end_line, port_line, stop_line, stopped_by};
 
 use crate::running::{tell, tell_unopened};
-use coordinator::{CloseFault, Coordinator, Ended, OpenGate, Pass};
+use coordinator::{CloseFault, Coordinator, Ended, OpenGate, Pass, Refused};
 use crossbeam_channel::{Sender, bounded};
 use desk::Desk;
 use itoa::Buffer;
@@ -180,7 +180,34 @@ fn take_clients<S: Read + Write + OpenStream + Drop + Send, T: OpenListener<Stre
     Ok(())
 }
 
-/// Serves so many sessions over a coordinator by so many workers. Answers for each worker its sessions.
+/// What is left of a service that stops before its end.
+#[derive(Drop)]
+struct Stopped<D: Disk> {
+    /// Why it stops.
+    stop: Stop,
+    /// The disk, where it came back.
+    disk: Option<D>,
+}
+
+/// What is left where no client was served.
+fn unserved<D: Disk>(stop: Stop, desk: Desk<D>) -> Stopped<D>
+    ensures { (result.stop ≡ stop) × (result.disk ≡ Some desk.disk) }
+{
+    Stopped {
+        stop,
+        disk: Some(desk.close()),
+    }
+}
+
+/// The passes of the sessions that there were, and why there were no more, if the service stops.
+#[derive(Drop)]
+struct Sessions<L: Ledger> {
+    passes: Vec<Pass<L>>,
+    stop: Option<Stop>,
+}
+
+/// Serves so many sessions over a coordinator by so many workers. Answers for each worker its sessions, and why there are no
+/// more, if the service stops.
 fn serve_sessions<
     L: Ledger + Send + Sync,
     D: Disk + Send + Drop,
@@ -193,14 +220,14 @@ fn serve_sessions<
     listener: &T,
     coordinator: &Coordinator<L, D>,
     service: Service,
-) -> Result<Vec<Vec<Served<L, Streams<S, S>>>>, Stop>
+) -> (Vec<Vec<Served<L, Streams<S, S>>>>, Option<Stop>)
     requires { IsService service }
 {
     let Ok((links, clients)) = bounded::<Streams<S, S>, _>(
         alloc,
         service.sessions.min(MOST_WAITING) as usize,
     ) else {
-        return Err(Stop::Memory);
+        return (Vec::new(alloc), Some(Stop::Memory));
     };
     let n = service.workers as usize;
     let (taken, served) = join(
@@ -212,10 +239,9 @@ fn serve_sessions<
             requires { IsSync R.row × IsSend L.row × IsSync L.row × IsSend D.row × IsSend S.row × (0 < n) × (n ≤ 64) }
         { workers(rt, alloc, coordinator, &OpenGate, n, clients) },
     );
-    taken?;
     match served {
-        Ok(lists) => Ok(lists),
-        Err(_) => Err(Stop::Memory),
+        Ok(lists) => (lists, taken.err()),
+        Err(_) => (Vec::new(alloc), Some(Stop::Memory)),
     }
 }
 
@@ -223,7 +249,7 @@ fn serve_sessions<
 fn add_passes<L: Ledger, K: Link + Drop>(
     passes: &mut Vec<Pass<L>>,
     served: Vec<Served<L, K>>,
-) -> Result<(), Stop>
+) -> Result<(), AllocError>
     requires { AreServed passes.old.items }
     ensures { AreServed passes.new.items }
 {
@@ -233,9 +259,7 @@ fn add_passes<L: Ledger, K: Link + Drop>(
             link: _,
             end: _,
         } = session;
-        let Ok(()) = passes.push(pass) else {
-            return Err(Stop::Memory);
-        };
+        passes.push(pass)?;
     }
     Ok(())
 }
@@ -244,7 +268,7 @@ fn add_passes<L: Ledger, K: Link + Drop>(
 fn passes_of<L: Ledger, K: Link + Drop>(
     mut passes: Vec<Pass<L>>,
     lists: Vec<Vec<Served<L, K>>>,
-) -> Result<Vec<Pass<L>>, Stop>
+) -> Result<Vec<Pass<L>>, AllocError>
     requires { passes.items ≡ [] }
     ensures { IfOk result (λ all. AreServed all.items) }
 {
@@ -252,6 +276,134 @@ fn passes_of<L: Ledger, K: Link + Drop>(
         add_passes(&mut passes, served)?;
     }
     Ok(passes)
+}
+
+/// Tells the port, and serves clients over a coordinator. Fails where memory is wanting for their passes.
+fn serve_clients<
+    L: Ledger + Send + Sync,
+    D: Disk + Send + Drop,
+    S: Read + Write + OpenStream + Drop + Send,
+    T: OpenListener<Stream = S> + Sync,
+    O: Link,
+    R: Threads + Wait + Sync,
+>(
+    rt: &R,
+    alloc: Global,
+    listener: &T,
+    coordinator: &Coordinator<L, D>,
+    passes: Vec<Pass<L>>,
+    port: u16,
+    service: Service,
+    output: &mut O,
+) -> Result<Sessions<L>, AllocError>
+    requires service { IsService service }
+    requires none { passes.items ≡ [] }
+    ensures served { IfOk result (λ s. AreServed s.passes.items) }
+    ensures printed { IfOk result (λ s. PrintsPort s.stop (O.told output.old) (O.told output.new)) }
+    ensures lost { IfErr result (λ e. WritesPort (O.told output.old) (O.told output.new)) }
+{
+    let Ok(()) = write_port(output, port) else {
+        return Ok(Sessions {
+            passes,
+            stop: Some(Stop::Device),
+        });
+    };
+    let (lists, stop) = serve_sessions(rt, alloc, listener, coordinator, service);
+    match passes_of(passes, lists) {
+        Ok(passes) => Ok(Sessions { passes, stop }),
+        Err(fault) => Err(fault),
+    }
+}
+
+/// Why the service stops behind its sessions, if it does. A worker without memory stops, and leaves clients unserved.
+fn stop_behind<L: Ledger>(sessions: &Sessions<L>, wanted: u64) -> Option<Stop>
+    ensures { StopsBehind sessions.now.stop (length sessions.now.passes.items) wanted result }
+{
+    if sessions.stop.is_none() && sessions.passes.len() as u64 != wanted {
+        return Some(Stop::Memory);
+    }
+    sessions.stop
+}
+
+/// Ends the coordinator with the passes of its sessions, and tells the end where the service does not stop. Answers the disk.
+fn end_service<L: Ledger, D: Disk + Drop, O: Link>(
+    coordinator: Coordinator<L, D>,
+    passes: Vec<Pass<L>>,
+    stop: Option<Stop>,
+    output: &mut O,
+) -> Result<D, Stopped<D>>
+    ensures ok { IfOk result (λ disk. (stop ≡ None) × EndsWith D.keeps D.view coordinator passes.items (O.told output.old) (O.told output.new) disk) }
+    ensures err { IfErr result (λ s. EndsShort D.keeps D.view coordinator passes.items stop (O.told output.old) (O.told output.new) s.disk s.stop) }
+{
+    let Ended {
+        disk,
+        front,
+        turns: _,
+    } = match coordinator.close(passes) {
+        Ok(ended) => ended,
+        Err(unclosed) => {
+            return Err(Stopped {
+                stop: stop_of(&unclosed.fault),
+                disk: None,
+            });
+        }
+    };
+    if let Some(stop) = stop {
+        return Err(Stopped {
+            stop,
+            disk: Some(disk),
+        });
+    }
+    match write_end(output, front) {
+        Ok(()) => Ok(disk),
+        Err(_) => Err(Stopped {
+            stop: Stop::Device,
+            disk: Some(disk),
+        }),
+    }
+}
+
+/// Tells the port, serves clients over a coordinator, ends it with their passes, and tells the end. Answers the disk.
+fn serve_over<
+    L: Ledger + Send + Sync,
+    D: Disk + Send + Drop,
+    S: Read + Write + OpenStream + Drop + Send,
+    T: OpenListener<Stream = S> + Sync,
+    O: Link,
+    R: Threads + Wait + Sync,
+>(
+    rt: &R,
+    alloc: Global,
+    listener: &T,
+    coordinator: Coordinator<L, D>,
+    passes: Vec<Pass<L>>,
+    port: u16,
+    service: Service,
+    output: &mut O,
+) -> Result<D, Stopped<D>>
+    requires service { IsService service }
+    requires none { passes.items ≡ [] }
+    ensures ok { IfOk result (λ disk. IsServed D.keeps D.view coordinator service.sessions (O.told output.old) (O.told output.new) disk) }
+    ensures err { IfErr result (λ s. IsStopped D.keeps D.view coordinator service.sessions (O.told output.old) (O.told output.new) s.disk s.stop) }
+{
+    let clients = serve_clients(
+        rt,
+        alloc,
+        listener,
+        &coordinator,
+        passes,
+        port,
+        service,
+        output,
+    );
+    let Ok(sessions) = clients else {
+        return Err(Stopped {
+            stop: Stop::Memory,
+            disk: None,
+        });
+    };
+    let stop = stop_behind(&sessions, service.sessions);
+    end_service(coordinator, sessions.passes, stop, output)
 }
 
 /// Serves clients over the desk behind a lock, tells the port and the end, and hands back the disk.
@@ -270,50 +422,40 @@ fn serve_desk<
     desk: Desk<D>,
     service: Service,
     output: &mut O,
-) -> Result<D, Stop>
+) -> Result<D, Stopped<D>>
     requires name { blank.name ≡ L.name }
     requires parts { (blank.parts ≡ L.parts) × (blank.parts ≡ 8193) }
     requires fresh { desk.turns ≡ [] }
     requires service { IsService service }
-    ensures { IfOk result (λ disk. IsServed D.keeps D.view desk.opening service.sessions (O.told output.old) (O.told output.new) disk) }
+    ensures ok { IfOk result (λ disk. IsServed D.keeps D.view desk.opening service.sessions (O.told output.old) (O.told output.new) disk) }
+    ensures err { IfErr result (λ s. Stops D.keeps D.view desk service.sessions (O.told output.old) (O.told output.new) s.disk s.stop) }
 {
-    let workers = service.workers as usize;
-    let Ok(coordinator) = Coordinator::<L, D>::with_workers(alloc, blank, desk, workers) else {
-        return Err(Stop::Memory);
-    };
     let Ok(passes) = Vec::with_capacity(alloc, service.sessions as usize) else {
-        return Err(Stop::Memory);
+        return Err(unserved(Stop::Memory, desk));
     };
     let Ok(address) = listener.local_addr() else {
-        return Err(Stop::Device);
+        return Err(unserved(Stop::Device, desk));
     };
-    let Ok(()) = write_port(output, address.port()) else {
-        return Err(Stop::Device);
-    };
-    let lists = serve_sessions(rt, alloc, listener, &coordinator, service)?;
-    let passes = passes_of(passes, lists)?;
-    // A worker without memory stops, and leaves clients unserved.
-    if passes.len() != service.sessions as usize {
-        return Err(Stop::Memory);
-    }
-    match coordinator.close(passes) {
-        Ok(
-            Ended {
-                disk,
-                front,
-                turns: _,
-            },
-        ) => match write_end(output, front) {
-            Ok(()) => Ok(disk),
-            Err(_) => Err(Stop::Device),
-        },
-        Err(unclosed) => Err(stop_of(&unclosed.fault)),
+    let workers = service.workers as usize;
+    match Coordinator::<L, D>::with_workers(alloc, blank, desk, workers) {
+        Ok(coordinator) => serve_over(
+            rt,
+            alloc,
+            listener,
+            coordinator,
+            passes,
+            address.port(),
+            service,
+            output,
+        ),
+        Err(Refused { blank: _, desk }) => Err(unserved(Stop::Memory, desk)),
     }
 }
 
 /// The command `serve`: opens the record file on a disk, tells the port of the listener, serves so many sessions over one desk by
-/// so many workers, of which each computes lines by as many threads at most, holds what the clients were shown against the turns, and tells how many reports were accepted. Answers the
-/// status of the process, and the disk where it came back.
+/// so many workers, of which each computes lines by as many threads at most, holds what the clients were shown against the turns,
+/// and tells how many reports were accepted. Answers the status of the process, and the disk, which is lost only where memory was
+/// wanting at the end, or where what the clients were shown is not what the desk answered.
 pub fn serve_on<
     D: Disk + Send + Drop,
     S: Read + Write + OpenStream + Drop + Send,
@@ -340,9 +482,9 @@ pub fn serve_on<
                 rt, alloc, blank, listener, desk, service, output,
             ) {
                 Ok(disk) => (0, Some(disk)),
-                Err(stop) => {
+                Err(Stopped { stop, disk }) => {
                     tell(faults, line_of(stop));
-                    (3, None)
+                    (3, disk)
                 }
             }
         }

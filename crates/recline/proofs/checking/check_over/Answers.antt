@@ -27,7 +27,7 @@ returns g c =
       record {
         text = c.in-Ok.text.items;
         certificate = c.in-Ok-from_json.certificate;
-        read = read_whole _ _ _ _ read c.write_all.ensures.left;
+        read = read_whole _ _ _ _ read c.write_all.ensures.left c.write_all.ensures.reads;
         text_is = subst (λ (l : List ℕ). IsReadAs c.args.chains.now.accepted l (Ok c.in-Ok-from_json.certificate)) c.deref.ensures.value c.in-Ok-from_json.ensures;
         verdict_on = c.verdict_on-verdict.ensures;
       },

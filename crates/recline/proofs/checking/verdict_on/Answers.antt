@@ -1,4 +1,4 @@
-use Rattle.std.proofs.Common.{◌≡◌, subst}
+use Rattle.std.proofs.Common.{subst}
 use Rattle.chains.specs.Held.{held_of}
 use Rattle.reason_check.specs.Causes.{IsVerdict}
 use Rattle.reason_check.specs.declared.answer.Verdict.{Verdict}

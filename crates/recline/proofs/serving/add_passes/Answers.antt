@@ -9,7 +9,7 @@ pub loop-session-preserved : goal.loop-session-preserved
 loop-session-preserved g c =
     let session = c.in-Some.session in
     let served = of_session (g.K.Link.told session.link) session.pass session.end.kind session.end.replies session.served in (
-      subst (λ (l : List PassState). AreServed l) (sym c.in-Ok.ensures.items) (one_more c.loop-session.passes.items session.pass c.loop-session.invariant.0 served),
+      subst (λ (l : List PassState). AreServed l) (sym c.in_ok-push.ensures.items) (one_more c.loop-session.passes.items session.pass c.loop-session.invariant.0 served),
       tt,
       tt,
     )

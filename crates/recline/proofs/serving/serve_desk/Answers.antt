@@ -1,27 +1,19 @@
-use Rattle.std.proofs.Common.{◌≡◌, ◌∙◌, ℕ, length, rules, subst}
+-- `serve_desk`: what the coordinator had at its opening is what the desk had.
+use Rattle.std.proofs.Common.{inr, subst}
+use Rattle.std.specs.Prelude.{IfOk}
+use Rattle.std.proofs.lemmas.Result.{IfErr-weaker}
 use Rattle.chains.specs.Held.{Held}
-use Rattle.coordinator.specs.Closing.{IsEnded}
-use Rattle.recline.proofs.Passes.{appends_then}
-use Rattle.recline.specs.Serving.{end_line, port_line}
+use Rattle.recline.specs.Serving.{IsServed, IsStopped}
 use Rattle.recline.proofs.serving.serve_desk.Goals as goal
 
-pub returns-in-Ok-write_end : goal.returns-in-Ok-write_end
-returns-in-Ok-write_end g c =
-    let old = g.O.Link.told c.args.output.now in
-    let told = g.O.Link.told c.write_port.new.output in
-    let new = g.O.Link.told c.write_end.new.output in
-    let port = c.in-Ok-write_port.ensures in
-    let end = c.in-Ok-write_end.ensures in
-    let number : length c.in_ok-passes.passes.items ≡ c.args.service.sessions = search rules in
-    record {
-      port = c.port.result;
-      passes = c.in_ok-passes.passes.items;
-      turns = c.in-Ok-close.field-0.turns;
-      front = c.in-Ok-close.field-0.front;
-      ends = subst (λ (h : Held). IsEnded g.D.Disk.keeps g.D.Disk.view h c.in_ok-passes.passes.items c.in-Ok-close.field-0.turns c.in-Ok-close.field-0.front c.in-Ok-close.field-0.disk) c.in-Ok.ensures.ok c.in-Ok-close.ensures.ok;
-      served = c.in_ok-passes.ensures;
-      number = number;
-      written = appends_then old.held told.held new.held (port_line c.port.result) (end_line c.in-Ok-close.field-0.front) port.written end.written;
-      nothing_waits = end.nothing_waits;
-      sound = record { failures = end.sound.failures ∙ port.sound.failures; stalls = end.sound.stalls ∙ port.sound.stalls };
-    }
+pub returns-in-Ok-with_workers-clause-ok : goal.returns-in-Ok-with_workers-clause-ok
+returns-in-Ok-with_workers-clause-ok g c =
+    subst (λ (h : Held). IfOk c.serve_over.result (λ disk. IsServed g.D.Disk.keeps g.D.Disk.view h c.args.service.sessions (g.O.Link.told c.args.output.now) (g.O.Link.told c.serve_over.new.output) disk))
+    c.in-Ok-with_workers.ensures.ok c.serve_over.ensures.ok
+
+pub returns-in-Ok-with_workers-clause-err : goal.returns-in-Ok-with_workers-clause-err
+returns-in-Ok-with_workers-clause-err g c =
+    IfErr-weaker c.serve_over.result _ _
+    (λ s stops. inr (subst (λ (h : Held). IsStopped g.D.Disk.keeps g.D.Disk.view h c.args.service.sessions (g.O.Link.told c.args.output.now) (g.O.Link.told c.serve_over.new.output) s.disk s.stop)
+    c.in-Ok-with_workers.ensures.ok stops))
+    c.serve_over.ensures.err

@@ -1,4 +1,4 @@
-use Rattle.std.proofs.Common.{◌≡◌, ℕ, List, inl, refl, subst}
+use Rattle.std.proofs.Common.{ℕ, List, inl, inr, refl, subst}
 use Rattle.recline.specs.Outcome.{Tells}
 use Rattle.recline.proofs.serving.serve_on.Goals as goal
 
@@ -8,7 +8,7 @@ returns-in-Ok-serve_desk g c =
     inl (record {
       desk = c.in-Ok.desk;
       opened = record { records = opened.records; any_moment = opened.any_moment; fresh = opened.fresh; premise = opened.premise };
-      serves = (c.in-Ok-serve_desk.ensures, refl, refl);
+      serves = inl (record { disk = c.in-Ok-serve_desk.disk; is_back = refl; served = c.in-Ok-serve_desk.ensures.ok; no_fault = refl; status_is = refl });
     })
 
 pub returns-in-Err-serve_desk : goal.returns-in-Err-serve_desk
@@ -18,5 +18,5 @@ returns-in-Err-serve_desk g c =
     inl (record {
       desk = c.in-Ok.desk;
       opened = record { records = opened.records; any_moment = opened.any_moment; fresh = opened.fresh; premise = opened.premise };
-      serves = ((c.in-Err-serve_desk.stop, told), refl);
+      serves = inr (record { stop = c.in-Err-serve_desk.field-0.stop; stops_so = c.in-Err-serve_desk.ensures.err; faults_are = told; status_is = refl });
     })

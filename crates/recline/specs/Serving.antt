@@ -75,8 +75,9 @@ pub record IsServed {D : Type 0} (keeps : D → Type 0) (view : D → View) (ope
 abbrev pub WritesPort : LinkState → LinkState → Type 0
 WritesPort old new = (port : ℕ) × (WritesAll old new (port_line port) ⊎ WritesPart old new (port_line port))
 
--- what is printed of a service that stops, of which this is the end: the port alone, or no more than a part of it, or all but a part
--- of the end, once all sessions were served; where a line is not whole, a device failed
+-- What was printed of a service that stopped, where so many of its sessions were served and its coordinator ended with this front: the
+-- port alone, or no more than a part of it; or, where all sessions were served, the port and a part of the end. Where a line is
+-- not whole, a device failed.
 abbrev pub PrintsSome : ℕ → ℕ → ℕ → Stop → LinkState → LinkState → Type 0
 PrintsSome served sessions front stop old new =
     (port : ℕ) × (WritesAll old new (port_line port)

@@ -3,10 +3,11 @@
 ghost use Rattle.std.specs.Prelude.{◌≡◌};
 
 use crate::helpers::{ended, opened};
+use client_link::{Link, LinkFault, MemoryLink};
 use coordinator::{OpenGate, Pass};
 use crossbeam_channel::{Sender, bounded};
 use needs_rows::wait_for;
-use session::{Kind, Link, LinkFault, MemoryLink, Served, workers};
+use session::{Kind, Served, workers};
 use std::alloc::Global;
 use std::marker::Brand;
 use std::process::Abort;
@@ -42,6 +43,10 @@ impl<'a> Link for MetLink<'a> {
 
     fn hand_on(&mut self) -> Result<(), LinkFault> {
         self.inner.hand_on()
+    }
+
+    fn end(&mut self) {
+        self.inner.end();
     }
 
     fn failures(&self) -> u64 {

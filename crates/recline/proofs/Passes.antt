@@ -5,7 +5,7 @@ use Rattle.std.proofs.Math.Logic.{∥∥₁_map}
 use Rattle.std.proofs.lemmas.List.Elements.{All-append, All-cons, All-nil}
 use Rattle.coordinator.specs.Passes.{PassState}
 use Rattle.session.specs.declared.kind.Kind.{Kind}
-use Rattle.session.specs.Links.{LinkState}
+use Rattle.client_link.specs.Links.{LinkState}
 use Rattle.session.specs.Sessions.{WasServed}
 use Rattle.recline.specs.Serving.{AreServed, IsOfSession}
 

@@ -1,8 +1,8 @@
 -- What reads gave, one after the other, and what was written then.
 use Rattle.std.proofs.Common.{◌≡◌, ◌<◌, ◌≤◌, ℕ, ◌+◌, inl, inr, List, ◌++◌, take, Option, Some, None, Ok, sym, ap, append_assoc, subst, ◌∙◌, arith}
 use Rattle.std.specs.Io.KnownBytes.{Appends, Consumes, IsAtEnd}
-use Rattle.session.specs.declared.link.LinkFault.{LinkFault}
-use Rattle.session.specs.Links.{up, LinkState, IsFault, IsSound, IsRead}
+use Rattle.client_link.specs.declared.link.LinkFault.{LinkFault}
+use Rattle.client_link.specs.Links.{up, LinkState, IsFault, IsSound, IsRead}
 use Rattle.session.specs.SessionText.{most_reads}
 use Rattle.recline.specs.Checking.{IsReadWhole}
 use Rattle.recline.specs.Driving.{OnlyReads, ReadsAll, WritesPart}
@@ -32,7 +32,7 @@ one_more first now next bytes after buf n count only sound reads within read is 
     held = read.held ∙ only.held;
     waiting = read.waiting ∙ only.waiting;
   };
-  sound = record { failures = read.failures ∙ sound.failures; stalls = read.stalls ∙ sound.stalls };
+  sound = record { failures = read.failures ∙ sound.failures; stalls = read.stalls ∙ sound.stalls; ended = read.ended ∙ sound.ended };
   reads = omega (arith, reads, read.counted);
 }
 
@@ -45,8 +45,10 @@ read_whole old read new text reads left count = record {
 }
 
 pub fault_behind : (old read new : LinkState) → IsSound old read → IsFault read new → IsFault old new
-fault_behind old read new sound (inl f) = inl (omega (arith, f.0, sound.failures), f.1 ∙ sound.stalls)
-fault_behind old read new sound (inr f) = inr (f.0 ∙ sound.failures, omega (arith, f.1, sound.stalls))
+fault_behind old read new sound f = record {
+  fault = elim f.fault [ inl g ↦ inl (omega (arith, g.0, sound.failures), g.1 ∙ sound.stalls) | inr g ↦ inr (g.0 ∙ sound.failures, omega (arith, g.1, sound.stalls)) ];
+  ended = f.ended ∙ sound.ended;
+}
 
 -- what was written behind reads that did not fail
 pub part_behind : (old read new : LinkState) (text line : List ℕ) → ReadsAll old read text → WritesPart read new line → WritesPart old new line

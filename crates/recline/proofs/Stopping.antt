@@ -5,7 +5,7 @@ use Rattle.chains.specs.Held.{Held}
 use Rattle.coordinator.specs.Passes.{PassState}
 use Rattle.coordinator.specs.declared.fault.CloseFault.{CloseFault}
 use Rattle.coordinator.specs.declared.fault.CloseFault.TheVariants as faults
-use Rattle.session.specs.Links.{LinkState}
+use Rattle.client_link.specs.Links.{LinkState}
 use Rattle.recline.specs.Driving.{WritesAll, WritesPart}
 use Rattle.recline.specs.Serving.{AreServed, EndsShort, EndsWith, IsServed, IsStopped, PrintsPort, PrintsSome, StopsBehind, WritesPort, end_line, port_line, stopped_by}
 use Rattle.recline.specs.declared.serving.Stop.{Stop}
@@ -46,7 +46,7 @@ ends_served keeps view opening sessions passes before behind old between new dis
       number = all_served.1;
       written = appends_then old.held between.held new.held (port_line port.0) (end_line ends.front) port.1.written ends.written.written;
       nothing_waits = ends.written.nothing_waits;
-      sound = record { failures = ends.written.sound.failures ∙ port.1.sound.failures; stalls = ends.written.sound.stalls ∙ port.1.sound.stalls };
+      sound = record { failures = ends.written.sound.failures ∙ port.1.sound.failures; stalls = ends.written.sound.stalls ∙ port.1.sound.stalls; ended = ends.written.sound.ended ∙ port.1.sound.ended };
     }
 
 -- what was printed where the coordinator ended and nothing was told of it

@@ -16,7 +16,7 @@ use Rattle.reason_check.specs.Texts.{verdict_text}
 use Rattle.history_law.specs.Headline.{IsLineOfHistories}
 use Rattle.desk.specs.Desks.{DeskState}
 use Rattle.desk.specs.Lawful.{IsLawful}
-use Rattle.session.specs.Links.{LinkState, IsSound}
+use Rattle.client_link.specs.Links.{LinkState, IsSound}
 use Rattle.recline.specs.Outcome.{IsNotOpened, IsOpened, Tells}
 use Rattle.recline.specs.Driving.{HasFewReads, OnlyReads, ReadsInVain, WritesAll, WritesPart}
 use Rattle.recline.specs.declared.checking.Checked.{Checked}

@@ -3,8 +3,8 @@ use Rattle.std.specs.Prelude.{◌≡◌, ◌≤◌, ◌⊎◌, ℕ, List, [], �
 use Rattle.std.specs.Fmt.{decimal}
 use Rattle.std.specs.Io.KnownBytes.{Appends, Consumes, IsAtEnd}
 use Rattle.report_line.specs.Cutting.{ended}
-use Rattle.session.specs.declared.link.LinkFault.{LinkFault}
-use Rattle.session.specs.Links.{up, LinkState, IsSound, IsFault}
+use Rattle.client_link.specs.declared.link.LinkFault.{LinkFault}
+use Rattle.client_link.specs.Links.{up, LinkState, IsSound, IsFault}
 use Rattle.session.specs.SessionText.{most_reads}
 use Rattle.script.specs.declared.end.End.{End}
 use Rattle.script.specs.declared.end.End.TheVariants.{Done, Refused, Memory}

@@ -13,7 +13,7 @@ use Rattle.desk.specs.declared.fault.DeskFault.TheVariants as opening
 use Rattle.report_line.specs.Cutting.{ended}
 use Rattle.session.specs.declared.kind.Kind.{Kind}
 use Rattle.session.specs.declared.kind.Kind.TheVariants as kinds
-use Rattle.session.specs.Links.{LinkState, IsSound, IsFault}
+use Rattle.client_link.specs.Links.{LinkState, IsSound, IsFault}
 use Rattle.session.specs.Ends.{Ended, Leaves}
 
 -- The status of the process: the client's input was answered to an end that is its own; or a device or memory failed, be it in a

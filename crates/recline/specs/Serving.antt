@@ -11,7 +11,7 @@ use Rattle.coordinator.specs.declared.fault.CloseFault.{CloseFault}
 use Rattle.coordinator.specs.declared.fault.CloseFault.TheVariants as faults
 use Rattle.report_line.specs.Cutting.{ended}
 use Rattle.session.specs.declared.kind.Kind.{Kind}
-use Rattle.session.specs.Links.{LinkState, IsSound}
+use Rattle.client_link.specs.Links.{LinkState, IsSound}
 use Rattle.session.specs.Sessions.{WasServed}
 use Rattle.recline.specs.Outcome.{IsOpened, IsNotOpened, Tells}
 use Rattle.recline.specs.Driving.{WritesAll, WritesPart}

@@ -12,12 +12,12 @@ ghost use Rattle.recline.specs.declared.checking.Checked.TheVariants.{NoCertific
 use crate::driving::{Unread, read_all, tell_all, write_all};
 use crate::running::{tell, tell_unopened};
 use chains::Chains;
+use client_link::Link;
 use desk::Desk;
 use line_disk::Disk;
 use propagate::certified_lines_are_the_greatest;
 use reason_check::{Verdict, check};
 use reasons::{Certificate, CertificateFault, from_json};
-use session::Link;
 use std::alloc::{AllocError, Global};
 
 /// How a check ended.

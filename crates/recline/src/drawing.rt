@@ -4,11 +4,11 @@ ghost use Rattle.std.specs.Prelude.{◌<◌, IfSome, length};
 
 use crate::driving::{Unread, read_all, tell_all, tell_refusal, write_all};
 use crate::running::tell;
+use client_link::Link;
 use itoa::Buffer;
 use memchr::memchr;
 use picture::{Ending, draw};
 use report_line::Name;
-use session::Link;
 use std::alloc::Global;
 
 /// Why a list of names is not taken.

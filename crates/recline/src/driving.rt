@@ -6,9 +6,9 @@ ghost use Rattle.recline.specs.Outcome.{Tells};
 ghost use Rattle.recline.specs.Driving.{Drives, IsDrivenOver, ReadsAll, ReadsSome, Writes, script_fault, script_status};
 
 use crate::running::tell;
+use client_link::{Link, LinkFault, put, put_all};
 use itoa::Buffer;
 use script::{Cause, End, drive};
-use session::{Link, LinkFault, put, put_all};
 use std::alloc::Global;
 
 /// How many reads a script takes at most.

@@ -5,10 +5,11 @@ ghost use Rattle.desk.specs.declared.fault.DeskFault.TheVariants as opening;
 ghost use Rattle.recline.specs.Outcome.{Runs, RunsOn, Tells, fault_line, status_of, open_fault_line};
 
 use crate::driving::tell_all;
+use client_link::{Link, put, put_all};
 use desk::{Desk, DeskFault};
 use itoa::Buffer;
 use line_disk::Disk;
-use session::{Kind, Link, put, put_all, run};
+use session::{Kind, run};
 use std::alloc::Global;
 
 /// Writes a fault line and hands it on, as far as that can be done.

@@ -7,20 +7,21 @@ ghost use Rattle.recline.specs.Driving.{Writes};
 ghost use Rattle.recline.specs.Serving.{AreLimited, AreServed, EndsShort, EndsWith, IsService, IsServed, IsStopped, PrintsPort, ServesOn, Stops, StopsBehind, WritesPort, end_line, port_line, stop_line, stopped_by};
 
 use crate::running::{tell, tell_unopened};
+use client_link::{ClientConnection, Link, LinkFault, put_all};
 use coordinator::{CloseFault, Coordinator, Ended, OpenGate, Pass, Refused};
 use crossbeam_channel::{Sender, bounded};
 use desk::Desk;
 use itoa::Buffer;
 use line_disk::Disk;
-use session::{Link, LinkFault, Served, Streams, put_all, workers};
+use session::{Served, workers};
 use std::alloc::{AllocError, Global};
-use std::io::{ErrorKind, Read, Write};
+use std::io::ErrorKind;
 use std::marker::Brand;
-use std::net::{OpenListener, OpenStream, SocketAddr};
+use std::net::{OpenListener, TcpStream};
 use std::sync::Wait;
 use std::sync::ledger::{Blank, Ledger};
 use std::thread::{Threads, join};
-use std::time::Duration;
+use std::time::{Clock, Duration};
 
 /// How many clients wait at most for a worker, while others may still connect.
 const MOST_WAITING: u64 = 256;
@@ -32,7 +33,7 @@ pub struct Service {
     pub sessions: u64,
     /// The number of workers, 1 to 64.
     pub workers: u64,
-    /// How many seconds a read or a write may wait for a client, at least 1, if there is a limit.
+    /// How many seconds a client may rest from one LF to the next, or a write may wait for it, at least 1, if there is a limit.
     pub idle: Option<u64>,
 }
 
@@ -61,7 +62,7 @@ impl Service {
 /// Why a service stops before its end.
 #[derive(Clone, Copy, Debug, PartialEq, Eq)]
 enum Stop {
-    /// The listener or standard output failed.
+    /// The listener failed, as where descriptors run out, or standard output did.
     Device,
     /// Memory was wanting.
     Memory,
@@ -134,15 +135,16 @@ fn write_end<O: Link>(output: &mut O, front: u32) -> Result<(), LinkFault>
 }
 
 /// The next client. One that hung up before it was taken is passed over.
-fn next_client<S: Drop, T: OpenListener<Stream = S>, R: Wait>(
+fn next_client<T: OpenListener<Stream = TcpStream>, R: Wait>(
     rt: &R,
     listener: &T,
-) -> Result<S, Stop> {
+) -> Result<TcpStream, Stop> {
     for _ in rt.forever() {
         match listener.accept() {
             Ok((stream, _)) => return Ok(stream),
             Err(error) => match error.kind() {
                 ErrorKind::ConnectionAborted | ErrorKind::Interrupted => {}
+                ErrorKind::OutOfMemory => return Err(Stop::Memory),
                 _ => return Err(Stop::Device),
             },
         }
@@ -150,13 +152,13 @@ fn next_client<S: Drop, T: OpenListener<Stream = S>, R: Wait>(
     Err(Stop::Device)
 }
 
-/// Takes clients, and hands them to the workers, until there were so many.
-fn take_clients<S: Read + Write + OpenStream + Drop + Send, T: OpenListener<Stream = S>, R: Wait>(
+/// Takes clients, and hands them to the workers, until there were so many. Each client that is taken is a session.
+fn take_clients<T: OpenListener<Stream = TcpStream>, R: Wait + Clock + Clone + Drop>(
     rt: &R,
     alloc: Global,
     listener: &T,
     service: Service,
-    links: Sender<Streams<S, S>>,
+    links: Sender<ClientConnection<R>>,
 ) -> Result<(), Stop> {
     let idle = match service.idle {
         Some(seconds) => Some(Duration::from_secs(seconds)),
@@ -168,9 +170,11 @@ fn take_clients<S: Read + Write + OpenStream + Drop + Send, T: OpenListener<Stre
             return Ok(());
         }
         let client = next_client(rt, listener)?;
-        // A client whose connection is gone, or for which there is no memory, is no session.
-        let Ok(link) = Streams::of_connection(alloc, client, idle) else {
-            continue;
+        let Ok(clock) = rt.clone() else {
+            return Err(Stop::Memory);
+        };
+        let Ok(link) = ClientConnection::of_client(alloc, clock, client, idle) else {
+            return Err(Stop::Memory);
         };
         let Ok(()) = links.send(rt, link) else {
             return Err(Stop::Memory);
@@ -211,19 +215,18 @@ struct Sessions<L: Ledger> {
 fn serve_sessions<
     L: Ledger + Send + Sync,
     D: Disk + Send + Drop,
-    S: Read + Write + OpenStream + Drop + Send,
-    T: OpenListener<Stream = S> + Sync,
-    R: Threads + Wait + Sync,
+    T: OpenListener<Stream = TcpStream> + Sync,
+    R: Threads + Wait + Clock + Clone + Drop + Send + Sync,
 >(
     rt: &R,
     alloc: Global,
     listener: &T,
     coordinator: &Coordinator<L, D>,
     service: Service,
-) -> (Vec<Vec<Served<L, Streams<S, S>>>>, Option<Stop>)
+) -> (Vec<Vec<Served<L, ClientConnection<R>>>>, Option<Stop>)
     requires { IsService service }
 {
-    let Ok((links, clients)) = bounded::<Streams<S, S>, _>(
+    let Ok((links, clients)) = bounded::<ClientConnection<R>, _>(
         alloc,
         service.sessions.min(MOST_WAITING) as usize,
     ) else {
@@ -233,10 +236,10 @@ fn serve_sessions<
     let (taken, served) = join(
         rt,
         move || -> Result<(), Stop>
-            requires { IsSend S.row }
+            requires { IsSync R.row × IsSend R.row }
         { take_clients(rt, alloc, listener, service, links) },
-        move || -> Result<Vec<Vec<Served<L, Streams<S, S>>>>, AllocError>
-            requires { IsSync R.row × IsSend L.row × IsSync L.row × IsSend D.row × IsSend S.row × (0 < n) × (n ≤ 64) }
+        move || -> Result<Vec<Vec<Served<L, ClientConnection<R>>>>, AllocError>
+            requires { IsSync R.row × IsSend L.row × IsSync L.row × IsSend R.row × IsSend D.row × (0 < n) × (n ≤ 64) }
         { workers(rt, alloc, coordinator, &OpenGate, n, clients) },
     );
     match served {
@@ -282,10 +285,9 @@ fn passes_of<L: Ledger, K: Link + Drop>(
 fn serve_clients<
     L: Ledger + Send + Sync,
     D: Disk + Send + Drop,
-    S: Read + Write + OpenStream + Drop + Send,
-    T: OpenListener<Stream = S> + Sync,
+    T: OpenListener<Stream = TcpStream> + Sync,
     O: Link,
-    R: Threads + Wait + Sync,
+    R: Threads + Wait + Clock + Clone + Drop + Send + Sync,
 >(
     rt: &R,
     alloc: Global,
@@ -367,10 +369,9 @@ fn end_service<L: Ledger, D: Disk + Drop, O: Link>(
 fn serve_over<
     L: Ledger + Send + Sync,
     D: Disk + Send + Drop,
-    S: Read + Write + OpenStream + Drop + Send,
-    T: OpenListener<Stream = S> + Sync,
+    T: OpenListener<Stream = TcpStream> + Sync,
     O: Link,
-    R: Threads + Wait + Sync,
+    R: Threads + Wait + Clock + Clone + Drop + Send + Sync,
 >(
     rt: &R,
     alloc: Global,
@@ -410,10 +411,9 @@ fn serve_over<
 fn serve_desk<
     L: Ledger + Send + Sync,
     D: Disk + Send + Drop,
-    S: Read + Write + OpenStream + Drop + Send,
-    T: OpenListener<Stream = S> + Sync,
+    T: OpenListener<Stream = TcpStream> + Sync,
     O: Link,
-    R: Threads + Wait + Sync,
+    R: Threads + Wait + Clock + Clone + Drop + Send + Sync,
 >(
     rt: &R,
     alloc: Global,
@@ -458,11 +458,10 @@ fn serve_desk<
 /// wanting at the end, or where what the clients were shown is not what the desk answered.
 pub fn serve_on<
     D: Disk + Send + Drop,
-    S: Read + Write + OpenStream + Drop + Send,
-    T: OpenListener<Stream = S> + Sync,
+    T: OpenListener<Stream = TcpStream> + Sync,
     O: Link,
     F: Link,
-    R: Threads + Wait + Sync,
+    R: Threads + Wait + Clock + Clone + Drop + Send + Sync,
 >(
     rt: &R,
     alloc: Global,
@@ -478,7 +477,7 @@ pub fn serve_on<
     match Desk::open(alloc, disk) {
         Ok(desk) => {
             let blank = Blank::new(8193);
-            match serve_desk::<Brand, _, _, _, _, _>(
+            match serve_desk::<Brand, _, _, _, _>(
                 rt, alloc, blank, listener, desk, service, output,
             ) {
                 Ok(disk) => (0, Some(disk)),

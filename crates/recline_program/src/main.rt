@@ -3,16 +3,50 @@
 
 use clap::Error;
 use clap::error::ErrorKind;
+use client_link::{Link, Streams};
 use line_disk::{DiskFault, FileDisk, Modelled, NullDisk};
 use recline::{Command, Service, check_on, draw_on, drive_on, read_args, run_on, serve_on};
-use session::{Link, Streams};
 use std::env;
 use std::fs::File;
 use std::io::{self, BufWriter, Read};
 use std::net::{Ipv4Addr, SocketAddr, SocketAddrV4, TcpListener};
+use std::os::fd::AsFd;
 use std::process::ExitCode;
 use std::sync::Wait;
 use std::thread::Threads;
+use std::time::Clock;
+
+/// The system's error for a descriptor that is closed.
+const CLOSED: i32 = 9;
+
+/// What stands in for a standard stream that is closed: a file that is at its end, and takes nothing.
+fn stand_in<S: AsFd>(rt: &HostRuntime, stream: &S) -> io::Result<Option<File>> {
+    match stream.as_fd().try_clone_to_owned() {
+        Err(error) if error.raw_os_error() == Some(CLOSED) => match File::open(rt, "/dev/null") {
+            Ok(file) => Ok(Some(file)),
+            Err(error) => Err(error),
+        },
+        _ => Ok(None),
+    }
+}
+
+/// What stands in for those of the standard streams that are closed. A file that is opened gets the least descriptor that is free, so
+/// without them the record file would be a standard stream, and replies or faults would be written over its records.
+#[derive(Drop)]
+struct StandIns {
+    input: Option<File>,
+    output: Option<File>,
+    errors: Option<File>,
+}
+
+/// The three, in the order of their descriptors.
+fn stand_ins(rt: &HostRuntime) -> io::Result<StandIns> {
+    Ok(StandIns {
+        input: stand_in(rt, &rt.stdin())?,
+        output: stand_in(rt, &rt.stdout())?,
+        errors: stand_in(rt, &rt.stderr())?,
+    })
+}
 
 /// A file that is opened when it is read first.
 #[derive(Drop)]
@@ -106,7 +140,7 @@ fn run_over_file<K: Link, F: Link>(
 
 /// Serves clients that connect to this port of the machine itself over the record file of this path. The numbers are those of
 /// sessions, of workers, and of the seconds that a client may rest.
-fn serve_over_file<T: Threads + Wait + Sync, O: Link, F: Link>(
+fn serve_over_file<T: Threads + Wait + Clock + Clone + Drop + Send + Sync, O: Link, F: Link>(
     rt: &HostRuntime,
     threads: &T,
     path: &str,
@@ -158,7 +192,7 @@ fn check_over_file<K: Link, F: Link>(
 }
 
 /// Does the command over this input and standard output, with threads where it serves clients. Fault lines are written through at once.
-fn act<T: Threads + Wait + Sync, R: Read + Drop>(
+fn act<T: Threads + Wait + Clock + Clone + Drop + Send + Sync, R: Read + Drop>(
     rt: &HostRuntime,
     threads: &T,
     command: Command<'_>,
@@ -200,7 +234,11 @@ fn act<T: Threads + Wait + Sync, R: Read + Drop>(
 }
 
 /// Does the command, which reads standard input or the file of a path.
-fn do_command<T: Threads + Wait + Sync>(rt: &HostRuntime, threads: &T, command: Command<'_>) -> u8 {
+fn do_command<T: Threads + Wait + Clock + Clone + Drop + Send + Sync>(
+    rt: &HostRuntime,
+    threads: &T,
+    command: Command<'_>,
+) -> u8 {
     let path = match command {
         Command::Run { .. } => return act(rt, threads, command, rt.reader()),
         Command::Serve { .. } => return act(rt, threads, command, io::empty()),
@@ -220,13 +258,25 @@ fn do_command<T: Threads + Wait + Sync>(rt: &HostRuntime, threads: &T, command: 
     )
 }
 
-fn main(rt: HostRuntime) -> ExitCode {
-    let status = match words_of(&rt) {
+/// Does what the words of the command line ask for, and answers the status.
+fn do_words<T: Threads + Wait + Clock + Clone + Drop + Send + Sync>(
+    rt: &HostRuntime,
+    threads: &T,
+) -> u8 {
+    match words_of(rt) {
         Ok(words) => match read_args(rt.alloc(), &words) {
-            Ok(command) => do_command(&rt, &rt, command),
-            Err(error) => show(&rt, &error),
+            Ok(command) => do_command(rt, threads, command),
+            Err(error) => show(rt, &error),
         },
-        Err(error) => unread(&rt, &error),
+        Err(error) => unread(rt, &error),
+    }
+}
+
+fn main(rt: HostRuntime) -> ExitCode {
+    // Before anything else is opened, and to the end.
+    let status = match stand_ins(&rt) {
+        Ok(_streams) => do_words(&rt, &rt),
+        Err(_) => fault(&rt, "device"),
     };
     ExitCode::from(status)
 }

@@ -10,11 +10,11 @@ use Rattle.report_line.specs.Cutting.{Stand, onto, cut_from, cut_of}
 use Rattle.report_line.proofs.Streams.{cut_append}
 use Rattle.session.specs.declared.kind.Kind.{Kind}
 use Rattle.session.specs.declared.kind.Kind.TheVariants as kinds
-use Rattle.session.specs.Links.{up, LinkState, IsSound, IsFault, IsHandOn}
+use Rattle.client_link.specs.Links.{up, LinkState, IsSound, IsFault, IsHandOn}
 use Rattle.session.specs.SessionText.{Exchange, Mean, NoBye, exchange_line, session_text, joined, most_reads, Grounds, ending_line, ending_count, IsWhole, IsCutInReply, Reached, Ends, Gave, GaveAll}
 use Rattle.session.specs.Ends.{IsReadAt, IsPrompt, Leaves}
 use Rattle.session.specs.Parts.{AreLawful, IsSaid, FaultsAt, StepsTo, IsQuiet, GaveBy, Steps, Going, Closing, Closes, Ran}
-use Rattle.session.proofs.Sent.{appends_none, appends_then, sound_none, sound_then, fault_then}
+use Rattle.client_link.proofs.Sent.{appends_none, appends_then, sound_none, sound_then, fault_then}
 use Rattle.session.proofs.ServedTurns.{mean_then, mean_length, no_bye_then, bye_then, said_then, cut_then}
 use Rattle.session.proofs.ServeSteps.{faults_then}
 
@@ -106,7 +106,7 @@ going_none makes grounds laws told link stand state new =
 
 -- what a hand-on that succeeded leaves
 sound_hand_on : {E : Type 0} (old new : LinkState) (u : Unit {0}) → IsHandOn {E = E} old new (Ok u) → IsSound old new
-sound_hand_on old new u hand = record { failures = hand.failures; stalls = hand.stalls }
+sound_hand_on old new u hand = record { failures = hand.failures; stalls = hand.stalls; ended = hand.ended }
 
 -- the state in which the next read is made
 read_at : {S K E : Type 0} (makes : S → List Exchange → S → Type 0) (grounds : S → Grounds) (laws : AreLawful makes grounds) (told : K → LinkState) (link now reading : K) (stand : Stand) (state mid : S) (reads count : ℕ) (u : Unit {0}) (more : List Exchange) → (s : Going makes told link now stand state mid reads count)
@@ -180,7 +180,7 @@ StopsTo kind grounds pieces stand front later turned text count = Reached kind g
 -- what a link tells before the ending line
 abbrev LeftBy : Kind → LinkState → LinkState → Type 0
 LeftBy kinds.End old now = IsSound old now × (now.waiting ≡ []) × IsAtEnd now.left
-LeftBy kinds.ReadFailed old now = (now.failures ≡ up 1 old.failures) × (now.stalls ≡ old.stalls) × (now.waiting ≡ [])
+LeftBy kinds.ReadFailed old now = (now.failures ≡ up 1 old.failures) × (now.stalls ≡ old.stalls) × (now.waiting ≡ []) × (now.ended ≡ old.ended)
 LeftBy kinds.WriteFailed old now = IsFault old now
 LeftBy _ old now = IsSound old now
 
@@ -225,7 +225,7 @@ stops_then makes grounds laws kinds.Endless s mid pieces piece stand front later
 
 left_by : (kind : Kind) (old now : LinkState) → FaultsAt (Some kind) old now → (kind ≡ kinds.End → (now.waiting ≡ []) × IsAtEnd now.left) → (kind ≡ kinds.ReadFailed → now.waiting ≡ []) → LeftBy kind old now
 left_by kinds.End old now faults quiet still = (faults, (quiet refl).0, (quiet refl).1)
-left_by kinds.ReadFailed old now faults quiet still = (faults.0, faults.1, still refl)
+left_by kinds.ReadFailed old now faults quiet still = (faults.0, faults.1, still refl, faults.2)
 left_by kinds.WriteFailed old now faults quiet still = faults
 left_by kinds.Bye old now faults quiet still = faults
 left_by kinds.TooLong old now faults quiet still = faults
@@ -421,5 +421,5 @@ not_handed_on makes grounds laws told link now final stand state after reads cou
         few = omega (arith, s.made);
         prompt = s.prompt;
       };
-      leaves = inl (rw s.sound.failures at hand.failures, hand.stalls ∙ s.sound.stalls);
+      leaves = record { fault = inl (rw s.sound.failures at hand.failures, hand.stalls ∙ s.sound.stalls); ended = hand.ended ∙ s.sound.ended };
     }

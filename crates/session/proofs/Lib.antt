@@ -1,7 +1,6 @@
 mod SameTexts
 mod SameTurns
 mod ChosenTexts
-mod Sent
 mod ServedTurns
 mod ServeSteps
 mod Steps

@@ -12,7 +12,7 @@ use Rattle.desk.specs.declared.turn.TurnFault.TheVariants as refusals
 use Rattle.report_line.specs.declared.call.Call.{Call}
 use Rattle.report_line.specs.declared.call.Call.TheVariants as calls
 use Rattle.session.specs.declared.kind.Kind.{Kind}
-use Rattle.session.specs.Links.{LinkState}
+use Rattle.client_link.specs.Links.{LinkState}
 use Rattle.session.specs.SessionText.{Exchange, Means, IsQuestion, Grounds, at_desk}
 use Rattle.session.specs.Turned.{Served, after_call, EachLineIsChosen, turns_of, MakesTurns}
 use Rattle.session.specs.Ends.{Ended}

@@ -6,10 +6,10 @@ use Rattle.std.proofs.lemmas.List.{take-append-drop, drop_more, take_more}
 use Rattle.report_line.specs.declared.call.Call.TheVariants as calls
 use Rattle.session.specs.declared.kind.Kind.{Kind}
 use Rattle.session.specs.declared.kind.Kind.TheVariants as kinds
-use Rattle.session.specs.Links.{LinkState, IsSound, Puts}
+use Rattle.client_link.specs.Links.{LinkState, IsSound, Puts}
 use Rattle.session.specs.SessionText.{Exchange, Means, Grounds, IsWorn, IsUnmade, IsForeign, exchange_line, session_text}
 use Rattle.session.specs.Parts.{AreLawful, FaultsAt, Serves}
-use Rattle.session.proofs.Sent.{appends_none, appends_then, sound_none, sound_then, fault_then}
+use Rattle.client_link.proofs.Sent.{appends_none, appends_then, sound_none, sound_then, fault_then}
 use Rattle.session.proofs.ServedTurns.{mean_then, far_then}
 
 pub faults_then : (end : Option Kind) (r s t : LinkState) → IsSound r s → FaultsAt end s t → FaultsAt end r t
@@ -19,7 +19,7 @@ faults_then (Some kinds.Bye) r s t p q = sound_then r s t p q
 faults_then (Some kinds.TooLong) r s t p q = sound_then r s t p q
 faults_then (Some kinds.Worn) r s t p q = sound_then r s t p q
 faults_then (Some kinds.Memory) r s t p q = sound_then r s t p q
-faults_then (Some kinds.ReadFailed) r s t p q = (rw p.failures at q.0, q.1 ∙ p.stalls)
+faults_then (Some kinds.ReadFailed) r s t p q = (rw p.failures at q.0, q.1 ∙ p.stalls, q.2 ∙ p.ended)
 faults_then (Some kinds.WriteFailed) r s t p q = fault_then r s t p q
 faults_then (Some kinds.Endless) r s t p q = sound_then r s t p q
 faults_then (Some kinds.Foreign) r s t p q = sound_then r s t p q

@@ -5,10 +5,10 @@ use Rattle.std.specs.Io.KnownBytes.{Appends, Consumes, Keeps}
 use Rattle.report_line.specs.Cutting.{Stand, onto, cut_from}
 use Rattle.session.specs.declared.kind.Kind.{Kind}
 use Rattle.session.specs.declared.kind.Kind.TheVariants as kinds
-use Rattle.session.specs.Links.{LinkState, IsRead}
+use Rattle.client_link.specs.Links.{LinkState, IsRead}
 use Rattle.session.specs.SessionText.{Exchange, Grounds}
 use Rattle.session.specs.Parts.{AreLawful, HowFar, FaultsAt, Serves, Follows, StepsTo, IsQuiet, GaveBy, Steps}
-use Rattle.session.proofs.Sent.{appends_none}
+use Rattle.client_link.proofs.Sent.{appends_none}
 use Rattle.session.proofs.ServeSteps.{faults_then}
 
 pub consumes_keeps_none : (a b : Option (List ℕ)) → Keeps a b → Consumes a b []
@@ -41,7 +41,7 @@ read_failed makes grounds laws old new (Some rest) state e buf some read =
       stands = λ none. absurd cc;
       consumed = consumes_keeps_none old.left new.left read.bytes;
       written = same_held old.held new.held read.held;
-      faults = (read.failures, read.stalls);
+      faults = (read.failures, read.stalls, read.ended);
       quiet = read.waiting;
       gave = refl;
       reads = read.counted;
@@ -65,7 +65,7 @@ read_end makes grounds laws old new (Some rest) state n buf some none room read 
       stands = λ never. absurd cc;
       consumed = rw none at read.bytes.0;
       written = same_held old.held new.held read.held;
-      faults = record { failures = read.failures; stalls = read.stalls };
+      faults = record { failures = read.failures; stalls = read.stalls; ended = read.ended };
       quiet = (read.waiting, read.bytes.1 none room);
       gave = refl;
       reads = read.counted;
@@ -88,7 +88,7 @@ read_refused makes grounds laws old new stand stand_after state n buf some read 
       stands = λ none. absurd cc;
       consumed = read.bytes.0;
       written = same_held old.held new.held read.held;
-      faults = record { failures = read.failures; stalls = read.stalls };
+      faults = record { failures = read.failures; stalls = read.stalls; ended = read.ended };
       quiet = tt;
       gave = some;
       reads = read.counted;
@@ -155,7 +155,7 @@ read_served makes grounds laws from end old mid new stand stand_after state afte
       stands = λ none. ap (λ (c : List (List ℕ) × Stand). c.1) cut;
       consumed = subst (λ (l : Option (List ℕ)). Consumes old.left l (take n buf)) (sym s.left) read.bytes.0;
       written = subst (λ (h : Option (List ℕ)). Appends h new.held s.text) read.held s.written;
-      faults = faults_then end old mid new (record { failures = read.failures; stalls = read.stalls }) (faults_by from end mid new stand_after follows s.faults);
+      faults = faults_then end old mid new (record { failures = read.failures; stalls = read.stalls; ended = read.ended }) (faults_by from end mid new stand_after follows s.faults);
       quiet = quiet_by from end (grounds state) old new stand_after s.later s.turned s.text count follows s.how;
       gave = gave_by from end (grounds state) stand_after s.later s.turned s.text count (take n buf) follows s.how some;
       reads = s.reads ∙ read.counted;

@@ -5,7 +5,7 @@ use Rattle.desk.specs.Desks.{DeskState}
 use Rattle.report_line.specs.Cutting.{cut_of}
 use Rattle.session.specs.declared.kind.Kind.{Kind}
 use Rattle.session.specs.declared.kind.Kind.TheVariants as kinds
-use Rattle.session.specs.Links.{up, LinkState, IsSound, IsFault}
+use Rattle.client_link.specs.Links.{up, LinkState, IsSound, IsFault}
 use Rattle.session.specs.SessionText.{Exchange, NoBye, session_text, joined, most_reads, at_desk, IsSession}
 use Rattle.session.specs.Turned.{EachLineIsChosen, MakesTurns}
 use Rattle.session.specs.Headline.{EachLineIsRight}
@@ -45,9 +45,9 @@ pub record Ended {D K : Type 0} (keeps : D → Type 0) (told : K → LinkState) 
   pub lines : EachLineIsRight desk.held turned
   pub chosen : EachLineIsChosen desk.held turned
 
--- What a link tells where a session ends so: a read failed, or a write or a hand-on; or none did, and nothing waits.
+-- What a link tells where a session ends so: a read failed, or a write or a hand-on; or none did, and nothing waits. It was not ended.
 abbrev pub Leaves : Kind → LinkState → LinkState → Type 0
-Leaves kinds.ReadFailed old new = (new.failures ≡ up 1 old.failures) × (new.stalls ≡ old.stalls) × (new.waiting ≡ [])
+Leaves kinds.ReadFailed old new = (new.failures ≡ up 1 old.failures) × (new.stalls ≡ old.stalls) × (new.waiting ≡ []) × (new.ended ≡ old.ended)
 Leaves kinds.WriteFailed old new = IsFault old new
 Leaves kinds.End old new = IsSound old new × (new.waiting ≡ []) × IsAtEnd new.left
 Leaves _ old new = IsSound old new × (new.waiting ≡ [])

@@ -3,7 +3,7 @@ use Rattle.std.specs.Prelude.{◌≡◌, ◌≤◌, ℕ, List, [], ◌∷◌, �
 use Rattle.std.specs.Io.KnownBytes.{Appends, Consumes}
 use Rattle.coordinator.specs.Passes.{PassEntry, PassState, IsAnswered}
 use Rattle.session.specs.declared.kind.Kind.{Kind}
-use Rattle.session.specs.Links.{up, LinkState}
+use Rattle.client_link.specs.Links.{up, LinkState, IsEnd}
 use Rattle.session.specs.SessionText.{Exchange, joined, most_reads, at_pass, IsSession}
 use Rattle.session.specs.Ends.{IsPrompt, Leaves}
 
@@ -29,7 +29,7 @@ pub record Gains (old : PassState) (exchanges : List Exchange) (new : PassState)
   pub number : new.number ≡ old.number
 
 -- A session over a pass: what each read gave, the session text of it, which was written, and the exchanges, which are those of the
--- entries that the pass gained; and what the link tells then.
+-- entries that the pass gained; and what the link tells then: at last it was ended, and not before.
 pub record LinkServed (before told : LinkState) (fresh pass : PassState) (kind : Kind) (count : ℕ) : Type 0 where
   pub pieces : List (List ℕ)
   pub turned : List Exchange
@@ -41,4 +41,6 @@ pub record LinkServed (before told : LinkState) (fresh pass : PassState) (kind :
   pub reads : told.reads ≡ up (length pieces) before.reads
   pub few : length pieces ≤ most_reads
   pub prompt : IsPrompt (λ (state : LinkState). state) before pieces turned
-  pub leaves : Leaves kind before told
+  pub last : LinkState
+  pub leaves : Leaves kind before last
+  pub ends : IsEnd last told

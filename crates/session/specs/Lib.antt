@@ -1,4 +1,3 @@
-pub mod Links
 pub mod SessionText
 pub mod ChosenText
 pub mod Turned
@@ -7,5 +6,4 @@ pub mod Ends
 pub mod Parts
 pub mod Headline
 pub mod Gained
-pub mod Memory
 pub mod Sessions

@@ -18,7 +18,7 @@ use Rattle.coordinator.specs.declared.fault.CallFault.{CallFault}
 use Rattle.coordinator.specs.declared.fault.CallFault.TheVariants as refused
 use Rattle.session.specs.declared.kind.Kind.{Kind}
 use Rattle.session.specs.declared.kind.Kind.TheVariants as kinds
-use Rattle.session.specs.Links.{up, LinkState, IsSound, IsFault, Puts}
+use Rattle.client_link.specs.Links.{up, LinkState, IsSound, IsFault, Puts}
 use Rattle.session.specs.SessionText.{Exchange, Mean, NoBye, LastSaysBye, Grounds, IsWorn, IsUnmade, IsForeign, session_text, ending_line, ending_count, IsCutShort, IsCutInReply, joined, most_reads, Gave, IsSession}
 use Rattle.session.specs.Turned.{MakesTurns}
 use Rattle.session.specs.Ends.{IsPrompt}
@@ -85,7 +85,7 @@ HowFar _ grounds later turned text count = ⊥
 
 -- the calls that failed, where it ends so
 abbrev pub FaultsAt : Option Kind → LinkState → LinkState → Type 0
-FaultsAt (Some kinds.ReadFailed) old new = (new.failures ≡ up 1 old.failures) × (new.stalls ≡ old.stalls)
+FaultsAt (Some kinds.ReadFailed) old new = (new.failures ≡ up 1 old.failures) × (new.stalls ≡ old.stalls) × (new.ended ≡ old.ended)
 FaultsAt (Some kinds.WriteFailed) old new = IsFault old new
 FaultsAt _ old new = IsSound old new
 

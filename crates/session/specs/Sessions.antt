@@ -3,7 +3,7 @@ use Rattle.std.specs.Prelude.{◌≡◌, ℕ}
 use Rattle.coordinator.specs.Passes.{PassState, IsNewPass}
 use Rattle.session.specs.declared.kind.Kind.{Kind}
 use Rattle.session.specs.Gained.{LinkServed}
-use Rattle.session.specs.Links.{LinkState}
+use Rattle.client_link.specs.Links.{LinkState}
 
 -- A link was served with a new pass, and ended so: it tells this now, and the pass is this now.
 pub record WasServed (now : LinkState) (pass : PassState) (kind : Kind) (count : ℕ) : Type 0 where

@@ -6,8 +6,6 @@
 
 mod kind;
 mod laws;
-mod link;
-mod memory_link;
 mod numbered;
 mod over_coordinator;
 mod over_desk;
@@ -15,7 +13,6 @@ mod reply_line;
 mod server;
 mod serving;
 mod session;
-mod streams;
 mod threads;
 mod turns;
 
@@ -24,9 +21,6 @@ pub use laws::{
     a_question_has_one_text, exchanges_keep_lists_reachable, exchanges_tell_what_is_accepted,
     same_lines_have_one_text, served_without_a_device,
 };
-pub use link::{Link, LinkFault, put, put_all};
-pub use memory_link::MemoryLink;
 pub use over_coordinator::serve_link;
 pub use over_desk::run;
-pub use streams::Streams;
 pub use threads::{Served, workers};

@@ -12,12 +12,12 @@ ghost use Rattle.session.specs.Parts.{Serves, PutsLast, refused_as, one_reply};
 ghost use Rattle.session.specs.SessionText.{at_pass};
 
 use crate::kind::{Kind, SessionEnd};
-use crate::link::{Link, LinkFault};
 use crate::over_desk::is_bye;
 use crate::reply_line::put_reply;
 use crate::server::Server;
 use crate::session::serve;
 use crate::turns::call_of;
+use client_link::{Link, LinkFault};
 use coordinator::{CallFault, Coordinator, Gate, Pass};
 use knows_row::OpenChunks;
 use line_disk::Disk;
@@ -122,7 +122,8 @@ impl<'a, R: Threads + Wait + Sync, L: Ledger, D: Disk, G: Gate> Server<Pass<L>>
 /// Serves one client over a coordinator, as `run` does over a desk: each line takes its turn under the coordinator's lock and is
 /// added to the pass, and its reply is written before the next line's turn. The lines of other clients may take theirs in between.
 /// What is written is the session text of what was read, and its exchanges are just the entries that the pass gained. Where the
-/// pass is of another coordinator, the session ends as Foreign with nothing more written.
+/// pass is of another coordinator, the session ends as Foreign with nothing more written. At last the link is ended, however the session
+/// ended.
 pub fn serve_link<R: Threads + Wait + Sync, L: Ledger, D: Disk, G: Gate, K: Link>(
     rt: &R,
     coordinator: &Coordinator<L, D>,
@@ -137,5 +138,7 @@ pub fn serve_link<R: Threads + Wait + Sync, L: Ledger, D: Disk, G: Gate, K: Link
         coordinator,
         gate,
     };
-    serve(&server, pass, link)
+    let end = serve(&server, pass, link);
+    link.end();
+    end
 }

@@ -9,11 +9,11 @@ ghost use Rattle.session.specs.SessionText.{at_desk};
 ghost use Rattle.session.specs.Turned.{MakesTurns};
 
 use crate::kind::{Kind, SessionEnd};
-use crate::link::Link;
 use crate::reply_line::put_reply;
 use crate::server::Server;
 use crate::session::serve;
 use crate::turns::make_turn;
+use client_link::Link;
 use desk::{Desk, TurnFault};
 use line_disk::Disk;
 use report_line::{Call, LineFault, read_line};

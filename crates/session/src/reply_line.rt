@@ -4,10 +4,10 @@ ghost use Rattle.std.specs.Fmt.{decimal};
 ghost use Rattle.std.specs.Prelude.{◌≡◌, [], ◌∷◌, ◌++◌, ◌≤◌};
 ghost use Rattle.report_line.specs.Replies.{reply_text, or_dash};
 ghost use Rattle.report_line.specs.Cutting.{ended};
-ghost use Rattle.session.specs.Links.{Puts};
+ghost use Rattle.client_link.specs.Links.{Puts};
 
-use crate::link::{Link, LinkFault, put, put_all};
 use crate::numbered::{ROOM, write_at_end};
+use client_link::{Link, LinkFault, put, put_all};
 use itoa::Buffer;
 use report_line::{Code, Name, Outcome, Reply, Text};
 

@@ -6,7 +6,7 @@ ghost use Rattle.session.specs.SessionText.{Exchange, Grounds};
 ghost use Rattle.session.specs.Parts.{Serves, one_reply};
 
 use crate::kind::Kind;
-use crate::link::Link;
+use client_link::Link;
 use std::alloc::Global;
 
 /// Who answers the lines of a client by turns over some state: a desk, or a client's pass of a coordinator.

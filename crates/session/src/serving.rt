@@ -6,8 +6,8 @@ ghost use Rattle.report_line.specs.Cutting.{IsLine};
 ghost use Rattle.session.specs.Parts.{AreLawful, Serves, one_reply};
 
 use crate::kind::Kind;
-use crate::link::Link;
 use crate::server::Server;
+use client_link::Link;
 use report_line::Lines;
 
 /// How many replies are written whole to a line at which the session ends so.

@@ -6,9 +6,9 @@ ghost use Rattle.session.specs.Ends.{Leaves};
 ghost use Rattle.session.specs.Parts.{AreLawful, Follows, Steps, Closing, Closes, Ran};
 
 use crate::kind::{Kind, SessionEnd};
-use crate::link::{Link, put};
 use crate::server::Server;
 use crate::serving::serve_lines;
+use client_link::{Link, put};
 use report_line::Feed;
 
 /// How many reads a session makes at most.

@@ -4,8 +4,8 @@ ghost use Rattle.std.specs.Prelude.{◌≡◌, ◌<◌, ◌≤◌, IfOk, length}
 ghost use Rattle.session.specs.Sessions.{WasServed};
 
 use crate::kind::SessionEnd;
-use crate::link::Link;
 use crate::over_coordinator::serve_link;
+use client_link::Link;
 use coordinator::{Coordinator, Gate, Pass};
 use crossbeam_channel::Receiver;
 use line_disk::Disk;

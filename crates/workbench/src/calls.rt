@@ -17,7 +17,6 @@ mod answer;
 mod bench;
 mod certificates;
 mod event_trees;
-mod fault;
 mod ids;
 mod lines;
 mod processes;
@@ -27,7 +26,36 @@ mod stamps;
 use anyhow::Result;
 use bench::Bench;
 pub(crate) use bench::new_desk;
+use std::alloc::Global;
 use std::io::{BufWriter, Read, Write};
+
+// Writes the answer to a line, with its LF.
+fn put_line<W: Write>(alloc: Global, bench: &mut Bench, line: &[u8], out: &mut W) -> Result<()> {
+    let mut answer = Vec::new(alloc);
+    bench.answer(line, &mut answer)?;
+    answer.push(b'\n')?;
+    Ok(out.write_all(&answer)?)
+}
+
+// Answers each line of the input by a line.
+fn put_lines<W: Write>(alloc: Global, bench: &mut Bench, input: &[u8], out: &mut W) -> Result<()> {
+    for line in input.split_inclusive(|b| *b == b'\n') {
+        let line = match line.strip_suffix(b"\n") {
+            Some(line) => line,
+            None => line,
+        };
+        put_line(alloc, bench, line, out)?;
+    }
+    Ok(out.flush()?)
+}
+
+// The same over a bench of its own.
+fn answer_lines<W: Write>(alloc: Global, input: &[u8], out: &mut W) -> Result<()> {
+    let mut bench = Bench::new(alloc)?;
+    let done = put_lines(alloc, &mut bench, input, out);
+    drop(bench);
+    done
+}
 
 /// Answers each line of standard input by a line.
 pub fn answer_all(rt: &HostRuntime) -> Result<()> {
@@ -35,16 +63,5 @@ pub fn answer_all(rt: &HostRuntime) -> Result<()> {
     let mut input = Vec::new(alloc);
     rt.reader().read_to_end(&mut input)?;
     let mut out = BufWriter::new(alloc, rt.stdout())?;
-    let mut bench = Bench::new(alloc)?;
-    for line in input.split_inclusive(|b| *b == b'\n') {
-        let line = match line.strip_suffix(b"\n") {
-            Some(line) => line,
-            None => line,
-        };
-        let mut answer = bench.answer(line)?;
-        answer.push(b'\n')?;
-        out.write_all(&answer)?;
-    }
-    out.flush()?;
-    Ok(())
+    answer_lines(alloc, &input, &mut out)
 }

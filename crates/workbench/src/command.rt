@@ -3,7 +3,7 @@
 use std::num::NonZeroU32;
 
 /// Which tool is wanted.
-#[derive(Drop)]
+#[derive(Clone, Copy)]
 pub enum Command {
     /// The measure of sessions.
     Session,
@@ -20,7 +20,7 @@ pub enum Command {
 }
 
 /// Which lines are wanted.
-#[derive(Drop)]
+#[derive(Clone, Copy)]
 pub enum Stream {
     /// As many reports of one process as are accepted, the last one once more, and one report more.
     Limit,
@@ -42,7 +42,7 @@ pub fn read(words: &[String]) -> Option<Command> {
         ("certificate", []) => Some(Command::Certificate),
         ("calls", []) => Some(Command::Calls),
         ("steps", [processes, turns]) => Some(Command::Steps {
-            processes: NonZeroU32::new(number_of(processes.as_str())?)?,
+            processes: count_of(processes.as_str())?,
             turns: number_of(turns.as_str())?,
         }),
         ("traffic", rest) => Some(Command::Traffic(stream_of(rest)?)),
@@ -56,11 +56,11 @@ fn stream_of(words: &[String]) -> Option<Stream> {
         ("limit", []) => Some(Stream::Limit),
         ("forks", [forks]) => Some(Stream::Forks(number_of(forks.as_str())?)),
         ("messages", [processes, reports]) => Some(Stream::Messages {
-            processes: NonZeroU32::new(number_of(processes.as_str())?)?,
+            processes: count_of(processes.as_str())?,
             reports: number_of(reports.as_str())?,
         }),
         ("script", [processes, turns]) => Some(Stream::Script {
-            processes: NonZeroU32::new(number_of(processes.as_str())?)?,
+            processes: count_of(processes.as_str())?,
             turns: number_of(turns.as_str())?,
         }),
         _ => None,
@@ -69,4 +69,8 @@ fn stream_of(words: &[String]) -> Option<Stream> {
 
 fn number_of(word: &str) -> Option<u32> {
     word.parse::<u32>().ok()
+}
+
+fn count_of(word: &str) -> Option<NonZeroU32> {
+    NonZeroU32::new(number_of(word)?)
 }

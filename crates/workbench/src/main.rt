@@ -35,13 +35,13 @@ traffic      writes a stream of reports:
             received at once";
 
 /// Does what the command asks for.
-fn run(rt: &HostRuntime, command: &Command) -> Result<()> {
+fn run(rt: &HostRuntime, command: Command) -> Result<()> {
     match command {
         Command::Session => measures::sessions::measure_all(rt),
         Command::Clocks => measures::clocks::measure_all(rt),
         Command::Certificate => measures::certificates::measure_all(rt),
         Command::Calls => calls::answer_all(rt),
-        Command::Steps { processes, turns } => traffic::steps(rt.alloc(), *processes, *turns),
+        Command::Steps { processes, turns } => traffic::steps(rt.alloc(), processes, turns),
         Command::Traffic(stream) => traffic::write(rt, stream),
     }
 }
@@ -50,7 +50,7 @@ fn main(rt: HostRuntime) -> Result<ExitCode> {
     let words: Vec<String> = env::args(&rt)?.collect(rt.alloc())?;
     match command::read(&words) {
         Some(command) => {
-            run(&rt, &command)?;
+            run(&rt, command)?;
             Ok(ExitCode::from(0))
         }
         None => {

@@ -9,25 +9,33 @@ mod streams;
 
 use crate::command::Stream;
 use anyhow::Result;
+use process::Process;
 pub use scripts::steps;
+use std::alloc::Global;
 use std::io::{BufWriter, Write};
 
+// Writes the lines of a stream, by the family that it fills.
+fn put<W: Write>(
+    alloc: Global,
+    out: &mut W,
+    family: &mut Vec<Process>,
+    stream: Stream,
+) -> Result<()> {
+    match stream {
+        Stream::Limit => streams::limit(alloc, out)?,
+        Stream::Forks(forks) => streams::forks(alloc, out, family, forks)?,
+        Stream::Messages { processes, reports } => {
+            streams::messages(alloc, out, family, processes, reports)?
+        }
+        Stream::Script { processes, turns } => scripts::script(alloc, out, processes, turns)?,
+    }
+    Ok(out.flush()?)
+}
+
 /// Writes the lines of a stream.
-pub fn write(rt: &HostRuntime, stream: &Stream) -> Result<()> {
+pub fn write(rt: &HostRuntime, stream: Stream) -> Result<()> {
     let alloc = rt.alloc();
     let mut out = BufWriter::new(alloc, rt.stdout())?;
-    match stream {
-        Stream::Limit => streams::limit(alloc, &mut out)?,
-        Stream::Forks(forks) => {
-            let _family = streams::forks(alloc, &mut out, *forks)?;
-        }
-        Stream::Messages { processes, reports } => {
-            streams::messages(alloc, &mut out, *processes, *reports)?
-        }
-        Stream::Script { processes, turns } => scripts::script(
-            alloc, &mut out, *processes, *turns,
-        )?,
-    }
-    out.flush()?;
-    Ok(())
+    let mut family = Vec::new(alloc);
+    put(alloc, &mut out, &mut family, stream)
 }

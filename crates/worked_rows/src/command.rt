@@ -1,8 +1,8 @@
 //! The command `run`, over streams that fail.
 
+use client_link::Streams;
 use line_disk::NullDisk;
 use recline::run_on;
-use session::Streams;
 use std::alloc::Global;
 use std::io::{self, BufWriter, Empty, ErrorKind, Read, Write};
 use std::test::Fail;

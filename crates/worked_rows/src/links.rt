@@ -2,10 +2,11 @@
 
 ghost use Rattle.std.specs.Prelude.{◌≡◌, []};
 
+use client_link::{Link, MemoryLink};
 use coordinator::{Coordinator, OpenGate, Pass};
 use desk::Desk;
 use line_disk::NullDisk;
-use session::{Kind, MemoryLink, SessionEnd, serve_link};
+use session::{Kind, SessionEnd, serve_link};
 use std::alloc::Global;
 use std::marker::Brand;
 use std::process::Abort;
@@ -39,6 +40,8 @@ fn served<L: Ledger, R: Threads + Wait + Abort + Sync>(
     let mut link = MemoryLink::new(alloc, &[first, second], 64)?;
     link.fail_call(failing);
     let end = serve_link(rt, coordinator, &mut pass, &OpenGate, &mut link);
+    // Each session ends its link.
+    assert!(rt; link.hand_on().is_err());
     Ok((pass, link, end))
 }
 

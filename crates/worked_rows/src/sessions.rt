@@ -1,11 +1,12 @@
 //! Sessions.
 
 ghost use Rattle.std.specs.Prelude.{◌<◌, [], Some};
-ghost use Rattle.session.specs.Links.{LinkState};
+ghost use Rattle.client_link.specs.Links.{LinkState};
 
+use client_link::{Link, LinkFault};
 use desk::Desk;
 use line_disk::NullDisk;
-use session::{Kind, Link, LinkFault, SessionEnd, run};
+use session::{Kind, SessionEnd, run};
 use std::alloc::{AllocError, Global};
 use std::test::Fail;
 
@@ -22,15 +23,16 @@ struct Pieces<'a> {
     writes: u64,
     failed: u64,
     stalled: u64,
+    ended: bool,
     ghost some: { 0 < size },
 }
 
 impl Link for Pieces<'_> {
-    ghost told = { λ s. record { left = Some s.rest.now; held = Some s.written.items; waiting = []; reads = s.reads; failures = s.failed; stalls = s.stalled } };
+    ghost told = { λ s. record { left = Some s.rest.now; held = Some s.written.items; waiting = []; reads = s.reads; failures = s.failed; stalls = s.stalled; ended = s.ended } };
 
     fn read(&mut self, buf: &mut [u8]) -> Result<usize, LinkFault> {
         self.reads = self.reads.saturating_add(1);
-        if self.reads == self.fail_read {
+        if self.ended || self.reads == self.fail_read {
             self.failed = self.failed.saturating_add(1);
             return Err(LinkFault::Device);
         }
@@ -44,7 +46,10 @@ impl Link for Pieces<'_> {
     fn write(&mut self, buf: &[u8]) -> Result<usize, LinkFault> {
         self.writes = self.writes.saturating_add(1);
         let n = buf.len().min(3);
-        if self.writes >= self.fail_write || self.written.extend_from_slice(&buf[..n]).is_err() {
+        if self.ended
+            || self.writes >= self.fail_write
+            || self.written.extend_from_slice(&buf[..n]).is_err()
+        {
             self.failed = self.failed.saturating_add(1);
             return Err(LinkFault::Device);
         }
@@ -55,7 +60,15 @@ impl Link for Pieces<'_> {
     }
 
     fn hand_on(&mut self) -> Result<(), LinkFault> {
+        if self.ended {
+            self.failed = self.failed.saturating_add(1);
+            return Err(LinkFault::Device);
+        }
         Ok(())
+    }
+
+    fn end(&mut self) {
+        self.ended = true;
     }
 
     fn failures(&self) -> u64 {
@@ -76,6 +89,7 @@ fn pieces_of(alloc: Global, rest: &[u8], size: usize, fail_read: u64, fail_write
         writes: 0,
         failed: 0,
         stalled: 0,
+        ended: false,
     }
 }
 
@@ -111,6 +125,7 @@ fn sessions_end(rt: HostRuntime) -> Result<(), Fail> {
         let end = run(&mut desk, &mut client);
         assert_eq!(rt; end, SessionEnd { kind, replies });
         assert_eq!(rt; client.written.as_slice(), output.as_bytes());
+        assert!(rt; !client.ended);
     }
     Ok(())
 }

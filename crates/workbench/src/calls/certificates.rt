@@ -1,46 +1,68 @@
 //! Calls on certificates.
 
-use super::fault::Fault;
+use super::answer::put_by;
 use super::processes::failed_of;
-use chains::Chains;
+use chains::{Chains, Failed};
 use propagate::certificate;
 use reason_check::check;
-use reasons::{from_json, to_json};
+use reasons::{Certificate, CertificateFault, from_json, to_json};
+use std::alloc::AllocError;
+use std::fmt;
+
+/// Why a text is no certificate, shown by the fault's name.
+#[derive(Drop)]
+struct TextFault(CertificateFault);
+
+impl fmt::Debug for TextFault {
+    fn fmt<W: fmt::Write>(&self, f: &mut fmt::Formatter<W>) -> fmt::Result {
+        match &self.0 {
+            CertificateFault::Unknown(name) => write!(f, "Unknown({name})"),
+            fault => write!(f, "{fault:?}"),
+        }
+    }
+}
+
+fn certificate_of(chains: &Chains, text: &str) -> Result<Certificate, TextFault> {
+    from_json(chains, text.as_bytes()).map_err(TextFault)
+}
+
+fn put_text(
+    chains: &Chains,
+    certificate: &Certificate,
+    out: &mut Vec<u8>,
+) -> Result<(), AllocError> {
+    let text = to_json(chains, certificate)?;
+    out.extend_from_slice(text.as_bytes())
+}
 
 // The certificate of the line, if these failed.
-fn put_certificate(chains: &Chains, failed: &str, out: &mut Vec<u8>) -> Result<(), Fault> {
-    let found = certificate(chains, &failed_of(chains, failed)?)?;
-    out.extend_from_slice(to_json(chains, &found)?.as_bytes())?;
-    Ok(())
-}
-
-// The certificate that the text is read as, written again.
-fn put_again(chains: &Chains, text: &str, out: &mut Vec<u8>) -> Result<(), Fault> {
-    let read = from_json(chains, text.as_bytes())?;
-    out.extend_from_slice(to_json(chains, &read)?.as_bytes())?;
-    Ok(())
-}
-
-fn put_read(chains: &Chains, text: &str, out: &mut Vec<u8>) -> Result<(), Fault> {
-    let _read = from_json(chains, text.as_bytes())?;
-    out.extend_from_slice(b"READ")?;
-    Ok(())
-}
-
-// The verdict on the certificate that the text is read as.
-fn put_verdict(chains: &Chains, text: &str, out: &mut Vec<u8>) -> Result<(), Fault> {
-    let read = from_json(chains, text.as_bytes())?;
-    check(chains, &read).write_to(out)?;
-    Ok(())
+fn put_found(chains: &Chains, failed: &Failed, out: &mut Vec<u8>) -> Result<(), AllocError> {
+    let found = certificate(chains, failed)?;
+    put_text(chains, &found, out)
 }
 
 /// Answers a call on certificates, by its word and the text behind it; whether it is one.
-pub fn answer(chains: &Chains, word: &str, text: &str, out: &mut Vec<u8>) -> Result<bool, Fault> {
+pub fn answer(
+    chains: &Chains,
+    word: &str,
+    text: &str,
+    out: &mut Vec<u8>,
+) -> Result<bool, AllocError> {
     match word {
-        "certificate" => put_certificate(chains, text, out)?,
-        "read" => put_read(chains, text, out)?,
-        "write" => put_again(chains, text, out)?,
-        "check" => put_verdict(chains, text, out)?,
+        "certificate" => put_by(failed_of(chains, text), out, |failed, out| {
+            put_found(chains, failed, out)
+        })?,
+        "read" => put_by(certificate_of(chains, text), out, |_, out| {
+            out.extend_from_slice(b"READ")
+        })?,
+        // What is read, written again.
+        "write" => put_by(certificate_of(chains, text), out, |read, out| {
+            put_text(chains, read, out)
+        })?,
+        // The verdict on it.
+        "check" => put_by(certificate_of(chains, text), out, |read, out| {
+            check(chains, read).write_to(out)
+        })?,
         _ => return Ok(false),
     }
     Ok(true)

@@ -1,23 +1,37 @@
 //! Lines as a client sends them.
 
-use super::fault::Fault;
+use super::answer::put_by;
+use client_link::Streams;
 use desk::Desk;
 use line_disk::NullDisk;
-use report_line::{Call, LineFault, read_line, write_line};
-use session::{Streams, run};
+use report_line::{Call, PackedReport, read_line, write_line};
+use session::run;
 use std::alloc::{AllocError, Global};
 use std::io::BufWriter;
 
-/// Writes what a line is read as: a report as it is written again, another call by a word. It is always a call.
-pub fn put_call(alloc: Global, line: &str, out: &mut Vec<u8>) -> Result<bool, Fault> {
-    let read = read_line(alloc, line.as_bytes());
-    match &read {
-        Ok(Call::Report(report)) => out.extend_from_slice(&write_line(alloc, report)?)?,
-        Ok(_) => out.extend_from_slice(b"call")?,
-        Err(LineFault::Grammar) => return Err(Fault::Grammar),
-        Err(LineFault::Memory) => return Err(Fault::Memory(AllocError)),
+fn put_report(report: &PackedReport, out: &mut Vec<u8>) -> Result<(), AllocError> {
+    let line = write_line(*out.allocator(), report)?;
+    out.extend_from_slice(&line)
+}
+
+fn put_read(call: &Call, out: &mut Vec<u8>) -> Result<(), AllocError> {
+    match call {
+        Call::Report(report) => put_report(report, out),
+        _ => out.extend_from_slice(b"call"),
     }
-    Ok(true)
+}
+
+/// Writes what a line is read as: a report as it is written again, another call by a word.
+pub fn put_call(line: &str, out: &mut Vec<u8>) -> Result<(), AllocError> {
+    put_by(read_line(*out.allocator(), line.as_bytes()), out, put_read)
+}
+
+// A client that sends the line.
+fn client_of(alloc: Global, line: &[u8]) -> Result<Streams<&[u8], Vec<u8>>, AllocError> {
+    match BufWriter::new(alloc, Vec::new(alloc)) {
+        Ok(written) => Ok(Streams::new(line, written)),
+        Err(_) => Err(AllocError),
+    }
 }
 
 // A session over the desk. It stands alone, since its clause is long.
@@ -25,29 +39,45 @@ fn serve(desk: &mut Desk<NullDisk>, client: &mut Streams<&[u8], Vec<u8>>) {
     let _end = run(desk, client);
 }
 
+fn put_without_end(reply: &[u8], out: &mut Vec<u8>) -> Result<(), AllocError> {
+    match reply.strip_suffix(b"\n") {
+        Some(reply) => out.extend_from_slice(reply),
+        None => out.extend_from_slice(reply),
+    }
+}
+
 // Writes the reply of a session that has this line alone, without its LF.
-fn put_reply(desk: &mut Desk<NullDisk>, line: &[u8], out: &mut Vec<u8>) -> Result<(), Fault> {
-    let alloc = desk.chains().alloc();
-    let written = BufWriter::new(alloc, Vec::new(alloc))?;
-    let mut client = Streams::new(line, written);
+fn put_reply(desk: &mut Desk<NullDisk>, line: &[u8], out: &mut Vec<u8>) -> Result<(), AllocError> {
+    let mut client = client_of(*out.allocator(), line)?;
     serve(desk, &mut client);
     let (_rest, written) = client.into_inner();
-    let reply: &[u8] = written.get_ref().as_slice();
-    match reply.strip_suffix(b"\n") {
-        Some(reply) => out.extend_from_slice(reply)?,
-        None => out.extend_from_slice(reply)?,
-    }
-    Ok(())
+    put_without_end(written.get_ref(), out)
+}
+
+// The same of a line without its LF.
+fn put_reply_to(
+    desk: &mut Desk<NullDisk>,
+    line: &[u8],
+    out: &mut Vec<u8>,
+) -> Result<(), AllocError> {
+    let mut input = Vec::from_slice(*out.allocator(), line)?;
+    input.push(b'\n')?;
+    put_reply(desk, &input, out)
+}
+
+fn is_call(alloc: Global, line: &[u8]) -> bool {
+    read_line(alloc, line).is_ok()
 }
 
 /// Answers a line that is a call of a client by its reply; whether it is one.
-pub fn answer(desk: &mut Desk<NullDisk>, line: &str, out: &mut Vec<u8>) -> Result<bool, Fault> {
-    let alloc = desk.chains().alloc();
-    if read_line(alloc, line.as_bytes()).is_err() {
+pub fn answer(
+    desk: &mut Desk<NullDisk>,
+    line: &str,
+    out: &mut Vec<u8>,
+) -> Result<bool, AllocError> {
+    if !is_call(*out.allocator(), line.as_bytes()) {
         return Ok(false);
     }
-    let mut input = Vec::from_slice(alloc, line.as_bytes())?;
-    input.push(b'\n')?;
-    put_reply(desk, &input, out)?;
+    put_reply_to(desk, line.as_bytes(), out)?;
     Ok(true)
 }

@@ -3,24 +3,43 @@
 ghost use Rattle.std.specs.Prelude.{◌<◌, length, IfOk};
 ghost use Rattle.chains.specs.Processes.{known};
 
-use super::answer::{put_number, put_whether};
-use super::fault::Fault;
-use chains::{Chains, Failed, FailedFault, Place, Position};
+use super::answer::{put_fault, put_number, put_whether};
+use chains::{Chains, Failed, Place, Position};
 use knows_row::{knows, last_known, need};
 use propagate::greatest_cut;
 use report_line::Name;
 use std::alloc::{AllocError, Global};
+use std::fmt;
 
-// The fault that no process has this name.
-fn unknown(alloc: Global, word: &str) -> Fault {
-    match String::from_str(alloc, word) {
-        Ok(name) => Fault::Unknown(name),
-        Err(fault) => Fault::Memory(fault),
+/// Why a word of a call stands for nothing.
+#[derive(Clone, Copy)]
+pub enum WordFault<'a> {
+    /// No process has this name.
+    Unknown(&'a str),
+    /// It is not the number that should stand there.
+    Number,
+    /// A growth was refused.
+    Memory,
+}
+
+impl fmt::Debug for WordFault<'_> {
+    fn fmt<W: fmt::Write>(&self, f: &mut fmt::Formatter<W>) -> fmt::Result {
+        match self {
+            WordFault::Unknown(name) => write!(f, "Unknown({name})"),
+            WordFault::Number => write!(f, "?"),
+            WordFault::Memory => write!(f, "Memory"),
+        }
+    }
+}
+
+impl From<AllocError> for WordFault<'_> {
+    fn from(_error: AllocError) -> Self {
+        WordFault::Memory
     }
 }
 
 /// The number of the process that has the word as its name.
-fn process_of(chains: &Chains, word: &str) -> Result<u32, Fault>
+fn process_of<'a>(chains: &Chains, word: &'a str) -> Result<u32, WordFault<'a>>
     ensures { IfOk result (λ process. process < length (known chains.now.accepted)) }
 {
     let number = match Name::from_bytes(word.as_bytes()) {
@@ -29,115 +48,149 @@ fn process_of(chains: &Chains, word: &str) -> Result<u32, Fault>
     };
     match number {
         Some(number) if number < chains.count() => Ok(number),
-        _ => Err(unknown(chains.alloc(), word)),
+        _ => Err(WordFault::Unknown(word)),
     }
 }
 
-// The names of failed processes, parted by commas; `-` for none.
-fn names_of(alloc: Global, word: &str) -> Result<Vec<Name>, Fault> {
-    let mut names = Vec::new(alloc);
-    if word == "-" {
-        return Ok(names);
+// Refuses a word with a part that is not the name of a process. A part that could be no name is told before the others.
+fn are_known<'a>(chains: &Chains, word: &'a str) -> Result<(), WordFault<'a>> {
+    let unnamed = word
+        .split(',')
+        .find(|part| Name::from_bytes(part.as_bytes()).is_none());
+    let unknown = word
+        .split(',')
+        .find(|part| process_of(chains, part).is_err());
+    match unnamed.or(unknown) {
+        Some(part) => Err(WordFault::Unknown(part)),
+        None => Ok(()),
     }
-    for part in word.split(',') {
-        match Name::from_bytes(part.as_bytes()) {
-            Some(name) => names.push(name)?,
-            None => return Err(unknown(alloc, part)),
-        }
-    }
-    Ok(names)
+}
+
+// The names in the word, parted by commas.
+fn names_of(alloc: Global, word: &str) -> Result<Vec<Name>, AllocError> {
+    word.split(',')
+        .filter_map(|part| Name::from_bytes(part.as_bytes()))
+        .collect(alloc)
 }
 
 /// The failed set that a word names: `*` for all processes, `-` for none, or names parted by commas.
-pub fn failed_of(chains: &Chains, word: &str) -> Result<Failed, Fault> {
+pub fn failed_of<'a>(chains: &Chains, word: &'a str) -> Result<Failed, WordFault<'a>> {
     if word == "*" {
         return Ok(Failed::all(chains)?);
+    }
+    if word != "-" {
+        are_known(chains, word)?;
     }
     let names = names_of(chains.alloc(), word)?;
     match Failed::from_names(chains, &names) {
         Ok(failed) => Ok(failed),
-        Err(FailedFault::Unknown(name)) => match str::from_utf8(name.as_bytes()) {
-            Ok(name) => Err(unknown(chains.alloc(), name)),
-            Err(_) => Err(Fault::Grammar), // No name comes here, since names are ASCII.
-        },
-        Err(FailedFault::Memory) => Err(Fault::Memory(AllocError)),
+        Err(_) => Err(WordFault::Memory), // All are known.
     }
 }
 
-fn position_of(word: &str) -> Result<Position, Fault> {
+fn number_of(word: &str) -> Result<u32, WordFault<'_>> {
+    match word.parse::<u32>() {
+        Ok(number) => Ok(number),
+        Err(_) => Err(WordFault::Number),
+    }
+}
+
+fn position_of(word: &str) -> Result<Position, WordFault<'_>> {
     if word == "retired" {
         return Ok(Position::Retired);
     }
-    Ok(Position::At(word.parse::<u32>()?))
+    Ok(Position::At(number_of(word)?))
 }
 
-fn place_of(chains: &Chains, process: &str, position: &str) -> Result<Place, Fault> {
+fn place_of<'a>(
+    chains: &Chains,
+    process: &'a str,
+    position: &'a str,
+) -> Result<Place, WordFault<'a>> {
     Ok(Place {
         process: process_of(chains, process)?,
         position: position_of(position)?,
     })
 }
 
-// Where the process stands last, if these failed.
-fn put_last_surviving(
-    chains: &Chains,
-    process: &str,
-    failed: &str,
-    out: &mut Vec<u8>,
-) -> Result<(), Fault> {
-    let process = process_of(chains, process)?;
-    match chains.last_surviving(process, &failed_of(chains, failed)?) {
-        Position::At(k) => put_number(chains.alloc(), k, out)?,
-        Position::Retired => out.extend_from_slice(b"retired")?,
+fn put_position(position: Position, out: &mut Vec<u8>) -> Result<(), AllocError> {
+    match position {
+        Position::At(k) => put_number(k, out),
+        Position::Retired => out.extend_from_slice(b"retired"),
     }
+}
+
+// Where the process stands last, if these failed.
+fn put_last_surviving<'a>(
+    chains: &Chains,
+    process: &'a str,
+    failed: &'a str,
+    out: &mut Vec<u8>,
+) -> Result<(), WordFault<'a>> {
+    let process = process_of(chains, process)?;
+    let failed = failed_of(chains, failed)?;
+    put_position(chains.last_surviving(process, &failed), out)?;
     Ok(())
 }
 
-fn put_rounds(chains: &Chains, failed: &str, out: &mut Vec<u8>) -> Result<(), Fault> {
+fn rounds_of(chains: &Chains, failed: &Failed) -> Result<u32, AllocError> {
+    Ok(greatest_cut(chains, failed)?.rounds)
+}
+
+fn put_rounds<'a>(
+    chains: &Chains,
+    failed: &'a str,
+    out: &mut Vec<u8>,
+) -> Result<(), WordFault<'a>> {
     let failed = failed_of(chains, failed)?;
-    put_number(chains.alloc(), greatest_cut(chains, &failed)?.rounds, out)?;
+    put_number(rounds_of(chains, &failed)?, out)?;
     Ok(())
 }
 
 // Whether the place knows the process after the position.
-fn put_whether_knowing(
+fn put_whether_knowing<'a>(
     chains: &Chains,
     place: Place,
-    process: &str,
-    position: &str,
+    process: &'a str,
+    position: &'a str,
     out: &mut Vec<u8>,
-) -> Result<(), Fault> {
+) -> Result<(), WordFault<'a>> {
     let known = place_of(chains, process, position)?;
     put_whether(knows(chains, place, known.process, known.position), out)?;
     Ok(())
 }
 
-fn put_need(chains: &Chains, place: Place, process: &str, out: &mut Vec<u8>) -> Result<(), Fault> {
+fn put_need<'a>(
+    chains: &Chains,
+    place: Place,
+    process: &'a str,
+    out: &mut Vec<u8>,
+) -> Result<(), WordFault<'a>> {
     let process = process_of(chains, process)?;
-    put_number(chains.alloc(), need(chains, place, process), out)?;
+    put_number(need(chains, place, process), out)?;
     Ok(())
 }
 
 // One more than the last element of the process from `from` on and below `to` that the place knows.
-fn put_last_known(
+fn put_last_known<'a>(
     chains: &Chains,
     place: Place,
-    process: &str,
-    (from, to): (&str, &str),
+    process: &'a str,
+    (from, to): (&'a str, &'a str),
     out: &mut Vec<u8>,
-) -> Result<(), Fault> {
+) -> Result<(), WordFault<'a>> {
     let process = process_of(chains, process)?;
-    let (from, to) = (from.parse::<u32>()?, to.parse::<u32>()?);
-    put_number(
-        chains.alloc(),
-        last_known(chains, place, process, from, to),
-        out,
-    )?;
+    let (from, to) = (number_of(from)?, number_of(to)?);
+    put_number(last_known(chains, place, process, from, to), out)?;
     Ok(())
 }
 
-/// Answers a call on processes and places; whether the words are one.
-pub fn answer(chains: &Chains, words: &[&str], out: &mut Vec<u8>) -> Result<bool, Fault> {
+// Writes what the words ask for; whether they are a call.
+fn put_call<'a>(
+    chains: &Chains,
+    words: &[&'a str],
+    out: &mut Vec<u8>,
+) -> Result<bool, WordFault<'a>> {
     match *words {
         ["last_surviving", process, failed] => put_last_surviving(chains, process, failed, out)?,
         ["rounds", failed] => put_rounds(chains, failed, out)?,
@@ -156,4 +209,15 @@ pub fn answer(chains: &Chains, words: &[&str], out: &mut Vec<u8>) -> Result<bool
         _ => return Ok(false),
     }
     Ok(true)
+}
+
+/// Answers a call on processes and places; whether the words are one.
+pub fn answer(chains: &Chains, words: &[&str], out: &mut Vec<u8>) -> Result<bool, AllocError> {
+    match put_call(chains, words, out) {
+        Ok(is_call) => Ok(is_call),
+        Err(fault) => {
+            put_fault(&fault, out)?;
+            Ok(true)
+        }
+    }
 }

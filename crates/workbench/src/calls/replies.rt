@@ -1,8 +1,7 @@
 //! Replies as they are written.
 
-use super::fault::Fault;
 use report_line::{Code, Reply, write_reply};
-use std::alloc::Global;
+use std::alloc::AllocError;
 
 /// The cause of a refusal that a word names.
 fn code_of(word: &str) -> Option<Code> {
@@ -25,19 +24,25 @@ fn code_of(word: &str) -> Option<Code> {
     }
 }
 
+// The refusal for this cause that names nothing.
+fn put_refusal(code: Code, out: &mut Vec<u8>) -> Result<(), AllocError> {
+    let reply = Reply::No {
+        code,
+        name: None,
+        value: None,
+    };
+    let text = write_reply(*out.allocator(), &reply)?;
+    out.extend_from_slice(&text)
+}
+
 /// Answers a call on replies, which is a refusal that names nothing; whether the words are one.
-pub fn answer(alloc: Global, words: &[&str], out: &mut Vec<u8>) -> Result<bool, Fault> {
+pub fn answer(words: &[&str], out: &mut Vec<u8>) -> Result<bool, AllocError> {
     let ["refusal", word] = *words else {
         return Ok(false);
     };
     let Some(code) = code_of(word) else {
         return Ok(false);
     };
-    let reply = Reply::No {
-        code,
-        name: None,
-        value: None,
-    };
-    out.extend_from_slice(&write_reply(alloc, &reply)?)?;
+    put_refusal(code, out)?;
     Ok(true)
 }

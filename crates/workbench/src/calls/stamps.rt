@@ -1,60 +1,67 @@
 //! Calls on stamps.
 
-use super::event_trees::events_of;
-use super::fault::Fault;
+use super::answer::{Spelled, put_by, put_by_two, put_by_word};
+use event_tree::Events;
 use stamp::{Stamp, StampTextFault};
-use std::alloc::Global;
+use std::alloc::{AllocError, Global};
 
-fn stamp_of(alloc: Global, word: &str) -> Result<Stamp, StampTextFault> {
-    Stamp::parse(alloc, word.as_bytes())
+impl Spelled for Stamp {
+    type Fault = StampTextFault;
+
+    fn of(alloc: Global, word: &str) -> Result<Stamp, StampTextFault> {
+        Stamp::parse(alloc, word.as_bytes())
+    }
 }
 
-fn put_stamp(alloc: Global, stamp: &str, out: &mut Vec<u8>) -> Result<(), Fault> {
-    stamp_of(alloc, stamp)?.copy(alloc)?.write_to(out)?;
-    Ok(())
+fn put_first(out: &mut Vec<u8>) -> Result<(), AllocError> {
+    Stamp::first(*out.allocator()).write_to(out)
 }
 
-fn put_after_event(alloc: Global, stamp: &str, out: &mut Vec<u8>) -> Result<(), Fault> {
-    stamp_of(alloc, stamp)?.event(alloc)?.write_to(out)?;
-    Ok(())
+fn put_copy(stamp: &Stamp, out: &mut Vec<u8>) -> Result<(), AllocError> {
+    stamp.copy(*out.allocator())?.write_to(out)
 }
 
-fn put_message(alloc: Global, stamp: &str, out: &mut Vec<u8>) -> Result<(), Fault> {
-    stamp_of(alloc, stamp)?.peek(alloc)?.write_to(out)?;
-    Ok(())
+fn put_after_event(stamp: &Stamp, out: &mut Vec<u8>) -> Result<(), AllocError> {
+    put_by(stamp.event(*out.allocator()), out, Stamp::write_to)
 }
 
-fn put_fork(alloc: Global, stamp: &str, out: &mut Vec<u8>) -> Result<(), Fault> {
-    let (kept, given) = stamp_of(alloc, stamp)?.fork(alloc)?;
-    kept.write_to(out)?;
+fn put_message(stamp: &Stamp, out: &mut Vec<u8>) -> Result<(), AllocError> {
+    stamp.peek(*out.allocator())?.write_to(out)
+}
+
+fn put_both(stamps: &(Stamp, Stamp), out: &mut Vec<u8>) -> Result<(), AllocError> {
+    stamps.0.write_to(out)?;
     out.push(b' ')?;
-    given.write_to(out)?;
-    Ok(())
+    stamps.1.write_to(out)
+}
+
+fn put_fork(stamp: &Stamp, out: &mut Vec<u8>) -> Result<(), AllocError> {
+    put_by(stamp.fork(*out.allocator()), out, put_both)
 }
 
 // The stamp behind a message with these events.
-fn put_received(alloc: Global, stamp: &str, came: &str, out: &mut Vec<u8>) -> Result<(), Fault> {
-    let after = stamp_of(alloc, stamp)?.receive(alloc, &events_of(alloc, came)?)?;
-    after.write_to(out)?;
-    Ok(())
+fn put_received(stamp: &Stamp, came: &Events, out: &mut Vec<u8>) -> Result<(), AllocError> {
+    put_by(stamp.receive(*out.allocator(), came), out, Stamp::write_to)
 }
 
-fn put_absorbed(alloc: Global, stamp: &str, retired: &str, out: &mut Vec<u8>) -> Result<(), Fault> {
-    let after = stamp_of(alloc, stamp)?.absorb(alloc, &stamp_of(alloc, retired)?)?;
-    after.write_to(out)?;
-    Ok(())
+fn put_absorbed(stamp: &Stamp, retired: &Stamp, out: &mut Vec<u8>) -> Result<(), AllocError> {
+    put_by(
+        stamp.absorb(*out.allocator(), retired),
+        out,
+        Stamp::write_to,
+    )
 }
 
 /// Answers a call on stamps; whether the words are one.
-pub fn answer(alloc: Global, words: &[&str], out: &mut Vec<u8>) -> Result<bool, Fault> {
+pub fn answer(words: &[&str], out: &mut Vec<u8>) -> Result<bool, AllocError> {
     match *words {
-        ["first"] => Stamp::first(alloc).write_to(out)?,
-        ["stamp", stamp] => put_stamp(alloc, stamp, out)?,
-        ["event", stamp] => put_after_event(alloc, stamp, out)?,
-        ["peek", stamp] => put_message(alloc, stamp, out)?,
-        ["fork", stamp] => put_fork(alloc, stamp, out)?,
-        ["receive", stamp, came] => put_received(alloc, stamp, came, out)?,
-        ["absorb", stamp, retired] => put_absorbed(alloc, stamp, retired, out)?,
+        ["first"] => put_first(out)?,
+        ["stamp", stamp] => put_by_word(stamp, out, put_copy)?,
+        ["event", stamp] => put_by_word(stamp, out, put_after_event)?,
+        ["peek", stamp] => put_by_word(stamp, out, put_message)?,
+        ["fork", stamp] => put_by_word(stamp, out, put_fork)?,
+        ["receive", stamp, came] => put_by_two(stamp, came, out, put_received)?,
+        ["absorb", stamp, retired] => put_by_two(stamp, retired, out, put_absorbed)?,
         _ => return Ok(false),
     }
     Ok(true)

@@ -7,18 +7,34 @@ use std::alloc::Global;
 use std::rt::Clock;
 use std::time::Instant;
 
+/// Adds both parts of a fork, of which the left one makes an event.
+fn add_parts(alloc: Global, parts: &(Stamp, Stamp), family: &mut Vec<Stamp>) -> Result<()> {
+    family.push(parts.0.event(alloc)?)?;
+    family.push(parts.1.copy(alloc)?)?;
+    Ok(())
+}
+
+/// Adds what a process forks into.
+fn add_fork(alloc: Global, stamp: &Stamp, family: &mut Vec<Stamp>) -> Result<()> {
+    let parts = stamp.fork(alloc)?;
+    add_parts(alloc, &parts, family)
+}
+
+/// What each process of the family forks into.
+fn forked(alloc: Global, stamps: &[Stamp]) -> Result<Vec<Stamp>> {
+    let mut family = Vec::new(alloc);
+    for stamp in stamps {
+        add_fork(alloc, stamp, &mut family)?;
+    }
+    Ok(family)
+}
+
 /// The stamps of a family that forked `rounds` times, each process into two.
 fn family(alloc: Global, rounds: u32) -> Result<Vec<Stamp>> {
     let mut stamps = Vec::new(alloc);
     stamps.push(Stamp::first(alloc))?;
     for _ in 0..rounds {
-        let mut next = Vec::new(alloc);
-        for stamp in &stamps {
-            let (left, right) = stamp.fork(alloc)?;
-            next.push(left.event(alloc)?)?;
-            next.push(right)?;
-        }
-        stamps = next;
+        stamps = forked(alloc, &stamps)?;
     }
     Ok(stamps)
 }
@@ -64,20 +80,23 @@ fn comparisons(stamps: &[Stamp], known: &Events, times: u32) -> bool {
     true
 }
 
-/// Measures a family of 2 to the power of `rounds`, with `times` rounds of each operation.
-fn measure(rt: &HostRuntime, rounds: u32, times: u32) -> Result<()> {
+/// Measures this family, which knows that together, with `times` rounds of each operation.
+fn measure_operations(
+    rt: &HostRuntime,
+    stamps: &[Stamp],
+    known: &Events,
+    times: u32,
+) -> Result<()> {
     let alloc = rt.alloc();
-    let stamps = family(alloc, rounds)?;
-    let known = known_by_all(alloc, &stamps)?;
     let processes = stamps.len();
     let start = Instant::now(rt)?;
-    events(alloc, &stamps, times)?;
+    events(alloc, stamps, times)?;
     let for_events = start.elapsed(rt)?.as_micros();
     let start = Instant::now(rt)?;
-    joins(alloc, &stamps, &known, times)?;
+    joins(alloc, stamps, known, times)?;
     let for_joins = start.elapsed(rt)?.as_micros();
     let start = Instant::now(rt)?;
-    let as_they_must = comparisons(&stamps, &known, times);
+    let as_they_must = comparisons(stamps, known, times);
     let for_comparisons = start.elapsed(rt)?.as_micros();
     anyhow::ensure!(as_they_must, "a comparison came out wrong");
     eprintln!(rt;
@@ -85,6 +104,17 @@ fn measure(rt: &HostRuntime, rounds: u32, times: u32) -> Result<()> {
     )?;
     println!(rt; "{processes} processes")?;
     Ok(())
+}
+
+fn measure_family(rt: &HostRuntime, stamps: &[Stamp], times: u32) -> Result<()> {
+    let known = known_by_all(rt.alloc(), stamps)?;
+    measure_operations(rt, stamps, &known, times)
+}
+
+/// Measures a family of 2 to the power of `rounds`, with `times` rounds of each operation.
+fn measure(rt: &HostRuntime, rounds: u32, times: u32) -> Result<()> {
+    let stamps = family(rt.alloc(), rounds)?;
+    measure_family(rt, &stamps, times)
 }
 
 /// Measures the three families.

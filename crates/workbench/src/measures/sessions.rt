@@ -3,10 +3,11 @@
 
 use crate::calls::new_desk;
 use anyhow::Result;
+use client_link::Streams;
 use desk::Desk;
 use line_disk::NullDisk;
 use report_line::{Call, PackedReport, Shared, read_line};
-use session::{Streams, run};
+use session::run;
 use std::alloc::{AllocError, Global};
 use std::io::BufWriter;
 use std::rt::Clock;
@@ -31,22 +32,32 @@ fn lines(alloc: Global) -> Result<Vec<u8>, AllocError> {
     Ok(text)
 }
 
+/// Whether it is another report than the one before.
+fn is_new(last: &Option<Shared<PackedReport>>, report: &PackedReport) -> bool {
+    match last {
+        None => true,
+        Some(before) => !before.equal(report),
+    }
+}
+
+/// Reads a line, and compares its report with the one before, in whose place it comes; whether it is a new one.
+fn read_next(alloc: Global, last: &mut Option<Shared<PackedReport>>, line: &[u8]) -> bool {
+    let Ok(Call::Report(report)) = read_line(alloc, line) else {
+        return false;
+    };
+    let is_new = is_new(last, &report);
+    *last = Some(report);
+    is_new
+}
+
 /// Reads the lines and compares each report with the one before; how many were reports.
 fn plain_loop(alloc: Global, input: &[u8]) -> u64 {
     let mut reports = 0u64;
     let mut last: Option<Shared<PackedReport>> = None;
     for line in input.split(|b| *b == b'\n') {
-        let Ok(Call::Report(report)) = read_line(alloc, line) else {
-            continue;
-        };
-        let is_new = match &last {
-            None => true,
-            Some(before) => !before.equal(&report),
-        };
-        if is_new {
+        if read_next(alloc, &mut last, line) {
             reports = reports.wrapping_add(1);
         }
-        last = Some(report);
     }
     reports
 }
@@ -78,12 +89,19 @@ fn time_serving(
     Ok(u64::try_from(took)?)
 }
 
-/// How long a session takes that serves the lines, in microseconds. Making the desk and dropping it is not counted.
-fn time_session(rt: &HostRuntime, input: &[u8]) -> Result<u64> {
-    let mut desk = new_desk(rt.alloc())?;
+/// How long a session over this desk takes that serves the lines, in microseconds.
+fn time_over(rt: &HostRuntime, desk: &mut Desk<NullDisk>, input: &[u8]) -> Result<u64> {
     let output = BufWriter::new(rt.alloc(), Vec::new(rt.alloc()))?;
     let mut client = Streams::new(input, output);
-    time_serving(rt, &mut desk, &mut client)
+    time_serving(rt, desk, &mut client)
+}
+
+/// The same over a new desk. Making it and dropping it is not counted.
+fn time_session(rt: &HostRuntime, input: &[u8]) -> Result<u64> {
+    let mut desk = new_desk(rt.alloc())?;
+    let time = time_over(rt, &mut desk, input);
+    drop(desk);
+    time
 }
 
 /// How long both take in turn, in microseconds for all runs: the plain loop, and the sessions.
@@ -106,23 +124,28 @@ fn keep_memory(rt: &HostRuntime, input: &[u8]) -> Result<()> {
     Ok(())
 }
 
-/// Measures the sessions.
-pub fn measure_all(rt: &HostRuntime) -> Result<()> {
-    let input = lines(rt.alloc())?;
-    let plain = time_plain_loop(rt, &input)?;
-    let served = time_session(rt, &input)?;
+/// Measures the sessions that serve these lines.
+fn measure(rt: &HostRuntime, input: &[u8]) -> Result<()> {
+    let plain = time_plain_loop(rt, input)?;
+    let served = time_session(rt, input)?;
     eprintln!(rt;
         "the first of the program:      plain loop {plain}, session {served} microseconds"
     )?;
-    let (plain, served) = time_both(rt, &input)?;
+    let (plain, served) = time_both(rt, input)?;
     eprintln!(rt;
         "memory fresh from the system: plain loop {plain}, sessions {served} microseconds"
     )?;
-    keep_memory(rt, &input)?;
-    let (plain, served) = time_both(rt, &input)?;
+    keep_memory(rt, input)?;
+    let (plain, served) = time_both(rt, input)?;
     eprintln!(rt;
         "memory that was used before:  plain loop {plain}, sessions {served} microseconds"
     )?;
     println!(rt; "{LINES} lines, {RUNS} runs each")?;
     Ok(())
+}
+
+/// Measures the sessions.
+pub fn measure_all(rt: &HostRuntime) -> Result<()> {
+    let input = lines(rt.alloc())?;
+    measure(rt, &input)
 }

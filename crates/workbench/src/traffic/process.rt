@@ -1,6 +1,7 @@
 //! A process that reports what it does.
 
 use anyhow::{Result, bail};
+use id_tree::Id;
 use report_line::{Action, Name, NumberedReport, PackedReport, Report};
 use stamp::Stamp;
 use std::alloc::Global;
@@ -19,6 +20,13 @@ pub fn name_of(text: &str) -> Result<Name> {
         Some(name) => Ok(name),
         None => bail!("{text} is no name"),
     }
+}
+
+// The fork of this child by a process that keeps this id.
+fn fork_of(alloc: Global, kept: &Id, child: &Process) -> Result<Action> {
+    let kept = kept.copy(alloc)?;
+    let given = child.stamp.id.copy(alloc)?;
+    Ok(Action::fork(alloc, kept, child.name.copy(), given)?)
 }
 
 impl Process {
@@ -51,25 +59,29 @@ impl Process {
 
     /// It takes a checkpoint.
     pub fn check(&mut self, alloc: Global) -> Result<PackedReport> {
+        self.stamp = self.stamp.event(alloc)?;
+        let stamp = self.stamp.copy(alloc)?;
+        Ok(self.report(stamp, Action::Check))
+    }
+
+    // The report that it forks this child, and goes on as `kept`.
+    fn report_fork(&mut self, alloc: Global, kept: &Id, child: &Process) -> Result<PackedReport> {
         let after = self.stamp.event(alloc)?;
-        self.stamp = after.copy(alloc)?;
-        Ok(self.report(after, Action::Check))
+        let action = fork_of(alloc, kept, child)?;
+        Ok(self.report(after, action))
     }
 
     /// It forks a child of this name.
     pub fn fork(&mut self, alloc: Global, name: Name) -> Result<(PackedReport, Process)> {
-        let after = self.stamp.event(alloc)?;
         let (kept, given) = self.stamp.fork(alloc)?;
-        let kept_id = kept.id.copy(alloc)?;
-        let given_id = given.id.copy(alloc)?;
-        let action = Action::fork(alloc, kept_id, name.copy(), given_id)?;
-        self.stamp = kept;
         let child = Process {
             name,
             stamp: given,
             reports: 0,
         };
-        Ok((self.report(after, action), child))
+        let report = self.report_fork(alloc, &kept.id, &child)?;
+        self.stamp = kept;
+        Ok((report, child))
     }
 
     /// It sends a message, which carries its events after an event.

@@ -1,7 +1,8 @@
 //! Scripts, and the clock operations of their steps.
 
-use super::streams::{ends_of, forks, round_at, send};
-use anyhow::{Result, bail};
+use super::process::Process;
+use super::streams::{ends_of, exchange, forks, round_at};
+use anyhow::Result;
 use std::alloc::Global;
 use std::io::{self, Write};
 use std::num::NonZeroU32;
@@ -35,16 +36,23 @@ pub fn script<W: Write>(
     Ok(())
 }
 
-/// The clock operations of that script. The reports of its forks, which are few, are made too, and go nowhere.
-pub fn steps(alloc: Global, processes: NonZeroU32, turns: u32) -> Result<()> {
-    let mut family = forks(alloc, &mut io::sink(), processes.get() - 1)?;
+// The clock operations of a script, by the family that they fill. The reports of its forks, which are few, are made too, and
+// go nowhere.
+fn make_steps(
+    alloc: Global,
+    family: &mut Vec<Process>,
+    processes: NonZeroU32,
+    turns: u32,
+) -> Result<()> {
+    forks(alloc, &mut io::sink(), family, processes.get() - 1)?;
     for turn in 0..turns {
-        let (sender, receiver) = ends_of(turn, processes);
-        let sent = send(alloc, &mut family, sender)?;
-        let Some(process) = family.get_mut(receiver as usize) else {
-            bail!("there is no process {receiver}");
-        };
-        process.receive(alloc, &sent)?;
+        let _receiver = exchange(alloc, family, turn, processes)?;
     }
     Ok(())
+}
+
+/// The clock operations of that script alone.
+pub fn steps(alloc: Global, processes: NonZeroU32, turns: u32) -> Result<()> {
+    let mut family = Vec::new(alloc);
+    make_steps(alloc, &mut family, processes, turns)
 }

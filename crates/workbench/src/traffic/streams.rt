@@ -3,7 +3,6 @@
 use super::process::{Process, name_of};
 use anyhow::{Result, bail};
 use report_line::{Name, PackedReport, write_line};
-use stamp::Stamp;
 use std::alloc::Global;
 use std::io::Write;
 use std::num::NonZeroU32;
@@ -12,16 +11,32 @@ use std::num::NonZeroU32;
 const REPORT_LIMIT: u32 = 16_384;
 
 // Writes the line of a report.
-fn put<W: Write>(alloc: Global, out: &mut W, report: &PackedReport) -> Result<()> {
-    let line = write_line(alloc, report)?;
-    out.write_all(&line)?;
-    out.write_all(b"\n")?;
+fn put_line<W: Write>(alloc: Global, out: &mut W, report: &PackedReport) -> Result<()> {
+    let mut line = write_line(alloc, report)?;
+    line.push(b'\n')?;
+    Ok(out.write_all(&line)?)
+}
+
+fn put_lines<W: Write>(
+    alloc: Global,
+    out: &mut W,
+    report: &PackedReport,
+    times: u32,
+) -> Result<()> {
+    for _ in 0..times {
+        put_line(alloc, out, report)?;
+    }
     Ok(())
+}
+
+// Writes the line of a report so many times. It takes the report, so that it is dropped at one place.
+fn put<W: Write>(alloc: Global, out: &mut W, report: PackedReport, times: u32) -> Result<()> {
+    put_lines(alloc, out, &report, times)
 }
 
 // Writes the line by which a root begins.
 fn put_begin<W: Write>(alloc: Global, out: &mut W, root: &Process) -> Result<()> {
-    put(alloc, out, &root.begin())
+    put(alloc, out, root.begin(), 1)
 }
 
 // Writes the line of a process's next checkpoint, so many times.
@@ -31,22 +46,23 @@ fn put_check<W: Write>(
     process: &mut Process,
     times: u32,
 ) -> Result<()> {
-    let report = process.check(alloc)?;
-    for _ in 0..times {
-        put(alloc, out, &report)?;
+    put(alloc, out, process.check(alloc)?, times)
+}
+
+// Writes the lines of this root as `limit` says.
+fn put_limit<W: Write>(alloc: Global, out: &mut W, root: &mut Process) -> Result<()> {
+    put_begin(alloc, out, root)?;
+    for _ in 2..REPORT_LIMIT {
+        put_check(alloc, out, root, 1)?;
     }
-    Ok(())
+    put_check(alloc, out, root, 2)?;
+    put_check(alloc, out, root, 1)
 }
 
 /// As many reports of one process as are accepted, the last one once more, and one report more.
 pub fn limit<W: Write>(alloc: Global, out: &mut W) -> Result<()> {
-    let mut process = Process::root(alloc, name_of("a")?);
-    put_begin(alloc, out, &process)?;
-    for _ in 2..REPORT_LIMIT {
-        put_check(alloc, out, &mut process, 1)?;
-    }
-    put_check(alloc, out, &mut process, 2)?;
-    put_check(alloc, out, &mut process, 1)
+    let mut root = Process::root(alloc, name_of("a")?);
+    put_limit(alloc, out, &mut root)
 }
 
 // The name of the process of this index, counted from 0.
@@ -64,36 +80,33 @@ pub fn round_at(round: u32, child: u32) -> u32 {
     }
 }
 
-/// A root and so many processes that descend from it: in each round each process that is there forks once, in order of
-/// birth. A round begins at each power of two, since it doubles the family.
-pub fn forks<W: Write>(alloc: Global, out: &mut W, forks: u32) -> Result<Vec<Process>> {
+// The process of this index.
+fn member(family: &mut [Process], index: u32) -> Result<&mut Process> {
+    match family.get_mut(index as usize) {
+        Some(process) => Ok(process),
+        None => bail!("there is no process {index}"),
+    }
+}
+
+// Begins a family by its root.
+fn begin<W: Write>(alloc: Global, out: &mut W, family: &mut Vec<Process>) -> Result<()> {
     let root = Process::root(alloc, member_name(alloc, 0)?);
     put_begin(alloc, out, &root)?;
-    let mut family = Vec::new(alloc);
-    family.push(root)?;
-    let mut round = 0u32;
-    for child in 1..=forks {
-        round = round_at(round, child);
-        let parent = child.wrapping_sub(round);
-        fork(alloc, out, &mut family, parent, child)?;
-    }
-    Ok(family)
+    Ok(family.push(root)?)
 }
 
-// A process forks a child, which is named by this index.
-fn forked<W: Write>(
+// Process `parent` forks process `child`, which is named by this index.
+fn forked(
     alloc: Global,
-    out: &mut W,
-    process: &mut Process,
+    family: &mut [Process],
+    parent: u32,
     child: u32,
-) -> Result<Process> {
+) -> Result<(PackedReport, Process)> {
     let name = member_name(alloc, child)?;
-    let (report, born) = process.fork(alloc, name)?;
-    put(alloc, out, &report)?;
-    Ok(born)
+    member(family, parent)?.fork(alloc, name)
 }
 
-// Process `parent` forks process `child`.
+// Process `parent` forks process `child`, which joins the family.
 fn fork<W: Write>(
     alloc: Global,
     out: &mut W,
@@ -101,26 +114,42 @@ fn fork<W: Write>(
     parent: u32,
     child: u32,
 ) -> Result<()> {
-    let Some(process) = family.get_mut(parent as usize) else {
-        bail!("there is no process {parent}");
-    };
-    let born = forked(alloc, out, process, child)?;
-    family.push(born)?;
+    let (report, born) = forked(alloc, family, parent, child)?;
+    put(alloc, out, report, 1)?;
+    Ok(family.push(born)?)
+}
+
+/// Fills the family by a root and so many processes that descend from it: in each round each process that is there forks
+/// once, in order of birth. A round begins at each power of two, since it doubles the family.
+pub fn forks<W: Write>(
+    alloc: Global,
+    out: &mut W,
+    family: &mut Vec<Process>,
+    forks: u32,
+) -> Result<()> {
+    begin(alloc, out, family)?;
+    let mut round = 0u32;
+    for child in 1..=forks {
+        round = round_at(round, child);
+        let parent = child.wrapping_sub(round);
+        fork(alloc, out, family, parent, child)?;
+    }
     Ok(())
 }
 
-/// A family of so many processes, and then messages, each with a checkpoint of its receiver, until so many reports are
-/// written.
+/// A family of so many processes, which it fills, and then messages, each with a checkpoint of its receiver, until so many
+/// reports are written.
 pub fn messages<W: Write>(
     alloc: Global,
     out: &mut W,
+    family: &mut Vec<Process>,
     processes: NonZeroU32,
     reports: u32,
 ) -> Result<()> {
-    let mut family = forks(alloc, out, processes.get() - 1)?;
+    forks(alloc, out, family, processes.get() - 1)?;
     for turn in 0..reports.saturating_sub(processes.get()) {
-        let (sender, receiver) = ends_of(turn, processes);
-        message(alloc, out, &mut family, sender, receiver)?;
+        let receiver = exchange(alloc, family, turn, processes)?;
+        put_check(alloc, out, member(family, receiver)?, 1)?;
     }
     Ok(())
 }
@@ -139,26 +168,15 @@ pub fn ends_of(turn: u32, processes: NonZeroU32) -> (u32, u32) {
     (sender as u32, other as u32)
 }
 
-// Process `sender` sends a message to process `receiver`, which then takes a checkpoint.
-fn message<W: Write>(
+/// The message of a turn is sent and received; who received it.
+pub fn exchange(
     alloc: Global,
-    out: &mut W,
     family: &mut [Process],
-    sender: u32,
-    receiver: u32,
-) -> Result<()> {
-    let sent = send(alloc, family, sender)?;
-    let Some(process) = family.get_mut(receiver as usize) else {
-        bail!("there is no process {receiver}");
-    };
-    process.receive(alloc, &sent)?;
-    put(alloc, out, &process.check(alloc)?)
-}
-
-/// Process `sender` sends a message.
-pub fn send(alloc: Global, family: &mut [Process], sender: u32) -> Result<Stamp> {
-    match family.get_mut(sender as usize) {
-        Some(process) => process.send(alloc),
-        None => bail!("there is no process {sender}"),
-    }
+    turn: u32,
+    processes: NonZeroU32,
+) -> Result<u32> {
+    let (sender, receiver) = ends_of(turn, processes);
+    let sent = member(family, sender)?.send(alloc)?;
+    member(family, receiver)?.receive(alloc, &sent)?;
+    Ok(receiver)
 }

@@ -1,5 +1,5 @@
 use Rattle.std.proofs.Common.{◌≡◌}
-use Rattle.session.specs.Links.{up, IsSound}
+use Rattle.client_link.specs.Links.{up, IsSound}
 use Rattle.recline.specs.Driving.{OnlyReads}
 use Rattle.recline.proofs.driving.read_all.Given as goal
 

@@ -1,8 +1,8 @@
 use Rattle.session.proofs.Gaining.{pass_lawful, link_served}
 use Rattle.session.proofs.over_coordinator.serve_link.Goals as goal
 
-pub serve-requires-clause-laws : goal.serve-requires-clause-laws
-serve-requires-clause-laws g c = pass_lawful
+pub serve-end-requires-clause-laws : goal.serve-end-requires-clause-laws
+serve-end-requires-clause-laws g c = pass_lawful
 
 pub returns : goal.returns
-returns g c = link_served g.K.Link.told _ _ _ _ _ _ c.serve.ensures.session c.serve.ensures.leaves
+returns g c = link_served g.K.Link.told _ _ _ _ _ _ _ c.serve-end.ensures.session c.serve-end.ensures.leaves c.end.ensures

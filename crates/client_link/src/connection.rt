@@ -1,0 +1,137 @@
+//! A connection as a link.
+
+ghost use Rattle.std.specs.Prelude.{◌≡◌, IfOk, None, [], false};
+ghost use Rattle.std.specs.Io.Buffered.{writer_contents, writer_buffer};
+
+use crate::half::Half;
+use crate::link::{Link, LinkFault};
+use crate::patience::Patient;
+use crate::screen::Screened;
+use std::alloc::{AllocError, Global};
+use std::io::{BufWriter, Read, Write};
+use std::mem;
+use std::net::TcpStream;
+use std::snapshot::Snapshot;
+use std::sync::Arc;
+use std::time::{Clock, Duration};
+
+/// What can be given back in order.
+pub trait HangUp {
+    /// Gives it back: the other end sees the end, and gets what was sent before.
+    fn hang_up(self);
+}
+
+/// A reader, and a writer behind a buffer, or where the link was ended what they were then.
+#[derive(Drop)]
+pub enum Wire<R, W: Write + Drop> {
+    /// The reader and the writer.
+    Open(R, BufWriter<W>),
+    /// What they were at the end, for clauses alone.
+    Ended(Snapshot<R>, Snapshot<BufWriter<W>>),
+}
+
+/// A connection as a link, which is given back where the link ends. What waits is what stands in the buffer.
+#[derive(Drop)]
+pub struct Connection<R, W: Write + Drop> {
+    wire: Wire<R, W>,
+    reads: u64,
+    failures: u64,
+    stalls: u64,
+}
+
+/// The connection of a client. A client that rests longer than the limit, from one LF to the next, fails at its next read, as does
+/// one that takes nothing for so long at a write. Of a browser nothing is read.
+pub type ClientConnection<C> = Connection<Screened<Patient<Half, C>>, Half>;
+
+impl<C: Clock + Drop> Connection<Screened<Patient<Half, C>>, Half> {
+    /// The connection over this stream. What is handed on is sent at once. The limit, if there is one, is not zero.
+    pub fn of_client(
+        alloc: Global,
+        clock: C,
+        stream: TcpStream,
+        limit: Option<Duration>,
+    ) -> Result<ClientConnection<C>, AllocError>
+        ensures { IfOk result (λ link. ⟦<ClientConnection<C> as Link>⟧.told link ≡ record { left = None; held = None; waiting = []; reads = 0; failures = 0; stalls = 0; ended = false }) }
+    {
+        // Where the options cannot be set the connection is gone, as reads and writes will tell.
+        let _sent_at_once = stream.set_nodelay(true);
+        let _limited = stream.set_write_timeout(limit);
+        let stream = Arc::new(alloc, stream)?;
+        let writer = Half(Arc::try_clone(&stream)?);
+        let Ok(output) = BufWriter::new(alloc, writer) else {
+            return Err(AllocError);
+        };
+        let input = Screened::new(Patient::new(clock, Half(stream), limit));
+        Ok(Connection::new(input, output))
+    }
+}
+
+impl<R: Read + HangUp, W: Write + Drop> Connection<R, W> {
+    /// No call was counted yet.
+    pub fn new(input: R, output: BufWriter<W>) -> Connection<R, W>
+        ensures { ⟦<Connection<R, W> as Link>⟧.told result ≡ record { left = R.remaining input; held = writer_contents W.contents output; waiting = writer_buffer output; reads = 0; failures = 0; stalls = 0; ended = false } }
+    {
+        Connection {
+            wire: Wire::Open(input, output),
+            reads: 0,
+            failures: 0,
+            stalls: 0,
+        }
+    }
+}
+
+impl<R: Read + HangUp, W: Write + Drop> Link for Connection<R, W> {
+    ghost use Rattle.client_link.specs.Connections.{input_of, output_of, is_ended};
+
+    ghost told = { λ s. record { left = R.remaining (input_of s.wire); held = writer_contents W.contents (output_of s.wire); waiting = writer_buffer (output_of s.wire); reads = s.reads; failures = s.failures; stalls = s.stalls; ended = is_ended s.wire } };
+
+    fn read(&mut self, buf: &mut [u8]) -> Result<usize, LinkFault> {
+        self.reads = self.reads.saturating_add(1);
+        if let Wire::Open(input, _) = &mut self.wire
+            && let Ok(n) = input.read(buf)
+        {
+            return Ok(n);
+        }
+        self.failures = self.failures.saturating_add(1);
+        Err(LinkFault::Device)
+    }
+
+    fn write(&mut self, buf: &[u8]) -> Result<usize, LinkFault> {
+        if let Wire::Open(_, output) = &mut self.wire
+            && let Ok(n) = output.write(buf)
+        {
+            if n == 0 && !buf.is_empty() {
+                self.stalls = self.stalls.saturating_add(1);
+            }
+            return Ok(n);
+        }
+        self.failures = self.failures.saturating_add(1);
+        Err(LinkFault::Device)
+    }
+
+    fn hand_on(&mut self) -> Result<(), LinkFault> {
+        if let Wire::Open(_, output) = &mut self.wire
+            && let Ok(()) = output.flush()
+        {
+            return Ok(());
+        }
+        self.failures = self.failures.saturating_add(1);
+        Err(LinkFault::Device)
+    }
+
+    fn end(&mut self) {
+        let Wire::Open(input, output) = &self.wire else {
+            return;
+        };
+        let last = Wire::Ended(Snapshot::of(input), Snapshot::of(output));
+        if let Wire::Open(input, output) = mem::replace(&mut self.wire, last) {
+            // What waits is not written: a buffer that is dropped would do that.
+            let (_writer, _waiting) = output.into_parts();
+            input.hang_up();
+        }
+    }
+
+    fn failures(&self) -> u64 {
+        self.failures
+    }
+}

@@ -1,0 +1,18 @@
+//! Clients, as streams of bytes: one to read and one to write, which tell what was read and written, and how many calls failed.
+//!
+//! A link may be a reader and a writer, a connection, or bytes in memory. It can be ended, and is silent from then on.
+#![tactic(auto)]
+
+mod connection;
+mod half;
+mod link;
+mod memory_link;
+mod patience;
+mod request;
+mod screen;
+mod streams;
+
+pub use connection::{ClientConnection, Connection, HangUp};
+pub use link::{Link, LinkFault, put, put_all};
+pub use memory_link::MemoryLink;
+pub use streams::Streams;

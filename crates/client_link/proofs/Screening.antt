@@ -175,7 +175,7 @@ kept_consumes (Some xs) None b bytes k p = absurd k
 kept_consumes (Some xs) (Some ys) None bytes k p = absurd p
 kept_consumes (Some xs) (Some ys) (Some zs) bytes k p = sym k ∙ p
 
-pub reads_on : {E : Type 0} (o a b : Option (List ℕ)) (r : Result ℕ E) (buf : List ℕ) → Keeps o a → ReadConsumes a b r buf → ReadConsumes o b r buf
+reads_on : {E : Type 0} (o a b : Option (List ℕ)) (r : Result ℕ E) (buf : List ℕ) → Keeps o a → ReadConsumes a b r buf → ReadConsumes o b r buf
 reads_on o a b (Ok n) buf k p = (kept_consumes o a b (take n buf) k p.0, p.1)
 reads_on o a b (Err e) buf k p = keeps_then o a b k p
 

@@ -1,5 +1,5 @@
 -- What connections tell.
-use Rattle.std.specs.Prelude.{ℕ, Bool, true, false, List, [], ◌++◌, Option, option_map, slice_range}
+use Rattle.std.specs.Prelude.{ℕ, None, Some, List, [], ◌++◌, Option, option_map, slice_range}
 use Rattle.client_link.specs.Requests.{from_client}
 use Rattle.client_link.specs.declared.request.Look.{Look}
 use Rattle.client_link.specs.declared.request.Look.TheVariants.{Whole, Part, Other}
@@ -26,14 +26,14 @@ screened remaining s = option_map (given_of s.look (held_back s)) (remaining s.s
 -- the reader of a connection, or what it was when the link ended
 abbrev pub input_of : {R W : Type 0} → Wire R W → R
 input_of (Open input output) = input
-input_of (Ended input output) = input.value
+input_of (Ended input output failures) = input.value
 
 -- the writer of a connection with its buffer, or what they were when the link ended
 abbrev pub output_of : {R W : Type 0} → Wire R W → BufWriter W Global
 output_of (Open input output) = output
-output_of (Ended input output) = output.value
+output_of (Ended input output failures) = output.value
 
--- whether the link was ended
-abbrev pub is_ended : {R W : Type 0} → Wire R W → Bool
-is_ended (Open input output) = false
-is_ended (Ended input output) = true
+-- how many calls had failed when the link was ended, if it was
+abbrev pub failed_at_end : {R W : Type 0} → Wire R W → Option ℕ
+failed_at_end (Open input output) = None
+failed_at_end (Ended input output failures) = Some failures

@@ -1,5 +1,5 @@
 -- What a link tells of itself, and what reads, writes, hand-ons and its end do to it.
-use Rattle.std.specs.Prelude.{◌≡◌, ◌⊎◌, ℕ, ◌+◌, ◌-◌, ◌^◌, ◌<◌, ◌==◌, ◌&&◌, not, min, max, if◌then◌else◌, Bool, true, false, List, [], ◌++◌, length, Option, Result, Ok, Err, OnOk}
+use Rattle.std.specs.Prelude.{◌≡◌, ◌⊎◌, ℕ, ◌+◌, ◌-◌, ◌^◌, ◌<◌, ◌==◌, ◌&&◌, not, min, max, if◌then◌else◌, List, [], ◌++◌, length, Option, None, Some, Result, Ok, Err, OnOk}
 use Rattle.std.specs.Io.KnownBytes.{Appends, Keeps, ReadConsumes, WriteAppends}
 
 -- a count that went up by n, as far as 64 bits count
@@ -7,8 +7,8 @@ abbrev pub up : ℕ → ℕ → ℕ
 up n count = max count (min (count + n) (2 ^ 64 - 1))
 
 -- The bytes that reads will give, and those that were taken, where they are known; which of those taken wait to be handed
--- on; how many reads were made; how many calls failed; how many writes took nothing; and whether the link was ended. Of one that
--- was ended all else stays as it was then.
+-- on; how many reads were made; how many calls failed; how many writes took nothing; and if the link was ended, how many calls had
+-- failed by then. A link that was ended gives and takes nothing more: each later call fails, and is counted.
 pub record LinkState : Type 0 where
   pub left : Option (List ℕ)
   pub held : Option (List ℕ)
@@ -16,7 +16,7 @@ pub record LinkState : Type 0 where
   pub reads : ℕ
   pub failures : ℕ
   pub stalls : ℕ
-  pub ended : Bool
+  pub ended : Option ℕ
 
 -- how many calls failed by then
 abbrev pub failures_after : {X E : Type 0} → Result X E → ℕ → ℕ
@@ -36,7 +36,7 @@ pub record IsRead {E : Type 0} (old new : LinkState) (result : Result ℕ E) (bu
   pub stalls : new.stalls ≡ old.stalls
   pub held : new.held ≡ old.held
   pub waiting : new.waiting ≡ old.waiting
-  pub lasts : OnOk result (old.ended ≡ false)
+  pub lasts : OnOk result (old.ended ≡ None)
   pub ended : new.ended ≡ old.ended
 
 -- a write took some of these bytes, from their front; which of those taken wait then is not said; of a link that was ended it fails
@@ -46,7 +46,7 @@ pub record IsWrite {E : Type 0} (old new : LinkState) (result : Result ℕ E) (b
   pub stalls : new.stalls ≡ stalls_after result buf old.stalls
   pub left : new.left ≡ old.left
   pub reads : new.reads ≡ old.reads
-  pub lasts : OnOk result (old.ended ≡ false)
+  pub lasts : OnOk result (old.ended ≡ None)
   pub ended : new.ended ≡ old.ended
 
 -- what was taken was handed on, and nothing more was taken; of a link that was ended it fails
@@ -57,12 +57,17 @@ pub record IsHandOn {E : Type 0} (old new : LinkState) (result : Result (Unit {0
   pub stalls : new.stalls ≡ old.stalls
   pub left : new.left ≡ old.left
   pub reads : new.reads ≡ old.reads
-  pub lasts : OnOk result (old.ended ≡ false)
+  pub lasts : OnOk result (old.ended ≡ None)
   pub ended : new.ended ≡ old.ended
+
+-- how many calls had failed at the first end, where there is one more behind so many
+abbrev pub at_first_end : Option ℕ → ℕ → Option ℕ
+at_first_end None failures = Some failures
+at_first_end (Some before) failures = Some before
 
 -- the link was ended, and tells all else as before: what waited was not handed on, and is not any more
 abbrev pub IsEnd : LinkState → LinkState → Type 0
-IsEnd old new = new ≡ record old { ended = true }
+IsEnd old new = new ≡ record old { ended = at_first_end old.ended old.failures }
 
 -- no call failed, and the link was not ended
 pub record IsSound (old new : LinkState) : Type 0 where

@@ -1,5 +1,5 @@
 -- What a link in memory tells beside what each link does.
-use Rattle.std.specs.Prelude.{◌≡◌, ◌⊎◌, ℕ, Option, Some, IsTrue}
+use Rattle.std.specs.Prelude.{◌≡◌, ◌⊎◌, ℕ, Option, Some, IsSome}
 use Rattle.client_link.specs.Links.{up}
 use Rattle.client_link.specs.declared.memory_link.MemoryLink.{MemoryLink}
 
@@ -21,7 +21,7 @@ IsDue link = failing_of link ≡ Some (up 1 (calls_of link))
 
 -- the link was ended
 abbrev pub IsOver : MemoryLink → Type 0
-IsOver link = IsTrue link.ended
+IsOver link = IsSome link.ended
 
 -- the next call fails
 abbrev pub Fails : MemoryLink → Type 0

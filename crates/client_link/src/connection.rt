@@ -1,6 +1,6 @@
 //! A connection as a link.
 
-ghost use Rattle.std.specs.Prelude.{◌≡◌, IfOk, None, [], false};
+ghost use Rattle.std.specs.Prelude.{◌≡◌, IfOk, None, []};
 ghost use Rattle.std.specs.Io.Buffered.{writer_contents, writer_buffer};
 
 use crate::half::Half;
@@ -26,8 +26,8 @@ pub trait HangUp {
 pub enum Wire<R, W: Write + Drop> {
     /// The reader and the writer.
     Open(R, BufWriter<W>),
-    /// What they were at the end, for clauses alone.
-    Ended(Snapshot<R>, Snapshot<BufWriter<W>>),
+    /// What they were at the end, for clauses alone, and how many calls had failed by then.
+    Ended(Snapshot<R>, Snapshot<BufWriter<W>>, u64),
 }
 
 /// A connection as a link, which is given back where the link ends. What waits is what stands in the buffer.
@@ -51,9 +51,9 @@ impl<C: Clock + Drop> Connection<Screened<Patient<Half, C>>, Half> {
         stream: TcpStream,
         limit: Option<Duration>,
     ) -> Result<ClientConnection<C>, AllocError>
-        ensures { IfOk result (λ link. ⟦<ClientConnection<C> as Link>⟧.told link ≡ record { left = None; held = None; waiting = []; reads = 0; failures = 0; stalls = 0; ended = false }) }
+        ensures { IfOk result (λ link. ⟦<ClientConnection<C> as Link>⟧.told link ≡ record { left = None; held = None; waiting = []; reads = 0; failures = 0; stalls = 0; ended = None }) }
     {
-        // Where the options cannot be set the connection is gone, as reads and writes will tell.
+        // A connection that is gone by now, whatever its options, is told by its reads and writes.
         let _sent_at_once = stream.set_nodelay(true);
         let _limited = stream.set_write_timeout(limit);
         let stream = Arc::new(alloc, stream)?;
@@ -69,7 +69,7 @@ impl<C: Clock + Drop> Connection<Screened<Patient<Half, C>>, Half> {
 impl<R: Read + HangUp, W: Write + Drop> Connection<R, W> {
     /// No call was counted yet.
     pub fn new(input: R, output: BufWriter<W>) -> Connection<R, W>
-        ensures { ⟦<Connection<R, W> as Link>⟧.told result ≡ record { left = R.remaining input; held = writer_contents W.contents output; waiting = writer_buffer output; reads = 0; failures = 0; stalls = 0; ended = false } }
+        ensures { ⟦<Connection<R, W> as Link>⟧.told result ≡ record { left = R.remaining input; held = writer_contents W.contents output; waiting = writer_buffer output; reads = 0; failures = 0; stalls = 0; ended = None } }
     {
         Connection {
             wire: Wire::Open(input, output),
@@ -81,9 +81,9 @@ impl<R: Read + HangUp, W: Write + Drop> Connection<R, W> {
 }
 
 impl<R: Read + HangUp, W: Write + Drop> Link for Connection<R, W> {
-    ghost use Rattle.client_link.specs.Connections.{input_of, output_of, is_ended};
+    ghost use Rattle.client_link.specs.Connections.{input_of, output_of, failed_at_end};
 
-    ghost told = { λ s. record { left = R.remaining (input_of s.wire); held = writer_contents W.contents (output_of s.wire); waiting = writer_buffer (output_of s.wire); reads = s.reads; failures = s.failures; stalls = s.stalls; ended = is_ended s.wire } };
+    ghost told = { λ s. record { left = R.remaining (input_of s.wire); held = writer_contents W.contents (output_of s.wire); waiting = writer_buffer (output_of s.wire); reads = s.reads; failures = s.failures; stalls = s.stalls; ended = failed_at_end s.wire } };
 
     fn read(&mut self, buf: &mut [u8]) -> Result<usize, LinkFault> {
         self.reads = self.reads.saturating_add(1);
@@ -123,7 +123,7 @@ impl<R: Read + HangUp, W: Write + Drop> Link for Connection<R, W> {
         let Wire::Open(input, output) = &self.wire else {
             return;
         };
-        let last = Wire::Ended(Snapshot::of(input), Snapshot::of(output));
+        let last = Wire::Ended(Snapshot::of(input), Snapshot::of(output), self.failures);
         if let Wire::Open(input, output) = mem::replace(&mut self.wire, last) {
             // What waits is not written: a buffer that is dropped would do that.
             let (_writer, _waiting) = output.into_parts();

@@ -32,7 +32,7 @@ pub trait Link {
     fn hand_on(&mut self) -> Result<(), LinkFault>
         ensures { IsHandOn (told self.old) (told self.new) result };
 
-    /// Ends the link: what waits is not handed on any more, and each later call but this one fails.
+    /// Ends the link: what waits is not handed on any more, and each later read, write and hand-on fails.
     fn end(&mut self)
         ensures { IsEnd (told self.old) (told self.new) };
 

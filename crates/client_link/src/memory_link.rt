@@ -1,6 +1,6 @@
 //! A link in memory.
 
-ghost use Rattle.std.specs.Prelude.{◌≡◌, ◌⊎◌, ◌↔◌, ◌<◌, ◌≤◌, [], Some, None, false, true, length, drop, IfOk, OnOk, OnErr, IsTrue};
+ghost use Rattle.std.specs.Prelude.{◌≡◌, ◌⊎◌, ◌↔◌, ◌<◌, ◌≤◌, [], Some, None, length, drop, IfOk, OnOk, OnErr, IsTrue};
 ghost use Rattle.std.specs.List.{flat_map};
 ghost use Rattle.client_link.specs.Links.{LinkState, IsRead, IsWrite, IsHandOn, IsEnd};
 ghost use Rattle.client_link.specs.Memory.{calls_of, failing_of, IsCall, IsOver, Fails};
@@ -24,7 +24,8 @@ pub struct MemoryLink {
     calls: u64,
     reads: u64,
     failures: u64,
-    ended: bool,
+    /// How many calls had failed when the link was ended, if it was.
+    ended: Option<u64>,
 }
 
 /// How many bytes from there on are of the piece that stands there, at most.
@@ -49,7 +50,7 @@ fn behind(bytes: &[u8], at: usize) -> &[u8]
 impl MemoryLink {
     /// A link that gives these pieces, with room for so many bytes to be written.
     pub fn new(alloc: Global, pieces: &[&[u8]], room: usize) -> Result<MemoryLink, AllocError>
-        ensures told { IfOk result (λ link. ⟦<MemoryLink as Link>⟧.told link ≡ record { left = Some (flat_map (λ p. p.now) pieces.now); held = Some []; waiting = []; reads = 0; failures = 0; stalls = 0; ended = false }) }
+        ensures told { IfOk result (λ link. ⟦<MemoryLink as Link>⟧.told link ≡ record { left = Some (flat_map (λ p. p.now) pieces.now); held = Some []; waiting = []; reads = 0; failures = 0; stalls = 0; ended = None }) }
         ensures no_call { IfOk result (λ link. calls_of link ≡ 0) }
         ensures no_plan { IfOk result (λ link. failing_of link ≡ None) }
     {
@@ -68,7 +69,7 @@ impl MemoryLink {
             calls: 0,
             reads: 0,
             failures: 0,
-            ended: false,
+            ended: None,
         })
     }
 
@@ -99,7 +100,7 @@ impl MemoryLink {
     fn fails(&self) -> bool
         ensures { IsTrue result ↔ ((failing_of self.now ≡ Some (calls_of self.now)) ⊎ IsOver self.now) }
     {
-        if self.ended {
+        if self.ended.is_some() {
             return true;
         }
         match self.failing {
@@ -169,7 +170,9 @@ impl Link for MemoryLink {
         ensures calls { calls_of self.new ≡ calls_of self.old }
         ensures plan { failing_of self.new ≡ failing_of self.old }
     {
-        self.ended = true;
+        if self.ended.is_none() {
+            self.ended = Some(self.failures);
+        }
     }
 
     fn failures(&self) -> u64 {

@@ -1,19 +1,14 @@
 //! A connection whose client may rest so long at most.
 
-ghost use Rattle.std.specs.Prelude.{◌≡◌, IsTrue, OnOk};
-ghost use Rattle.std.specs.Io.{ReadsAtMost};
-ghost use Rattle.std.specs.Io.KnownBytes.{ReadConsumes};
+ghost use Rattle.std.specs.Prelude.{◌≡◌};
 
 use crate::connection::HangUp;
-use std::io::{self, ErrorKind, Read, Write};
+use std::io::{self, ErrorKind, Read};
 use std::net::{OpenStream, Shutdown};
 use std::time::{Clock, Duration, Instant};
 
 /// How many bytes are read away at most where a connection ends.
 const MOST_AWAY: usize = 1_048_576;
-
-/// How often a read is made that is interrupted.
-const MOST_TRIES: u32 = 1_048_576;
 
 /// A connection of which reads wait for a limited time in all, from one LF to the next. The time that passes between two reads
 /// does not count.
@@ -47,22 +42,10 @@ fn time_left(limit: Duration, waited: Duration) -> io::Result<Duration> {
     }
 }
 
-/// Whether a read was interrupted: where there is a limit, a program that was stopped and goes on finds its reads so.
-fn is_interrupted(read: &io::Result<usize>) -> bool
-    ensures { IsTrue result → OnOk read.now ⊥ }
-{
-    match read {
-        Ok(_) => false,
-        Err(error) => error.kind() == ErrorKind::Interrupted,
-    }
-}
+impl<S: Read + OpenStream, C: Clock> Read for Patient<S, C> {
+    ghost remaining = { λ s. S.remaining s.stream };
 
-impl<S: Read + OpenStream, C: Clock> Patient<S, C> {
-    /// One read, which waits as long as is left.
-    fn read_once(&mut self, buf: &mut [u8]) -> io::Result<usize>
-        ensures bound { ReadsAtMost result buf.new }
-        ensures bytes { ReadConsumes (S.remaining self.old.stream) (S.remaining self.new.stream) result buf.new }
-    {
+    fn read(&mut self, buf: &mut [u8]) -> io::Result<usize> {
         let Some(limit) = self.limit else {
             return self.stream.read(buf);
         };
@@ -78,32 +61,6 @@ impl<S: Read + OpenStream, C: Clock> Patient<S, C> {
             self.waited.saturating_add(more)
         };
         Ok(n)
-    }
-}
-
-impl<S: Read + OpenStream, C: Clock> Read for Patient<S, C> {
-    ghost remaining = { λ s. S.remaining s.stream };
-
-    fn read(&mut self, buf: &mut [u8]) -> io::Result<usize> {
-        for _ in 0..MOST_TRIES {
-            let read = self.read_once(buf);
-            if !is_interrupted(&read) {
-                return read;
-            }
-        }
-        Err(io::Error::from(ErrorKind::Interrupted))
-    }
-}
-
-impl<S: Write, C> Write for Patient<S, C> {
-    ghost contents = { λ s. S.contents s.stream };
-
-    fn write(&mut self, buf: &[u8]) -> io::Result<usize> {
-        self.stream.write(buf)
-    }
-
-    fn flush(&mut self) -> io::Result<()> {
-        self.stream.flush()
     }
 }
 

@@ -7,7 +7,7 @@ ghost use Rattle.client_link.specs.declared.request.Look.TheVariants as looks;
 
 use crate::connection::HangUp;
 use crate::request::{Look, look_for_request};
-use std::io::{self, Read, Write};
+use std::io::{self, Read};
 
 /// A stream that is at its end at once where its first bytes are a method of HTTP and a space. As long as they may become that they
 /// are held back.
@@ -108,18 +108,6 @@ impl<S: Read> Read for Screened<S> {
             return Ok(self.give(buf));
         }
         self.stream.read(buf)
-    }
-}
-
-impl<S: Write> Write for Screened<S> {
-    ghost contents = { λ s. S.contents s.stream };
-
-    fn write(&mut self, buf: &[u8]) -> io::Result<usize> {
-        self.stream.write(buf)
-    }
-
-    fn flush(&mut self) -> io::Result<()> {
-        self.stream.flush()
     }
 }
 

@@ -1,6 +1,6 @@
 //! A reader and a writer of std as a link.
 
-ghost use Rattle.std.specs.Prelude.{◌≡◌, [], false};
+ghost use Rattle.std.specs.Prelude.{◌≡◌, [], None};
 ghost use Rattle.std.specs.Io.Buffered.{writer_contents, writer_buffer};
 ghost use Rattle.client_link.specs.Links.{LinkState};
 
@@ -15,13 +15,14 @@ pub struct Streams<R, W: Write + Drop> {
     reads: u64,
     failures: u64,
     stalls: u64,
-    ended: bool,
+    /// How many calls had failed when the link was ended, if it was.
+    ended: Option<u64>,
 }
 
 impl<R: Read, W: Write + Drop> Streams<R, W> {
     /// No call was counted yet.
     pub fn new(input: R, output: BufWriter<W>) -> Streams<R, W>
-        ensures { ⟦<Streams<R, W> as Link>⟧.told result ≡ record { left = R.remaining input; held = writer_contents W.contents output; waiting = writer_buffer output; reads = 0; failures = 0; stalls = 0; ended = false } }
+        ensures { ⟦<Streams<R, W> as Link>⟧.told result ≡ record { left = R.remaining input; held = writer_contents W.contents output; waiting = writer_buffer output; reads = 0; failures = 0; stalls = 0; ended = None } }
     {
         Streams {
             input,
@@ -29,7 +30,7 @@ impl<R: Read, W: Write + Drop> Streams<R, W> {
             reads: 0,
             failures: 0,
             stalls: 0,
-            ended: false,
+            ended: None,
         }
     }
 
@@ -49,7 +50,7 @@ impl<R: Read, W: Write + Drop> Link for Streams<R, W> {
 
     fn read(&mut self, buf: &mut [u8]) -> Result<usize, LinkFault> {
         self.reads = self.reads.saturating_add(1);
-        if self.ended {
+        if self.ended.is_some() {
             self.failures = self.failures.saturating_add(1);
             return Err(LinkFault::Device);
         }
@@ -63,7 +64,7 @@ impl<R: Read, W: Write + Drop> Link for Streams<R, W> {
     }
 
     fn write(&mut self, buf: &[u8]) -> Result<usize, LinkFault> {
-        if self.ended {
+        if self.ended.is_some() {
             self.failures = self.failures.saturating_add(1);
             return Err(LinkFault::Device);
         }
@@ -82,7 +83,7 @@ impl<R: Read, W: Write + Drop> Link for Streams<R, W> {
     }
 
     fn hand_on(&mut self) -> Result<(), LinkFault> {
-        if self.ended {
+        if self.ended.is_some() {
             self.failures = self.failures.saturating_add(1);
             return Err(LinkFault::Device);
         }
@@ -96,7 +97,9 @@ impl<R: Read, W: Write + Drop> Link for Streams<R, W> {
     }
 
     fn end(&mut self) {
-        self.ended = true;
+        if self.ended.is_none() {
+            self.ended = Some(self.failures);
+        }
     }
 
     fn failures(&self) -> u64 {

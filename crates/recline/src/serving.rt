@@ -15,7 +15,7 @@ use itoa::Buffer;
 use line_disk::Disk;
 use session::{Served, workers};
 use std::alloc::{AllocError, Global};
-use std::io::ErrorKind;
+use std::io::{self, ErrorKind};
 use std::marker::Brand;
 use std::net::{OpenListener, TcpStream};
 use std::sync::Wait;
@@ -134,7 +134,19 @@ fn write_end<O: Link>(output: &mut O, front: u32) -> Result<(), LinkFault>
     )
 }
 
-/// The next client. One that hung up before it was taken is passed over.
+/// The system's error where it has no buffers for one connection more.
+const NO_BUFFERS: i32 = 105;
+
+/// Why a service stops where it can take no client.
+fn stop_at(error: &io::Error) -> Stop {
+    if error.kind() == ErrorKind::OutOfMemory || error.raw_os_error() == Some(NO_BUFFERS) {
+        Stop::Memory
+    } else {
+        Stop::Device
+    }
+}
+
+/// The next client. One whose connection the system gave up before it was taken is passed over.
 fn next_client<T: OpenListener<Stream = TcpStream>, R: Wait>(
     rt: &R,
     listener: &T,
@@ -144,8 +156,7 @@ fn next_client<T: OpenListener<Stream = TcpStream>, R: Wait>(
             Ok((stream, _)) => return Ok(stream),
             Err(error) => match error.kind() {
                 ErrorKind::ConnectionAborted | ErrorKind::Interrupted => {}
-                ErrorKind::OutOfMemory => return Err(Stop::Memory),
-                _ => return Err(Stop::Device),
+                _ => return Err(stop_at(&error)),
             },
         }
     }

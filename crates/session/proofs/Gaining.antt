@@ -1,5 +1,5 @@
 -- Entries that a pass gained, one after the other.
-use Rattle.std.proofs.Common.{◌≡◌, ◌≢◌, ℕ, ◌<◌, List, [], ◌∷◌, ◌++◌, length, true, Some, None, Result, Ok, Err, refl, sym, ap, subst, ◌∙◌, append_assoc, append-nil, inl, inr, arith}
+use Rattle.std.proofs.Common.{◌≡◌, ◌≢◌, ℕ, ◌<◌, List, [], ◌∷◌, ◌++◌, length, Some, None, Result, Ok, Err, refl, sym, ap, subst, ◌∙◌, append_assoc, append-nil, inl, inr, arith}
 use Rattle.std.specs.Prelude.{◌⊎◌}
 use Rattle.std.specs.List.{slice_get}
 use Rattle.std.proofs.lemmas.List.{length-append}
@@ -16,7 +16,7 @@ use Rattle.report_line.specs.Cutting.{ended}
 use Rattle.report_line.specs.Replies.{reply_text}
 use Rattle.session.specs.declared.kind.Kind.{Kind}
 use Rattle.session.specs.declared.kind.Kind.TheVariants as kinds
-use Rattle.client_link.specs.Links.{LinkState, IsEnd, Puts}
+use Rattle.client_link.specs.Links.{LinkState, IsEnd, at_first_end, Puts}
 use Rattle.session.specs.SessionText.{Exchange, Means, at_pass, IsForeign}
 use Rattle.session.specs.Ends.{IsReadAt, Leaves}
 use Rattle.session.specs.Gained.{exchange_of, GainsEach, Gains, LinkServed}
@@ -133,7 +133,7 @@ told_read told link n earlier turned r =
 pub link_served : {K : Type 0} (told : K → LinkState) (link final : K) (now : LinkState) (pass after : PassState) (kind : Kind) (count : ℕ) → Ran GainsEach at_pass told link final pass after kind count → Leaves kind (told link) (told final) → IsEnd (told final) now
     → LinkServed (told link) now pass after kind count
 link_served told link final now pass after kind count r leaves ends =
-    let served : LinkServed (told link) (record (told final) { ended = true }) pass after kind count = record {
+    let served : LinkServed (told link) (record (told final) { ended = at_first_end (told final).ended (told final).failures }) pass after kind count = record {
       pieces = r.pieces;
       turned = r.turned;
       text = r.text;

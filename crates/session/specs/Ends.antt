@@ -45,7 +45,8 @@ pub record Ended {D K : Type 0} (keeps : D → Type 0) (told : K → LinkState) 
   pub lines : EachLineIsRight desk.held turned
   pub chosen : EachLineIsChosen desk.held turned
 
--- What a link tells where a session ends so: a read failed, or a write or a hand-on; or none did, and nothing waits. It was not ended.
+-- What a link tells where a session ends so: a read failed, or a write or a hand-on; or none did, and nothing waits. It was not
+-- ended.
 abbrev pub Leaves : Kind → LinkState → LinkState → Type 0
 Leaves kinds.ReadFailed old new = (new.failures ≡ up 1 old.failures) × (new.stalls ≡ old.stalls) × (new.waiting ≡ []) × (new.ended ≡ old.ended)
 Leaves kinds.WriteFailed old new = IsFault old new

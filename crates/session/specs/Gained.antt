@@ -29,7 +29,8 @@ pub record Gains (old : PassState) (exchanges : List Exchange) (new : PassState)
   pub number : new.number ≡ old.number
 
 -- A session over a pass: what each read gave, the session text of it, which was written, and the exchanges, which are those of the
--- entries that the pass gained; and what the link tells then: at last it was ended, and not before.
+-- entries that the pass gained; and what the link tells then: it was ended as the last thing, since no call
+-- failed behind its end.
 pub record LinkServed (before told : LinkState) (fresh pass : PassState) (kind : Kind) (count : ℕ) : Type 0 where
   pub pieces : List (List ℕ)
   pub turned : List Exchange

@@ -23,7 +23,7 @@ struct Pieces<'a> {
     writes: u64,
     failed: u64,
     stalled: u64,
-    ended: bool,
+    ended: Option<u64>,
     ghost some: { 0 < size },
 }
 
@@ -32,7 +32,7 @@ impl Link for Pieces<'_> {
 
     fn read(&mut self, buf: &mut [u8]) -> Result<usize, LinkFault> {
         self.reads = self.reads.saturating_add(1);
-        if self.ended || self.reads == self.fail_read {
+        if self.ended.is_some() || self.reads == self.fail_read {
             self.failed = self.failed.saturating_add(1);
             return Err(LinkFault::Device);
         }
@@ -46,7 +46,7 @@ impl Link for Pieces<'_> {
     fn write(&mut self, buf: &[u8]) -> Result<usize, LinkFault> {
         self.writes = self.writes.saturating_add(1);
         let n = buf.len().min(3);
-        if self.ended
+        if self.ended.is_some()
             || self.writes >= self.fail_write
             || self.written.extend_from_slice(&buf[..n]).is_err()
         {
@@ -60,7 +60,7 @@ impl Link for Pieces<'_> {
     }
 
     fn hand_on(&mut self) -> Result<(), LinkFault> {
-        if self.ended {
+        if self.ended.is_some() {
             self.failed = self.failed.saturating_add(1);
             return Err(LinkFault::Device);
         }
@@ -68,7 +68,9 @@ impl Link for Pieces<'_> {
     }
 
     fn end(&mut self) {
-        self.ended = true;
+        if self.ended.is_none() {
+            self.ended = Some(self.failed);
+        }
     }
 
     fn failures(&self) -> u64 {
@@ -89,7 +91,7 @@ fn pieces_of(alloc: Global, rest: &[u8], size: usize, fail_read: u64, fail_write
         writes: 0,
         failed: 0,
         stalled: 0,
-        ended: false,
+        ended: None,
     }
 }
 
@@ -125,7 +127,7 @@ fn sessions_end(rt: HostRuntime) -> Result<(), Fail> {
         let end = run(&mut desk, &mut client);
         assert_eq!(rt; end, SessionEnd { kind, replies });
         assert_eq!(rt; client.written.as_slice(), output.as_bytes());
-        assert!(rt; !client.ended);
+        assert!(rt; client.ended.is_none());
     }
     Ok(())
 }

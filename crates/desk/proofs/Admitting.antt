@@ -3,51 +3,55 @@ use Rattle.std.proofs.Common.{◌≡◌, ℕ, ◌+◌, ◌<◌, List, [], ◌∷
 use Rattle.std.specs.Prelude.{Vec}
 use Rattle.std.specs.declared.alloc.Global.{Global}
 use Rattle.std.proofs.lemmas.List.{map_push, take_more, drop_more, map-append}
-use Rattle.record_file.specs.File.{Stands}
-use Rattle.record_file.specs.Lines.{lines_in}
+use Rattle.record_file.specs.File.{Said, Stands}
+use Rattle.record_file.specs.Kept.{said_in}
 use Rattle.report_line.specs.declared.report.Report.{Report}
 use Rattle.chains.specs.Admission.{IsReachable}
-use Rattle.desk.specs.Files.{line_of, AreSpelled}
-use Rattle.desk.specs.Openings.{Reaches, RefusesLines, RefusesFile}
-use Rattle.desk.specs.Reading.{RefusesLine}
+use Rattle.desk.specs.Files.{said_of, AreSpelled}
+use Rattle.desk.specs.Openings.{Reaches, RefusesRecords, RefusesFile}
+use Rattle.desk.specs.Reading.{RefusesRecord}
 use Rattle.desk.specs.declared.fault.DeskFault.{DeskFault}
 use Rattle.desk.specs.declared.fault.DeskFault.TheVariants.{Foreign, Damaged, Line, Refused, Device, Memory}
-use Rattle.desk.proofs.Spelled.{lines_more}
+use Rattle.desk.proofs.Spelled.{said_more}
 
-module _ (xs : List (Vec ℕ Global)) (i : ℕ) (v : Vec ℕ Global) (accepted : List Report) (within : i < length xs) (is : v ≡ get_or xs i v) (so_far : lines_in (take i xs) ≡ map line_of accepted) where
-  next : lines_in (take (i + 1) xs) ≡ map line_of accepted ++ v.items ∷ []
+-- what a record says that the code keeps
+abbrev pub said_at : ℕ × Vec ℕ Global → Said
+said_at v = (v.0, v.1.items)
+
+module _ (xs : List (ℕ × Vec ℕ Global)) (i : ℕ) (v : ℕ × Vec ℕ Global) (accepted : List Report) (within : i < length xs) (is : v ≡ get_or xs i v) (so_far : said_in (take i xs) ≡ map said_of accepted) where
+  next : said_in (take (i + 1) xs) ≡ map said_of accepted ++ said_at v ∷ []
   next =
-      ap lines_in (take_more xs i v within) ∙ map_push (λ w. w.items) (take i xs) (get_or xs i v)
-      ∙ ap (λ (w : Vec ℕ Global). lines_in (take i xs) ++ w.items ∷ []) (sym is) ∙ ap (λ (ls : List (List ℕ)). ls ++ v.items ∷ []) so_far
+      ap said_in (take_more xs i v within) ∙ map_push said_at (take i xs) (get_or xs i v)
+      ∙ ap (λ (w : ℕ × Vec ℕ Global). said_in (take i xs) ++ said_at w ∷ []) (sym is) ∙ ap (λ (ss : List Said). ss ++ said_at v ∷ []) so_far
 
-  pub admitted_more : (r : Report) → v.items ≡ line_of r → lines_in (take (i + 1) xs) ≡ map line_of (accepted ++ r ∷ [])
-  admitted_more r line = next ∙ lines_more accepted r v.items line
+  pub admitted_more : (r : Report) → said_at v ≡ said_of r → said_in (take (i + 1) xs) ≡ map said_of (accepted ++ r ∷ [])
+  admitted_more r one = next ∙ said_more accepted r (said_at v) one
 
-  parts : lines_in xs ≡ map line_of accepted ++ v.items ∷ lines_in (drop (i + 1) xs)
+  parts : said_in xs ≡ map said_of accepted ++ said_at v ∷ said_in (drop (i + 1) xs)
   parts =
-      ap lines_in (sym (take-append-drop i xs) ∙ ap (λ (ys : List (Vec ℕ Global)). take i xs ++ ys) (drop_more xs i v within))
-      ∙ map-append (λ w. w.items) (take i xs) (get_or xs i v ∷ drop (i + 1) xs)
-      ∙ ap (λ (w : Vec ℕ Global). lines_in (take i xs) ++ w.items ∷ lines_in (drop (i + 1) xs)) (sym is)
-      ∙ ap (λ (ls : List (List ℕ)). ls ++ v.items ∷ lines_in (drop (i + 1) xs)) so_far
+      ap said_in (sym (take-append-drop i xs) ∙ ap (λ (ys : List (ℕ × Vec ℕ Global)). take i xs ++ ys) (drop_more xs i v within))
+      ∙ map-append said_at (take i xs) (get_or xs i v ∷ drop (i + 1) xs)
+      ∙ ap (λ (w : ℕ × Vec ℕ Global). said_in (take i xs) ++ said_at w ∷ said_in (drop (i + 1) xs)) (sym is)
+      ∙ ap (λ (ss : List Said). ss ++ said_at v ∷ said_in (drop (i + 1) xs)) so_far
 
   module _ (spelled : AreSpelled accepted) (admitted : IsReachable accepted) where
-    reaches : (k : ℕ) → k ≡ length accepted + 1 → Reaches (lines_in xs) k v.items
-    reaches k number = record { front = accepted; rest = lines_in (drop (i + 1) xs); parts = parts; number = number; spelled = spelled; admitted = admitted }
+    reaches : (k : ℕ) → k ≡ length accepted + 1 → Reaches (said_in xs) k (said_at v)
+    reaches k number = record { front = accepted; rest = said_in (drop (i + 1) xs); parts = parts; number = number; spelled = spelled; admitted = admitted }
 
-    pub refuses_lines : (k : ℕ) → k ≡ length accepted + 1 → (fault : DeskFault) → RefusesLine accepted k v.items fault → RefusesLines (lines_in xs) fault
+    pub refuses_records : (k : ℕ) → k ≡ length accepted + 1 → (fault : DeskFault) → RefusesRecord accepted k (said_at v) fault → RefusesRecords (said_in xs) fault
     unfolding reaches
-    refuses_lines k number (Line j) refused = (v.items, reaches j (refused.0 ∙ number), refused.1)
-    refuses_lines k number (Refused j code) refused = (v.items, reaches j (refused.0 ∙ number), refused.1)
-    refuses_lines k number Memory refused = tt
-    refuses_lines k number Foreign refused = refused
-    refuses_lines k number (Damaged j) refused = refused
-    refuses_lines k number Device refused = refused
+    refuses_records k number (Line j) refused = (said_at v, reaches j (refused.0 ∙ number), refused.1)
+    refuses_records k number (Refused j code) refused = (said_at v, reaches j (refused.0 ∙ number), refused.1)
+    refuses_records k number Memory refused = tt
+    refuses_records k number Foreign refused = refused
+    refuses_records k number (Damaged j) refused = refused
+    refuses_records k number Device refused = refused
 
 -- a file of refused records is refused
-pub refuses_file : (file : List ℕ) (lines : List (List ℕ)) (fault : DeskFault) → Stands lines file → RefusesLines lines fault → RefusesFile file fault
-refuses_file file lines (Line k) stands refused = (lines, stands, refused)
-refuses_file file lines (Refused k code) stands refused = (lines, stands, refused)
-refuses_file file lines Memory stands refused = tt
-refuses_file file lines Foreign stands refused = absurd refused
-refuses_file file lines (Damaged k) stands refused = absurd refused
-refuses_file file lines Device stands refused = absurd refused
+pub refuses_file : (file : List ℕ) (said : List Said) (fault : DeskFault) → Stands said file → RefusesRecords said fault → RefusesFile file fault
+refuses_file file said (Line k) stands refused = (said, stands, refused)
+refuses_file file said (Refused k code) stands refused = (said, stands, refused)
+refuses_file file said Memory stands refused = tt
+refuses_file file said Foreign stands refused = absurd refused
+refuses_file file said (Damaged k) stands refused = absurd refused
+refuses_file file said Device stands refused = absurd refused

@@ -1,7 +1,7 @@
 -- A file of reports that admission accepts in order is refused for nothing that it says.
-use Rattle.std.proofs.Common.{◌≡◌, ◌≢◌, inl, inr, ℕ, ◌+◌, List, [], ◌∷◌, ◌++◌, length, map, refl, sym, ◌∙◌, subst}
+use Rattle.std.proofs.Common.{◌≡◌, ◌≢◌, inl, inr, ℕ, ◌+◌, List, [], ◌∷◌, ◌++◌, length, map, refl, sym, ◌∙◌, ap, subst}
 use Rattle.std.proofs.lemmas.List.Elements.{All-head, All-tail}
-use Rattle.record_file.specs.File.{Stands}
+use Rattle.record_file.specs.File.{Said, Stands}
 use Rattle.record_file.proofs.Exclusion.{foreign_stands, damaged_stands}
 use Rattle.record_file.proofs.Openings.{one_list}
 use Rattle.report_line.specs.Spelling.{HasSpelling}
@@ -11,8 +11,8 @@ use Rattle.report_line.specs.declared.reply.Reply.TheVariants.{Accepted, Old, No
 use Rattle.chains.specs.Held.{counting}
 use Rattle.chains.specs.Admission.{IsReachable, nothing_accepted, one_more, Passes}
 use Rattle.chains.proofs.Reaching.{nothing_before, last_or_before}
-use Rattle.desk.specs.Files.{line_of, AreSpelled, StandsFor, MayStandFor, MayFollow, IsPending}
-use Rattle.desk.specs.Openings.{Reaches, IsOfNoReport, IsRefusedBy, IsRefusedWith, RefusesFile, IsNotOfTheFile}
+use Rattle.desk.specs.Files.{said_of, AreSpelled, StandsFor, MayStandFor, MayFollow, IsPending}
+use Rattle.desk.specs.Openings.{Reaches, IsRefusedBy, IsRecordOfNoReport, IsRecordRefusedWith, RefusesFile, IsNotOfTheFile}
 use Rattle.desk.specs.declared.fault.DeskFault.{DeskFault}
 use Rattle.desk.specs.declared.fault.DeskFault.TheVariants.{Foreign, Damaged, Line, Refused, Device, Memory}
 use Rattle.desk.specs.declared.turn.Turn.{Turn}
@@ -34,41 +34,42 @@ passes_at _ before after x (one_more accepted r reach passes) e =
       | inr earlier ↦ passes_at accepted before earlier.0 x reach earlier.1
     ]
 
--- ---- a line among those of reports is that of the report at its place
+-- ---- a record among those of reports is that of the report at its place
 
--- the report of a line, and what stands behind it
-record IsPlaced (front accepted : List Report) (line : List ℕ) : Type 0 where
+-- the report of a record, and what stands behind it
+record IsPlaced (front accepted : List Report) (one : Said) : Type 0 where
   report : Report
   later : List Report
   parts : accepted ≡ front ++ report ∷ later
-  says : line ≡ line_of report
+  says : one ≡ said_of report
   spelled : HasSpelling (calls.Report report)
 
-first_line : (r : Report) (line : List ℕ) (rs rest : List (List ℕ)) → line_of r ∷ rs ≡ line ∷ rest → line_of r ≡ line
-first_line r line rs rest e = cc
+first_said : (r : Report) (one : Said) (rs rest : List Said) → said_of r ∷ rs ≡ one ∷ rest → said_of r ≡ one
+first_said r one rs rest e = cc
 
-later_lines : (r : Report) (line : List ℕ) (rs rest : List (List ℕ)) → line_of r ∷ rs ≡ line ∷ rest → rs ≡ rest
-later_lines r line rs rest e = cc
+later_said : (r : Report) (one : Said) (rs rest : List Said) → said_of r ∷ rs ≡ one ∷ rest → rs ≡ rest
+later_said r one rs rest e = cc
 
 cons_same : (x y : Report) (xs ys : List Report) → x ≡ y → xs ≡ ys → x ∷ xs ≡ y ∷ ys
 cons_same x y xs ys e f = cc
 
-no_line : (front : List Report) (line : List ℕ) (rest : List (List ℕ)) → [] ≢ map line_of front ++ line ∷ rest
-no_line [] line rest e = cc
-no_line (r ∷ front) line rest e = cc
+none_said : (front : List Report) (one : Said) (rest : List Said) → [] ≢ map said_of front ++ one ∷ rest
+none_said [] one rest e = cc
+none_said (r ∷ front) one rest e = cc
 
-placed_more : (f r : Report) (front accepted : List Report) (line : List ℕ) → f ≡ r → IsPlaced front accepted line → IsPlaced (f ∷ front) (r ∷ accepted) line
-placed_more f r front accepted line same p =
+placed_more : (f r : Report) (front accepted : List Report) (one : Said) → f ≡ r → IsPlaced front accepted one → IsPlaced (f ∷ front) (r ∷ accepted) one
+placed_more f r front accepted one same p =
     record { report = p.report; later = p.later; parts = cons_same r f accepted (front ++ p.report ∷ p.later) (sym same) p.parts; says = p.says; spelled = p.spelled }
 
-placed : (front accepted : List Report) (line : List ℕ) (rest : List (List ℕ)) → AreSpelled front → AreSpelled accepted → map line_of accepted ≡ map line_of front ++ line ∷ rest → IsPlaced front accepted line
-placed front [] line rest has had e = absurd (no_line front line rest e)
-placed [] (r ∷ accepted) line rest has had e =
-    record { report = r; later = accepted; parts = refl; says = sym (first_line r line (map line_of accepted) rest e); spelled = All-head (λ (x : Report). HasSpelling (calls.Report x)) r accepted had }
-placed (f ∷ front) (r ∷ accepted) line rest has had e =
+placed : (front accepted : List Report) (one : Said) (rest : List Said) → AreSpelled front → AreSpelled accepted → map said_of accepted ≡ map said_of front ++ one ∷ rest → IsPlaced front accepted one
+placed front [] one rest has had e = absurd (none_said front one rest e)
+placed [] (r ∷ accepted) one rest has had e =
+    record { report = r; later = accepted; parts = refl; says = sym (first_said r one (map said_of accepted) rest e); spelled = All-head (λ (x : Report). HasSpelling (calls.Report x)) r accepted had }
+placed (f ∷ front) (r ∷ accepted) one rest has had e =
     let P = λ (x : Report). HasSpelling (calls.Report x) in
-    let first = sym (same_report r f (All-head P r accepted had) (All-head P f front has) (first_line r (line_of f) (map line_of accepted) (map line_of front ++ line ∷ rest) e)) in
-    placed_more f r front accepted line first (placed front accepted line rest (All-tail P f front has) (All-tail P r accepted had) (later_lines r (line_of f) (map line_of accepted) (map line_of front ++ line ∷ rest) e))
+    let line = ap (λ (x : Said). x.1) (first_said r (said_of f) (map said_of accepted) (map said_of front ++ one ∷ rest) e) in
+    let first = sym (same_report r f (All-head P r accepted had) (All-head P f front has) line) in
+    placed_more f r front accepted one first (placed front accepted one rest (All-tail P f front has) (All-tail P r accepted had) (later_said r (said_of f) (map said_of accepted) (map said_of front ++ one ∷ rest) e))
 
 -- ---- so nothing that the file says is refused
 
@@ -78,24 +79,25 @@ not_refused front r code passes (inr (why, name, value, is, refused)) =
     absurd (let e = one_answer (counting front) (Accepted (length front + 1)) (No why name value) r passes refused in cc)
 
 module _ (file : List ℕ) (accepted : List Report) (spelled : AreSpelled accepted) (reach : IsReachable accepted) (stands : StandsFor accepted file) where
-  at_place : (lines : List (List ℕ)) (k : ℕ) (line : List ℕ) → Stands lines file → (at : Reaches lines k line) → IsPlaced at.front accepted line
-  at_place lines k line stood at = placed at.front accepted line at.rest at.spelled spelled (one_list (map line_of accepted) lines file stands stood ∙ at.parts)
+  at_place : (said : List Said) (k : ℕ) (one : Said) → Stands said file → (at : Reaches said k one) → IsPlaced at.front accepted one
+  at_place said k one stood at = placed at.front accepted one at.rest at.spelled spelled (one_list (map said_of accepted) said file stands stood ∙ at.parts)
 
-  no_unread : (lines : List (List ℕ)) (k : ℕ) (line : List ℕ) → Stands lines file → Reaches lines k line → IsOfNoReport line → ⊥
-  no_unread lines k line stood at none = let p = at_place lines k line stood at in none p.report p.spelled p.says
+  no_unread : (said : List Said) (k : ℕ) (one : Said) → Stands said file → Reaches said k one → IsRecordOfNoReport one → ⊥
+  no_unread said k one stood at none = let p = at_place said k one stood at in none.1 p.report p.spelled (ap (λ (x : Said). x.1) p.says)
 
-  no_refused : (lines : List (List ℕ)) (k code : ℕ) (line : List ℕ) → Stands lines file → (at : Reaches lines k line) → IsRefusedWith at.front line code → ⊥
-  no_refused lines k code line stood at (r, has, says, refused) =
-      let p = at_place lines k line stood at in
-      let same = same_report p.report r p.spelled has (sym p.says ∙ says) in
+  no_refused : (said : List Said) (k code : ℕ) (one : Said) → Stands said file → (at : Reaches said k one) → IsRecordRefusedWith at.front one code → ⊥
+  no_refused said k code one stood at (inl (epoch, is)) = let p = at_place said k one stood at in epoch (ap (λ (x : Said). x.0) p.says)
+  no_refused said k code one stood at (inr (epoch, (r, has, says, refused))) =
+      let p = at_place said k one stood at in
+      let same = same_report p.report r p.spelled has (sym (ap (λ (x : Said). x.1) p.says) ∙ says) in
       let passes = passes_at accepted at.front p.later p.report reach p.parts in
       not_refused at.front r code (subst (λ (x : Report). Passes (counting at.front) x) same passes) refused
 
   pub own_file : (fault : DeskFault) → RefusesFile file fault → IsNotOfTheFile fault
-  own_file Foreign foreign = foreign_stands file (map line_of accepted) foreign stands
-  own_file (Damaged k) damaged = damaged_stands file k (map line_of accepted) damaged stands
-  own_file (Line k) (lines, stood, (line, at, none)) = no_unread lines k line stood at none
-  own_file (Refused k code) (lines, stood, (line, at, refused)) = no_refused lines k code line stood at refused
+  own_file Foreign foreign = foreign_stands file (map said_of accepted) foreign stands
+  own_file (Damaged k) damaged = damaged_stands file k (map said_of accepted) damaged stands
+  own_file (Line k) (said, stood, (one, at, none)) = no_unread said k one stood at none
+  own_file (Refused k code) (said, stood, (one, at, refused)) = no_refused said k code one stood at refused
   own_file Device refused = tt
   own_file Memory refused = tt
 

@@ -5,12 +5,13 @@ use Rattle.std.proofs.lemmas.List.Elements.{All-push}
 use Rattle.std.specs.Prelude.{codes}
 use Rattle.std.specs.List.{join_with_byte}
 use Rattle.std.specs.Fmt.{decimal}
+use Rattle.record_file.specs.File.{Said}
 use Rattle.stamp.specs.Stamps.{stamp_text}
 use Rattle.report_line.specs.Spelling.{spelling, action_word, action_fields, HasSpelling}
 use Rattle.report_line.specs.declared.report.Report.{Report}
 use Rattle.report_line.specs.declared.report.Report.TheVariants.{Begin, Numbered}
 use Rattle.report_line.specs.declared.call.Call.TheVariants as calls
-use Rattle.desk.specs.Files.{line_of, AreSpelled}
+use Rattle.desk.specs.Files.{line_of, said_of, AreSpelled}
 
 some_joined : (word next : List ℕ) (words : List (List ℕ)) → 1 ≤ length (join_with_byte 32 (word ∷ next ∷ words))
 some_joined word next words = omega (arith, length-append word (32 ∷ join_with_byte 32 (next ∷ words)))
@@ -21,9 +22,9 @@ unfolding spelling
 some_line (Begin p) = some_joined (codes "BEGIN") p []
 some_line (Numbered r) = some_joined (action_word r.action) r.process (decimal r.number ∷ stamp_text r.stamp ∷ action_fields r.action)
 
--- the lines of one report more
-pub lines_more : (accepted : List Report) (r : Report) (line : List ℕ) → line ≡ line_of r → map line_of accepted ++ line ∷ [] ≡ map line_of (accepted ++ r ∷ [])
-lines_more accepted r line is = ap (λ (l : List ℕ). map line_of accepted ++ l ∷ []) is ∙ sym (map_push line_of accepted r)
+-- the records of one report more
+pub said_more : (accepted : List Report) (r : Report) (one : Said) → one ≡ said_of r → map said_of accepted ++ one ∷ [] ≡ map said_of (accepted ++ r ∷ [])
+said_more accepted r one is = ap (λ (s : Said). map said_of accepted ++ s ∷ []) is ∙ sym (map_push said_of accepted r)
 
 pub spelled_more : (accepted : List Report) (r : Report) → HasSpelling (calls.Report r) → AreSpelled accepted → AreSpelled (accepted ++ r ∷ [])
 spelled_more accepted r has spelled = All-push (λ r. HasSpelling (calls.Report r)) accepted r spelled has

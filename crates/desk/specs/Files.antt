@@ -1,7 +1,7 @@
 -- What a record file says of reports.
 use Rattle.std.specs.Prelude.{◌≡◌, ◌⊎◌, ℕ, ◌≤◌, List, [], ◌∷◌, ◌++◌, map, length, All, Contains, false, ⊤}
 use Rattle.line_disk.specs.Disk.{one_more}
-use Rattle.record_file.specs.File.{Stands}
+use Rattle.record_file.specs.File.{Said, Stands}
 use Rattle.report_line.specs.Spelling.{spelling, HasSpelling}
 use Rattle.report_line.specs.declared.report.Report.{Report}
 use Rattle.report_line.specs.declared.call.Call.{Call}
@@ -18,13 +18,17 @@ use Rattle.desk.specs.declared.turn.Turn.{Turn}
 abbrev pub line_of : Report → List ℕ
 line_of r = spelling (calls.Report r)
 
+-- what the record of a report says: epoch 0, and its line
+abbrev pub said_of : Report → Said
+said_of r = (0, line_of r)
+
 -- each of the reports has a line
 abbrev pub AreSpelled : List Report → Type 0
 AreSpelled reports = All (λ r. HasSpelling (calls.Report r)) reports
 
--- the file stands for the lines of these reports
+-- the file stands for the records of these reports
 abbrev pub StandsFor : List Report → List ℕ → Type 0
-StandsFor accepted file = Stands (map line_of accepted) file
+StandsFor accepted file = Stands (map said_of accepted) file
 
 -- a report whose line is no longer than a record holds, or another call
 abbrev pub IsShort : Call → Type 0

@@ -8,18 +8,18 @@ use Rattle.report_line.specs.declared.call.Call.TheVariants as calls
 use Rattle.report_line.specs.declared.reply.Outcome.TheVariants.{Before, Unknown}
 use Rattle.report_line.specs.declared.reply.Reply.{Reply}
 use Rattle.report_line.specs.declared.reply.Reply.TheVariants.{Accepted, Fail}
-use Rattle.desk.specs.Files.{line_of, StandsFor}
+use Rattle.desk.specs.Files.{said_of, StandsFor}
 
--- the line of this report stood whole behind the closed gate of a file of the accepted ones, before that gate was written
+-- the record of this report stood whole behind the closed gate of a file of the accepted ones, before that gate was written
 abbrev pub IsUnderWay : List Report → Report → View → View → Type 0
-IsUnderWay accepted r old new = WasStaged (map line_of accepted) (line_of r) old new
+IsUnderWay accepted r old new = WasStaged (map said_of accepted) (said_of r) old new
 
 -- then the gate was opened, and a crash leaves a file of the accepted reports and this one
 abbrev pub IsWritten : List Report → Report → View → View → Type 0
 IsWritten accepted r old new = IsUnderWay accepted r old new × ((c : List ℕ) → Leaves new c → StandsFor (accepted ++ r ∷ []) c)
 
--- With OK the report's line was written; with FAIL before a crash left the file without it at each moment of the turn; with
--- FAIL unknown the line was in the file, and its gate was under way.
+-- With OK the report's record was written; with FAIL before a crash left the file without it at each moment of the turn; with
+-- FAIL unknown the record was in the file, and its gate was under way.
 abbrev pub IsPlaced : Reply → List Report → Report → View → View → Type 0
 IsPlaced (Accepted front) accepted r old new = IsWritten accepted r old new
 IsPlaced (Fail Before) accepted r old new = LeavesAlways (StandsFor accepted) old new

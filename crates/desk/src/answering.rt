@@ -2,7 +2,7 @@
 
 ghost use Rattle.std.specs.Prelude.{◌≡◌, ◌↔◌, ℕ, List, true, false, map, IfOk, IfErr};
 ghost use Rattle.line_disk.specs.Disk.{Leaves, LeavesAlways};
-ghost use Rattle.record_file.specs.Store.{disk_of, is_stopped, HasLines};
+ghost use Rattle.record_file.specs.Store.{disk_of, is_stopped, HasRecords};
 ghost use Rattle.report_line.specs.Spelling.{HasSpelling};
 ghost use Rattle.report_line.specs.declared.call.Call.TheVariants as calls;
 ghost use Rattle.report_line.specs.declared.report.Report.{Report as AnyReport};
@@ -11,7 +11,7 @@ ghost use Rattle.report_line.specs.declared.reply.Reply.TheVariants.{Fail};
 ghost use Rattle.chains.specs.Held.{held_of};
 ghost use Rattle.chains.specs.Processes.{IsKnown};
 ghost use Rattle.chains.specs.Turns.{fine, IsGarbageReply, IsLineReply, IsStateReply, IsQuestionTurn, IsTurn};
-ghost use Rattle.desk.specs.Files.{line_of, AreSpelled, IsShort, MayWantMemory, UsesDevice, CountsReply};
+ghost use Rattle.desk.specs.Files.{said_of, AreSpelled, IsShort, MayWantMemory, UsesDevice, CountsReply};
 ghost use Rattle.desk.specs.Parts.{held_with, StandsBy, MayBeLeftBy};
 ghost use Rattle.desk.specs.Placed.{IsPlacedBy};
 
@@ -64,12 +64,12 @@ pub(crate) fn answered<D: Disk>(
     call: &Call,
 ) -> Result<Twice, TurnFault>
     requires short { IsShort call.now }
-    requires rest { is_stopped store.old ≡ false → D.keeps (disk_of store.old) → HasLines D.view store.old (map line_of chains.old.accepted) }
+    requires rest { is_stopped store.old ≡ false → D.keeps (disk_of store.old) → HasRecords D.view store.old (map said_of chains.old.accepted) }
     ensures turn { IfOk result (λ reply. IsTurn (held_with chains.old (is_stopped store.old)) call.now reply (held_with chains.new (is_stopped store.new))) }
     ensures spelled { AreSpelled chains.old.accepted → AreSpelled chains.new.accepted }
     ensures pending { IfOk result (λ reply. (r : AnyReport) → call.now ≡ calls.Report r → reply ≡ Fail Unknown → HasSpelling (calls.Report r)) }
     ensures err { IfErr result (λ fault. (fault ≡ TurnFault.Memory) × MayWantMemory (held_with chains.old (is_stopped store.old)) call.now × (held_of chains.new ≡ held_of chains.old) × (store.new ≡ store.old)) }
-    ensures rest { is_stopped store.new ≡ false → D.keeps (disk_of store.old) → HasLines D.view store.new (map line_of chains.new.accepted) }
+    ensures rest { is_stopped store.new ≡ false → D.keeps (disk_of store.old) → HasRecords D.view store.new (map said_of chains.new.accepted) }
     ensures left { is_stopped store.old ≡ false → D.keeps (disk_of store.old) → (c : List ℕ) → Leaves (D.view (disk_of store.new)) c
         → IfOk result (λ reply. MayBeLeftBy reply chains.new.accepted call.now c) }
     ensures placed { D.keeps (disk_of store.old) → IfOk result (λ reply. IsPlacedBy reply chains.old.accepted call.now (D.view (disk_of store.old)) (D.view (disk_of store.new))) }

@@ -2,18 +2,18 @@
 
 ghost use Rattle.std.specs.Prelude.{◌≡◌, ◌↔◌, ◌⊎◌, ◌+◌, ◌≤◌, ◌++◌, [], ◌∷◌, ℕ, List, true, false, length, map, IfOk, IfErr, MatchResult, vec_capacity};
 ghost use Rattle.line_disk.specs.Disk.{Leaves, LeavesAlways};
-ghost use Rattle.record_file.specs.Lines.{lines_in};
+ghost use Rattle.record_file.specs.Kept.{said_in};
 ghost use Rattle.report_line.specs.declared.reply.Outcome.TheVariants as outcomes;
 ghost use Rattle.report_line.specs.declared.reply.Reply.TheVariants.{Fail};
 ghost use Rattle.chains.specs.Held.{held_of};
 ghost use Rattle.desk.specs.Faults.{from_store};
-ghost use Rattle.desk.specs.Files.{line_of, AreSpelled};
+ghost use Rattle.desk.specs.Files.{said_of, AreSpelled};
 ghost use Rattle.desk.specs.Lawful.{turn_limit};
-ghost use Rattle.desk.specs.Openings.{RefusesLines};
+ghost use Rattle.desk.specs.Openings.{RefusesRecords};
 
 use crate::answering::answered;
 use crate::fault::DeskFault;
-use crate::opening::admit_lines;
+use crate::opening::admit_records;
 use crate::turn::{Receipt, Turn, TurnFault};
 use chains::Chains;
 use line_disk::Disk;
@@ -37,11 +37,11 @@ pub struct Desk<D: Disk> {
 
 impl<D: Disk> Model for Desk<D> {
     ghost use Rattle.std.specs.Prelude.{◌≡◌, ◌≤◌, false, map, vec_capacity};
-    ghost use Rattle.record_file.specs.Store.{disk_of, is_stopped, HasLines};
+    ghost use Rattle.record_file.specs.Store.{disk_of, is_stopped, HasRecords};
     ghost use Rattle.chains.specs.Held.{held_of};
     ghost use Rattle.desk.specs.Codes.{desk_code};
     ghost use Rattle.desk.specs.Desks.{DeskState};
-    ghost use Rattle.desk.specs.Files.{line_of};
+    ghost use Rattle.desk.specs.Files.{said_of};
     ghost use Rattle.desk.specs.Lawful.{IsLawful, turn_limit};
     ghost use Rattle.desk.specs.Parts.{held_with};
 
@@ -53,7 +53,7 @@ impl<D: Disk> Model for Desk<D> {
 
     ghost invariant = { λ desk.
         IsLawful D.keeps D.view (record { held = held_with desk.chains (is_stopped desk.store); opening = held_of desk.opening; turns = desk.turns.items; disk = disk_of desk.store })
-        × (is_stopped desk.store ≡ false → D.keeps (disk_of desk.store) → HasLines D.view desk.store (map line_of desk.chains.accepted))
+        × (is_stopped desk.store ≡ false → D.keeps (disk_of desk.store) → HasRecords D.view desk.store (map said_of desk.chains.accepted))
         × (turn_limit ≤ vec_capacity desk.turns) };
 }
 
@@ -75,13 +75,13 @@ fn told<D>(refused: (OpenFault, D)) -> (DeskFault, D)
 }
 
 /// The chains of these records, admitted in order, and a copy of them.
-fn chains_of(alloc: Global, lines: &[Vec<u8>]) -> Result<(Chains, Chains), DeskFault>
-    ensures ok { IfOk result (λ both. lines_in lines.now ≡ map line_of both.0.accepted) }
+fn chains_of(alloc: Global, records: &[(u32, Vec<u8>)]) -> Result<(Chains, Chains), DeskFault>
+    ensures ok { IfOk result (λ both. said_in records.now ≡ map said_of both.0.accepted) }
     ensures spelled { IfOk result (λ both. AreSpelled both.0.accepted) }
     ensures copy { IfOk result (λ both. held_of both.1 ≡ held_of both.0) }
-    ensures err { IfErr result (RefusesLines (lines_in lines.now)) }
+    ensures err { IfErr result (RefusesRecords (said_in records.now)) }
 {
-    let chains = admit_lines(alloc, lines)?;
+    let chains = admit_records(alloc, records)?;
     match chains.copy() {
         Ok(copy) => Ok((chains, copy)),
         Err(_) => Err(DeskFault::Memory),

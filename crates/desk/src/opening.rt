@@ -1,19 +1,22 @@
 //! Records that are admitted.
 
 ghost use Rattle.std.specs.Prelude.{◌≡◌, ◌≢◌, ◌+◌, ◌++◌, [], ◌∷◌, map, MatchOption, IfOk, IfErr, OnOk};
-ghost use Rattle.record_file.specs.Lines.{lines_in};
+ghost use Rattle.record_file.specs.Kept.{said_in};
 ghost use Rattle.report_line.specs.declared.report.Report.{Report as AnyReport};
 ghost use Rattle.report_line.specs.declared.call.Call.TheVariants as calls;
 ghost use Rattle.report_line.specs.Spelling.{HasSpelling};
 ghost use Rattle.chains.specs.Held.{held_of, with_report};
-ghost use Rattle.desk.specs.Files.{line_of, AreSpelled};
-ghost use Rattle.desk.specs.Openings.{RefusesLines};
-ghost use Rattle.desk.specs.Reading.{IsUnread, RefusesLine, IsFaultOf};
+ghost use Rattle.desk.specs.Files.{line_of, said_of, AreSpelled};
+ghost use Rattle.desk.specs.Openings.{RefusesRecords};
+ghost use Rattle.desk.specs.Reading.{IsUnread, RefusesLine, RefusesRecord, IsFaultOf};
 
 use crate::fault::DeskFault;
 use chains::{Admitted, Chains, No};
 use report_line::{Call, Code, LineFault, PackedReport, Shared, read_line};
 use std::alloc::Global;
+
+/// The number by which a record of another epoch than 0 is refused.
+const OTHER_EPOCH: u8 = 19;
 
 /// The report of a call, if it is one.
 fn report_of(call: Call) -> Option<Shared<PackedReport>>
@@ -64,16 +67,33 @@ fn admit_line(chains: &mut Chains, number: usize, line: &[u8]) -> Result<(), Des
     }
 }
 
+/// Admits the record of this number, if it is of epoch 0.
+fn admit_record(
+    chains: &mut Chains,
+    number: usize,
+    epoch: u32,
+    line: &[u8],
+) -> Result<(), DeskFault>
+    ensures ok { OnOk result ((r : AnyReport) × ((epoch, line.now) ≡ said_of r) × HasSpelling (calls.Report r) × (held_of chains.new ≡ with_report (held_of chains.old) r)) }
+    ensures err { IfErr result (RefusesRecord chains.old.accepted number (epoch, line.now)) }
+{
+    if epoch != 0 {
+        return Err(DeskFault::Refused(number, OTHER_EPOCH));
+    }
+    admit_line(chains, number, line)
+}
+
 /// The chains of these records, admitted in order.
-pub(crate) fn admit_lines(alloc: Global, lines: &[Vec<u8>]) -> Result<Chains, DeskFault>
-    ensures ok { IfOk result (λ chains. lines_in lines.now ≡ map line_of chains.accepted) }
+pub(crate) fn admit_records(alloc: Global, records: &[(u32, Vec<u8>)]) -> Result<Chains, DeskFault>
+    ensures ok { IfOk result (λ chains. said_in records.now ≡ map said_of chains.accepted) }
     ensures spelled { IfOk result (λ chains. AreSpelled chains.accepted) }
-    ensures err { IfErr result (RefusesLines (lines_in lines.now)) }
+    ensures err { IfErr result (RefusesRecords (said_in records.now)) }
 {
     let mut chains = Chains::new(alloc);
-    for i in 0..lines.len() {
+    for i in 0..records.len() {
         chains.lawful();
-        admit_line(&mut chains, i + 1, &lines[i])?;
+        let (epoch, line) = &records[i];
+        admit_record(&mut chains, i + 1, *epoch, line)?;
     }
     Ok(chains)
 }

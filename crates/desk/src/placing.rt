@@ -2,7 +2,7 @@
 
 ghost use Rattle.std.specs.Prelude.{◌≡◌, ◌↔◌, ◌⊎◌, ◌≤◌, ◌++◌, [], ◌∷◌, ℕ, List, true, false, length, map, Ok, IfOk};
 ghost use Rattle.line_disk.specs.Disk.{Leaves, LeavesAlways};
-ghost use Rattle.record_file.specs.Store.{disk_of, is_stopped, HasLines};
+ghost use Rattle.record_file.specs.Store.{disk_of, is_stopped, HasRecords};
 ghost use Rattle.report_line.specs.Spelling.{HasSpelling};
 ghost use Rattle.report_line.specs.declared.call.Call.TheVariants as calls;
 ghost use Rattle.report_line.specs.declared.reply.Outcome.TheVariants.{Unknown};
@@ -10,7 +10,7 @@ ghost use Rattle.report_line.specs.declared.reply.Reply.TheVariants.{Fail};
 ghost use Rattle.chains.specs.Held.{held_of};
 ghost use Rattle.chains.specs.Answers.{Prepares, IsReady, MayBeAccepted};
 ghost use Rattle.chains.specs.Turns.{Fate, IsReportTurn, IsReported};
-ghost use Rattle.desk.specs.Files.{line_of, AreSpelled, UsesDevice, CountsReply};
+ghost use Rattle.desk.specs.Files.{line_of, said_of, AreSpelled, UsesDevice, CountsReply};
 ghost use Rattle.desk.specs.Parts.{held_with, StandsWith, MayBeLeft};
 ghost use Rattle.desk.specs.Placed.{IsPlaced};
 
@@ -20,16 +20,19 @@ use line_disk::Disk;
 use record_file::{Appended, Store};
 use report_line::{Code, Outcome, PackedReport, Shared, write_line};
 
+/// The epoch of each report.
+const EPOCH: u32 = 0;
+
 /// Accepts a report that was prepared: only where its record is in the file.
 fn append<D: Disk>(chains: &mut Chains, store: &mut Store<D>, ready: Ready) -> Twice
     requires ready { MayBeAccepted chains.old ready }
     requires short { length (line_of ready.report) ≤ 8192 }
     requires running { is_stopped store.old ≡ false }
-    requires rest { D.keeps (disk_of store.old) → HasLines D.view store.old (map line_of chains.old.accepted) }
+    requires rest { D.keeps (disk_of store.old) → HasRecords D.view store.old (map said_of chains.old.accepted) }
     ensures turn { (fate : Fate) × IsReportTurn fate (held_of chains.old) ready.report result (held_with chains.new (is_stopped store.new)) }
     ensures spelled { AreSpelled chains.old.accepted → AreSpelled chains.new.accepted }
     ensures pending { result ≡ Fail Unknown → HasSpelling (calls.Report ready.report) }
-    ensures rest { is_stopped store.new ≡ false → D.keeps (disk_of store.old) → HasLines D.view store.new (map line_of chains.new.accepted) }
+    ensures rest { is_stopped store.new ≡ false → D.keeps (disk_of store.old) → HasRecords D.view store.new (map said_of chains.new.accepted) }
     ensures left { D.keeps (disk_of store.old) → (c : List ℕ) → Leaves (D.view (disk_of store.new)) c
         → MayBeLeft result chains.new.accepted ready.report c }
     ensures placed { D.keeps (disk_of store.old) → IsPlaced result chains.old.accepted ready.report (D.view (disk_of store.old)) (D.view (disk_of store.new)) }
@@ -42,7 +45,7 @@ fn append<D: Disk>(chains: &mut Chains, store: &mut Store<D>, ready: Ready) -> T
     let Ok(line) = write_line(chains.alloc(), ready.report()) else {
         return refused(Code::OutOfMemory);
     };
-    match store.append(&line) {
+    match store.append(EPOCH, &line) {
         Appended::Done => {
             let _ = chains.commit(Prepared::Ready(ready));
             accepted(chains.front())
@@ -64,11 +67,11 @@ fn place<D: Disk>(
     requires answer { Prepares (held_of chains.old) report.now (Ok prepared) }
     requires short { length (line_of report.now) ≤ 8192 }
     requires running { is_stopped store.old ≡ false }
-    requires rest { D.keeps (disk_of store.old) → HasLines D.view store.old (map line_of chains.old.accepted) }
+    requires rest { D.keeps (disk_of store.old) → HasRecords D.view store.old (map said_of chains.old.accepted) }
     ensures turn { (fate : Fate) × IsReportTurn fate (held_of chains.old) report.now result (held_with chains.new (is_stopped store.new)) }
     ensures spelled { AreSpelled chains.old.accepted → AreSpelled chains.new.accepted }
     ensures pending { result ≡ Fail Unknown → HasSpelling (calls.Report report.now) }
-    ensures rest { is_stopped store.new ≡ false → D.keeps (disk_of store.old) → HasLines D.view store.new (map line_of chains.new.accepted) }
+    ensures rest { is_stopped store.new ≡ false → D.keeps (disk_of store.old) → HasRecords D.view store.new (map said_of chains.new.accepted) }
     ensures left { D.keeps (disk_of store.old) → (c : List ℕ) → Leaves (D.view (disk_of store.new)) c
         → MayBeLeft result chains.new.accepted report.now c }
     ensures placed { D.keeps (disk_of store.old) → IsPlaced result chains.old.accepted report.now (D.view (disk_of store.old)) (D.view (disk_of store.new)) }
@@ -103,11 +106,11 @@ fn reported<D: Disk>(
 ) -> Twice
     requires short { length (line_of report.now) ≤ 8192 }
     requires running { is_stopped store.old ≡ false }
-    requires rest { D.keeps (disk_of store.old) → HasLines D.view store.old (map line_of chains.old.accepted) }
+    requires rest { D.keeps (disk_of store.old) → HasRecords D.view store.old (map said_of chains.old.accepted) }
     ensures turn { (fate : Fate) × IsReportTurn fate (held_of chains.old) report.now result (held_with chains.new (is_stopped store.new)) }
     ensures spelled { AreSpelled chains.old.accepted → AreSpelled chains.new.accepted }
     ensures pending { result ≡ Fail Unknown → HasSpelling (calls.Report report.now) }
-    ensures rest { is_stopped store.new ≡ false → D.keeps (disk_of store.old) → HasLines D.view store.new (map line_of chains.new.accepted) }
+    ensures rest { is_stopped store.new ≡ false → D.keeps (disk_of store.old) → HasRecords D.view store.new (map said_of chains.new.accepted) }
     ensures left { D.keeps (disk_of store.old) → (c : List ℕ) → Leaves (D.view (disk_of store.new)) c
         → MayBeLeft result chains.new.accepted report.now c }
     ensures placed { D.keeps (disk_of store.old) → IsPlaced result chains.old.accepted report.now (D.view (disk_of store.old)) (D.view (disk_of store.new)) }
@@ -129,11 +132,11 @@ pub(crate) fn report_placed<D: Disk>(
     report: &Shared<PackedReport>,
 ) -> Twice
     requires short { length (line_of report.now) ≤ 8192 }
-    requires rest { is_stopped store.old ≡ false → D.keeps (disk_of store.old) → HasLines D.view store.old (map line_of chains.old.accepted) }
+    requires rest { is_stopped store.old ≡ false → D.keeps (disk_of store.old) → HasRecords D.view store.old (map said_of chains.old.accepted) }
     ensures turn { (fate : Fate) × IsReported (is_stopped store.old) fate (held_with chains.old (is_stopped store.old)) report.now result (held_with chains.new (is_stopped store.new)) }
     ensures spelled { AreSpelled chains.old.accepted → AreSpelled chains.new.accepted }
     ensures pending { result ≡ Fail Unknown → HasSpelling (calls.Report report.now) }
-    ensures rest { is_stopped store.new ≡ false → D.keeps (disk_of store.old) → HasLines D.view store.new (map line_of chains.new.accepted) }
+    ensures rest { is_stopped store.new ≡ false → D.keeps (disk_of store.old) → HasRecords D.view store.new (map said_of chains.new.accepted) }
     ensures left { is_stopped store.old ≡ false → D.keeps (disk_of store.old) → (c : List ℕ) → Leaves (D.view (disk_of store.new)) c
         → MayBeLeft result chains.new.accepted report.now c }
     ensures placed { D.keeps (disk_of store.old) → IsPlaced result chains.old.accepted report.now (D.view (disk_of store.old)) (D.view (disk_of store.new)) }

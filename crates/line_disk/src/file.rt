@@ -3,12 +3,12 @@
 //!
 //! That the calls noted here are the calls made is read in this file, and not proved.
 
-ghost use Rattle.std.specs.Prelude.{◌≡◌, [], IfOk, vec_len};
+ghost use Rattle.std.specs.Prelude.{◌≡◌, ◌+◌, ◌^◌, ◌<◌, ◌≤◌, ◌++◌, [], IfOk, OnOk, length, take, vec_len};
 ghost use Rattle.line_disk.specs.Device.{KeepsModel, view_by};
 
 use crate::fault::device_failed;
 use crate::known::Known;
-use crate::{Device, Disk, DiskFault};
+use crate::{Device, Disk, DiskFault, Reach};
 use std::alloc::{AllocError, Global};
 use std::fs::{File, OpenOptions};
 use std::marker::PhantomData;
@@ -16,10 +16,14 @@ use std::os::unix::fs::FileExt;
 use std::path::Path;
 use std::rt::Files;
 
-/// A file of the system on a device.
+/// How many bytes of a file are read at once when it is opened.
+const PIECE: usize = 65_536;
+
+/// A file of the system on a device. It takes memory for the bytes that were read when it was opened, and for those that were
+/// written within them or right behind them: reads are compared with them, and a read of others fails.
 ///
 /// After a write, a cut or a sync has failed, each later call fails, and the file has to be opened anew. Where memory was wanting
-/// for the copy that reads are compared with, reads alone fail.
+/// for what was written, only reads of it and of what stands behind it fail.
 #[derive(Drop)]
 pub struct FileDisk<P: Device> {
     file: File,
@@ -34,13 +38,41 @@ fn zeros(alloc: Global, n: usize) -> Result<Vec<u8>, AllocError>
     vec![in alloc; 0; n]
 }
 
-fn read_whole(alloc: Global, file: &File) -> Result<Vec<u8>, DiskFault> {
-    let Ok(metadata) = file.metadata() else {
+/// The length of a file, in bytes.
+fn length_of(file: &File) -> Result<usize, DiskFault> {
+    match file.metadata() {
+        Ok(metadata) => Ok(metadata.len() as usize),
+        Err(_) => Err(DiskFault::Device),
+    }
+}
+
+/// Reads the next bytes of a file, so many, behind its first ones, which were read before.
+fn read_piece(file: &File, bytes: &mut Vec<u8>, n: usize) -> Result<(), DiskFault>
+    requires { vec_len bytes.old + n < 2 ^ 64 }
+    ensures more { OnOk result (vec_len bytes.new ≡ vec_len bytes.old + n) }
+    ensures before { OnOk result (take (vec_len bytes.old) bytes.new.items ≡ bytes.old.items) }
+{
+    let at = bytes.len();
+    bytes.resize(at + n, 0)?;
+    if file.read_exact_at(&mut bytes[at..], at as u64).is_err() {
         return Err(DiskFault::Device);
-    };
-    let mut bytes = zeros(alloc, metadata.len() as usize)?;
-    if file.read_exact_at(&mut bytes, 0).is_err() {
-        return Err(DiskFault::Device);
+    }
+    Ok(())
+}
+
+/// The first bytes of a file of this length, as far as they are wanted.
+fn read_front<W: Reach>(
+    alloc: Global,
+    file: &File,
+    len: usize,
+    reach: &mut W,
+) -> Result<Vec<u8>, DiskFault>
+    ensures { IfOk result (λ bytes. length bytes.items ≤ len) }
+{
+    let mut bytes = Vec::new(alloc);
+    while bytes.len() < len && reach.wants_more(&bytes) {
+        let n = (len - bytes.len()).min(PIECE);
+        read_piece(file, &mut bytes, n)?;
     }
     Ok(bytes)
 }
@@ -62,17 +94,21 @@ fn sync_folder<R: Files<File = File>>(rt: &R, path: &str) -> Result<(), DiskFaul
 }
 
 impl<P: Device> FileDisk<P> {
-    ghost use Rattle.line_disk.specs.File.{file_calls, file_failures};
+    ghost use Rattle.line_disk.specs.File.{file_read, file_unread, file_first, file_calls, file_failures};
 
-    /// Opens a file, and makes it if it is missing. It is read once, and a copy is kept in memory. A file that another program
-    /// has open so is not opened. Where the file is empty its folder is synced, too.
-    pub fn open<R: Files<File = File>>(
+    /// Opens a file, and makes it if it is missing. It is read once, from its start and as far as `reach` wants it, and a copy of
+    /// that is kept in memory. A file that another program has open so is not opened. Where the file is empty its folder is synced,
+    /// too.
+    pub fn open<R: Files<File = File>, W: Reach>(
         rt: &R,
         alloc: Global,
         path: &str,
+        reach: &mut W,
     ) -> Result<FileDisk<P>, DiskFault>
         ensures fresh { IfOk result (λ disk. file_calls disk ≡ []) }
         ensures failures { IfOk result (λ disk. file_failures disk ≡ 0) }
+        ensures front { IfOk result (λ disk. file_read disk ≡ take (length (file_read disk)) (file_first P.unread disk)) }
+        ensures length { IfOk result (λ disk. length (file_first P.unread disk) ≡ length (file_read disk) + file_unread disk) }
     {
         let opened = OpenOptions::new()
             .read(true)
@@ -85,13 +121,14 @@ impl<P: Device> FileDisk<P> {
         if file.try_lock().is_err() {
             return Err(DiskFault::Device);
         }
-        let bytes = read_whole(alloc, &file)?;
-        if bytes.is_empty() {
+        let len = length_of(&file)?;
+        let bytes = read_front(alloc, &file, len, reach)?;
+        if len == 0 {
             sync_folder(rt, path)?;
         }
         Ok(FileDisk {
             file,
-            known: Known::new(bytes),
+            known: Known::new(bytes, len),
             failures: 0,
             device: PhantomData,
         })
@@ -102,13 +139,13 @@ impl<P: Device> Disk for FileDisk<P> {
     ghost use Rattle.line_disk.specs.FileReadIsLeft.{read_left};
     ghost use Rattle.line_disk.specs.Known.{first_of, calls_of};
 
-    ghost view = { λ disk. view_by P.leaves (first_of disk.known) (calls_of disk.known) };
+    ghost view = { λ disk. view_by P.leaves (first_of P.unread disk.known) (calls_of disk.known) };
 
     ghost keeps = { λ disk. KeepsModel P.leaves };
 
     ghost failed = { λ disk. disk.failures };
 
-    ghost read_is_left = { λ disk keeps. read_left P.leaves (first_of disk.known) (calls_of disk.known) keeps };
+    ghost read_is_left = { λ disk keeps. read_left P.leaves (first_of P.unread disk.known) (calls_of disk.known) keeps };
 
     fn failures(&self) -> u64 {
         self.failures
@@ -123,8 +160,12 @@ impl<P: Device> Disk for FileDisk<P> {
         }
     }
 
-    /// Bytes that are not those that were written or read before are a fault of the device.
+    /// Bytes that are not those that were written or read before are a fault of the device, and so are bytes of which there is no
+    /// copy: for these no memory is taken.
     fn read_at(&mut self, alloc: Global, at: usize, n: usize) -> Result<Vec<u8>, DiskFault> {
+        if !self.known.covers(at, n) {
+            return Err(device_failed(&mut self.failures));
+        }
         let mut bytes = zeros(alloc, n)?;
         let read = self.file.read_exact_at(&mut bytes, at as u64);
         if read.is_err() || !self.known.has(at, &bytes) {

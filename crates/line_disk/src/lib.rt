@@ -17,6 +17,7 @@ mod memory;
 mod null;
 mod overwrite;
 mod plan;
+mod reach;
 mod tape;
 
 pub use device::{Device, Modelled, modelled_leaves_most, the_premise_is_open};
@@ -26,3 +27,4 @@ pub use file::FileDisk;
 pub use memory::MemoryDisk;
 pub use null::NullDisk;
 pub use plan::{Effect, Planned};
+pub use reach::{Reach, WholeFile};

@@ -6,6 +6,7 @@ use clap::error::ErrorKind;
 use client_link::{Link, Streams};
 use line_disk::{DiskFault, FileDisk, Modelled, NullDisk};
 use recline::{Command, Service, check_on, draw_on, drive_on, read_args, run_on, serve_on};
+use record_file::RecordReach;
 use std::env;
 use std::fs::File;
 use std::io::{self, BufWriter, Read};
@@ -111,7 +112,7 @@ fn show(rt: &HostRuntime, error: &Error) -> u8 {
 
 /// The disk over the record file of this path, which is made if it is missing; or the status, where the cause is told.
 fn open_file(rt: &HostRuntime, path: &str) -> Result<FileDisk<Modelled>, u8> {
-    match FileDisk::open(rt, rt.alloc(), path) {
+    match FileDisk::open(rt, rt.alloc(), path, &mut RecordReach::new()) {
         Ok(disk) => Ok(disk),
         Err(DiskFault::Memory) => Err(fault(rt, "memory")),
         Err(DiskFault::Device) => Err(fault(rt, "device")),

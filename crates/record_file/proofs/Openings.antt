@@ -1,8 +1,8 @@
--- Which lines a file stands for, and what is left of it while it is opened.
+-- Which records a file stands for, and what is left of it while it is opened.
 use Rattle.std.proofs.Common.{◌≡◌, ◌≢◌, inl, inr, ℕ, ◌≤◌, List, [], ◌∷◌, ◌++◌, length, take, drop, refl, sym, ◌∙◌, ap, subst, arith, append_assoc, length-append}
 use Rattle.std.proofs.lemmas.List.{take_at, drop_all, take_all, take-take}
 use Rattle.line_disk.specs.Disk.{View, Leaves, LeavesAlways, LeavesOnly, IsTorn, IsShortened, Passes, Rests, written}
-use Rattle.record_file.specs.File.{Spelled, first_version, header, opened, lines_of, AreFit, record_of, IsFileOf, Stands}
+use Rattle.record_file.specs.File.{Said, Spelled, second_version, header, opened, all_said, AreFit, record_of, IsFileOf, Stands}
 use Rattle.record_file.specs.Resting.{IsAtRest}
 use Rattle.record_file.specs.declared.fault.OpenFault.{OpenFault}
 use Rattle.record_file.specs.declared.fault.OpenFault.TheVariants.{Foreign, Damaged, Device, Memory}
@@ -27,28 +27,28 @@ one_reading version other (r ∷ rs) (s ∷ ss) g h x y fit fit' shut shut' same
 pub behind_header : (file : List ℕ) (version other : ℕ) (x y : List ℕ) → file ≡ header version ++ x → file ≡ header other ++ y → x ≡ y
 behind_header file version other x y is is' = (same_parts (header version) (header other) x y refl (sym is ∙ is')).1
 
--- a file of lines is of those alone
-pub one_file : (ls ms : List (List ℕ)) (file : List ℕ) → IsFileOf ls file → IsFileOf ms file → ls ≡ ms
+-- a file of records is of those alone
+pub one_file : (ls ms : List Said) (file : List ℕ) → IsFileOf ls file → IsFileOf ms file → ls ≡ ms
 one_file ls ms file a b =
-    sym a.say ∙ ap lines_of (one_reading a.version b.version a.records b.records a.gate b.gate a.rest b.rest a.fit b.fit a.closed b.closed (behind_header file a.version b.version _ _ a.bytes b.bytes)) ∙ b.say
+    sym a.say ∙ ap all_said (one_reading a.version b.version a.records b.records a.gate b.gate a.rest b.rest a.fit b.fit a.closed b.closed (behind_header file a.version b.version _ _ a.bytes b.bytes)) ∙ b.say
 
-no_records : (version : ℕ) (rs : List Spelled) (gate : ℕ) (rest file : List ℕ) → length file ≤ 9 → file ≡ header version ++ (opened rs ++ gate ∷ rest) → lines_of rs ≡ []
+no_records : (version : ℕ) (rs : List Spelled) (gate : ℕ) (rest file : List ℕ) → length file ≤ 9 → file ≡ header version ++ (opened rs ++ gate ∷ rest) → all_said rs ≡ []
 no_records version [] gate rest file short is = refl
 no_records version (r ∷ rs) gate rest file short is =
     absurd (omega (arith, ap length is, length-append (header version) (opened (r ∷ rs) ++ gate ∷ rest), length-append (opened (r ∷ rs)) (gate ∷ rest), length-append (1 ∷ record_of r) (opened rs)))
 
--- a new file stands for no lines
-pub new_lines : (ls : List (List ℕ)) (file : List ℕ) → length file ≤ 9 → Stands ls file → ls ≡ []
-new_lines ls file short (inl is) = is.1
-new_lines ls file short (inr is) = sym is.say ∙ no_records is.version is.records is.gate is.rest file short is.bytes
+-- a new file stands for no records
+pub new_records : (ls : List Said) (file : List ℕ) → length file ≤ 9 → Stands ls file → ls ≡ []
+new_records ls file short (inl is) = is.1
+new_records ls file short (inr is) = sym is.say ∙ no_records is.version is.records is.gate is.rest file short is.bytes
 
 -- a file stands for one list
-pub one_list : (ls ms : List (List ℕ)) (file : List ℕ) → Stands ls file → Stands ms file → ls ≡ ms
-one_list ls ms file (inl a) b = a.1 ∙ sym (new_lines ms file a.0 b)
-one_list ls ms file (inr a) (inl b) = new_lines ls file b.0 (inr a) ∙ sym b.1
+pub one_list : (ls ms : List Said) (file : List ℕ) → Stands ls file → Stands ms file → ls ≡ ms
+one_list ls ms file (inl a) b = a.1 ∙ sym (new_records ms file a.0 b)
+one_list ls ms file (inr a) (inl b) = new_records ls file b.0 (inr a) ∙ sym b.1
 one_list ls ms file (inr a) (inr b) = one_file ls ms file a b
 
--- The file is as it was when the opening began, on the disk, and each crash since then kept its lines.
+-- The file is as it was when the opening began, on the disk, and each crash since then kept its records.
 pub record IsSettled (a b : View) : Type 0 where
   pub always : LeavesAlways (KeepsFile a.seen) a b
   pub only : LeavesOnly b a.seen
@@ -71,31 +71,31 @@ settled_more a b z s rest = record {
 -- while a new file is written
 pub new_always : (a b z : View) → IsSettled a b → length a.seen ≤ 9 → Passes (IsTorn 0 9) b z → LeavesAlways (KeepsFile a.seen) a z
 new_always a b z s short call = goes_on (KeepsFile a.seen) (IsTorn 0 9) a b z s.always call
-    (λ d c left torn. (λ ls stands. inl (omega (arith, torn.no_longer, ap length (s.only d left)), new_lines ls a.seen short stands), λ none. absurd (none [] (inl (short, refl)))))
+    (λ d c left torn. (λ ls stands. inl (omega (arith, torn.no_longer, ap length (s.only d left)), new_records ls a.seen short stands), λ none. absurd (none [] (inl (short, refl)))))
 
-module _ (lines : List (List ℕ)) (end : ℕ) (a : View) (reading : IsReading a.seen lines end) where
-  is_file : IsFileOf lines a.seen
-  is_file = record { version = reading.version; known = reading.known; records = reading.records; fit = reading.fit; say = reading.say; gate = reading.gate; closed = reading.closed; rest = reading.rest; bytes = reading.bytes }
+module _ (version : ℕ) (said : List Said) (end : ℕ) (a : View) (reading : IsReading a.seen version said end) where
+  is_file : IsFileOf said a.seen
+  is_file = record { version = version; records = reading.records; fit = reading.fit; say = reading.say; gate = reading.gate; closed = reading.closed; rest = reading.rest; bytes = reading.bytes }
 
-  size : end ≡ length (front reading.version reading.records reading.gate)
-  size = omega (arith, reading.size, length-front reading.version reading.records reading.gate)
+  size : end ≡ length (front version reading.records reading.gate)
+  size = omega (arith, reading.size, length-front version reading.records reading.gate)
 
-  whole : a.seen ≡ front reading.version reading.records reading.gate ++ reading.rest
-  whole = reading.bytes ∙ sym (front_then reading.version reading.records reading.gate reading.rest)
+  whole : a.seen ≡ front version reading.records reading.gate ++ reading.rest
+  whole = reading.bytes ∙ sym (front_then version reading.records reading.gate reading.rest)
 
-  front_is : take end a.seen ≡ front reading.version reading.records reading.gate
-  front_is = ap (λ (l : List ℕ). take end l) whole ∙ take_at (front reading.version reading.records reading.gate) reading.rest end (sym size)
+  front_is : take end a.seen ≡ front version reading.records reading.gate
+  front_is = ap (λ (l : List ℕ). take end l) whole ∙ take_at (front version reading.records reading.gate) reading.rest end (sym size)
 
   within : end ≤ length a.seen
-  within = omega (arith, size, ap length whole, length-append (front reading.version reading.records reading.gate) reading.rest)
+  within = omega (arith, size, ap length whole, length-append (front version reading.records reading.gate) reading.rest)
 
-  -- any cut keeps the lines
+  -- any cut keeps the records
   cut_keeps : (c : List ℕ) → IsShortened end a.seen c → KeepsFile a.seen c
   cut_keeps c cut =
       let long : end ≤ length c = omega (arith, cut.no_shorter, within) in
-      let begins_so : take end c ≡ front reading.version reading.records reading.gate = ap (λ (l : List ℕ). take end l) cut.front ∙ take-take end (length c) a.seen long ∙ front_is in (
-        λ ls stands. subst (λ (l : List (List ℕ)). Stands l c) (one_list lines ls a.seen (inr is_file) stands) (inr (begins reading.version reading.records lines reading.gate end c reading.known reading.fit reading.say reading.closed begins_so)),
-        λ none. absurd (none lines (inr is_file)),
+      let begins_so : take end c ≡ front version reading.records reading.gate = ap (λ (l : List ℕ). take end l) cut.front ∙ take-take end (length c) a.seen long ∙ front_is in (
+        λ ls stands. subst (λ (l : List Said). Stands l c) (one_list said ls a.seen (inr is_file) stands) (inr (begins version reading.records said reading.gate end c reading.fit reading.say reading.closed begins_so)),
+        λ none. absurd (none said (inr is_file)),
       )
 
   -- while what stands behind the closed gate is cut off
@@ -103,13 +103,13 @@ module _ (lines : List (List ℕ)) (end : ℕ) (a : View) (reading : IsReading a
   cut_always b z s call = goes_on (KeepsFile a.seen) (IsShortened end) a b z s.always call
       (λ d c left cut. cut_keeps c (subst (λ (f : List ℕ). IsShortened end f c) (s.only d left) cut))
 
-  at_front : (z : View) → z.seen ≡ front reading.version reading.records reading.gate → LeavesOnly z z.seen → IsAtRest lines end z
-  at_front z is lasts = record { version = reading.version; known = reading.known; records = reading.records; fit = reading.fit; say = reading.say; gate = reading.gate; closed = reading.closed; file = is; size = size ∙ ap length (sym is); durable = lasts }
+  at_front : (z : View) → z.seen ≡ front version reading.records reading.gate → LeavesOnly z z.seen → IsAtRest version said end z
+  at_front z is lasts = record { records = reading.records; fit = reading.fit; say = reading.say; gate = reading.gate; closed = reading.closed; file = is; size = size ∙ ap length (sym is); durable = lasts }
 
-  pub cut_rests : (b z : View) → IsSettled a b → z.seen ≡ take end b.seen → LeavesOnly z z.seen → IsAtRest lines end z
+  pub cut_rests : (b z : View) → IsSettled a b → z.seen ≡ take end b.seen → LeavesOnly z z.seen → IsAtRest version said end z
   cut_rests b z s is lasts = at_front z (is ∙ ap (λ (l : List ℕ). take end l) s.seen ∙ front_is) lasts
 
-  pub whole_rests : (b : View) → IsSettled a b → length a.seen ≤ end → IsAtRest lines end b
+  pub whole_rests : (b : View) → IsSettled a b → length a.seen ≤ end → IsAtRest version said end b
   whole_rests b s short = at_front b (s.seen ∙ sym (take_all end a.seen short) ∙ front_is) (λ c left. s.only c left ∙ sym s.seen)
 
 -- a sync, and then a run at each moment of which a crash leaves a file that has P
@@ -150,8 +150,8 @@ take_none [] = refl
 take_none (x ∷ l) = refl
 
 -- a new file
-pub new_rests : (old : List ℕ) (lines : List (List ℕ)) (z : View) → length old ≤ 9 → lines ≡ [] → z.seen ≡ written old 0 (front first_version [] 0) → LeavesOnly z z.seen → IsAtRest lines 9 z
-new_rests old lines z short none is lasts =
-    let file : z.seen ≡ front first_version [] 0 =
-    is ∙ ap (λ (l : List ℕ). l ++ front first_version [] 0 ++ drop 9 old) (take_none old) ∙ ap (λ (l : List ℕ). front first_version [] 0 ++ l) (drop_all 9 old short) in
-    record { version = first_version; known = refl; records = []; fit = tt; say = sym none; gate = 0; closed = λ (e : 0 ≡ 1). omega arith; file = file; size = ap length (sym file); durable = lasts }
+pub new_rests : (old : List ℕ) (said : List Said) (z : View) → length old ≤ 9 → said ≡ [] → z.seen ≡ written old 0 (front second_version [] 0) → LeavesOnly z z.seen → IsAtRest second_version said 9 z
+new_rests old said z short none is lasts =
+    let file : z.seen ≡ front second_version [] 0 =
+    is ∙ ap (λ (l : List ℕ). l ++ front second_version [] 0 ++ drop 9 old) (take_none old) ∙ ap (λ (l : List ℕ). front second_version [] 0 ++ l) (drop_all 9 old short) in
+    record { records = []; fit = tt; say = sym none; gate = 0; closed = λ (e : 0 ≡ 1). omega arith; file = file; size = ap length (sym file); durable = lasts }

@@ -5,6 +5,6 @@ pub mod Staging
 pub mod Append
 pub mod Opening
 pub mod Store
-pub mod Lines
+pub mod Kept
 pub mod Reading
 pub mod Faults

@@ -1,9 +1,13 @@
 -- What opening a file answers, and what a crash inside it leaves.
-use Rattle.std.specs.Prelude.{◌≡◌, ◌⊎◌, ◌↔◌, ℕ, ◌<◌, ◌≤◌, List}
+use Rattle.std.specs.Prelude.{◌≡◌, ◌⊎◌, ◌↔◌, ℕ, ◌<◌, ◌≤◌, List, length, take}
 use Rattle.line_disk.specs.Disk.{View, Leaves, Rests, one_more}
-use Rattle.record_file.specs.File.{Stands, IsForeign, IsDamaged}
+use Rattle.record_file.specs.File.{Said, second_version, header, Stands, IsForeign, IsDamaged}
 use Rattle.record_file.specs.declared.fault.OpenFault.{OpenFault}
 use Rattle.record_file.specs.declared.fault.OpenFault.TheVariants.{Foreign, Damaged, Device, Memory}
+
+-- the version that a file is opened with: that of its header; a file of at most 9 bytes becomes one of the second version
+abbrev pub IsOpenedWith : ℕ → List ℕ → Type 0
+IsOpenedWith version file = ((length file ≤ 9) × (version ≡ second_version)) ⊎ ((10 ≤ length file) × (take 8 file ≡ header version))
 
 -- when a file is refused
 abbrev pub IsRefused : List ℕ → OpenFault → Type 0
@@ -20,12 +24,12 @@ CountsFault Device old new = new ≡ one_more old
 CountsFault Memory old new = new ≡ old
 
 -- a file that stands for what this one stands for, if it stands for something
-abbrev pub KeepsLines : List ℕ → List ℕ → Type 0
-KeepsLines old new = (lines : List (List ℕ)) → Stands lines old → Stands lines new
+abbrev pub KeepsRecords : List ℕ → List ℕ → Type 0
+KeepsRecords old new = (said : List Said) → Stands said old → Stands said new
 
 -- a file that stands for what this one stands for; where this one stands for nothing, it is this one
 abbrev pub KeepsFile : List ℕ → List ℕ → Type 0
-KeepsFile old new = KeepsLines old new × (((lines : List (List ℕ)) → ¬ Stands lines old) → new ≡ old)
+KeepsFile old new = KeepsRecords old new × (((said : List Said) → ¬ Stands said old) → new ≡ old)
 
 -- Up to the first sync a crash leaves what it could leave at the call. From that moment on it leaves a file that has P.
 pub record IsSynced (P : List ℕ → Type 0) (old new : View) : Type 0 where

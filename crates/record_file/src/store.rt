@@ -1,23 +1,20 @@
-//! A store of lines in a record file.
+//! A store of records in a record file.
 
-ghost use Rattle.std.specs.Prelude.{◌≡◌, ◌↔◌, ◌+◌, ◌≤◌, ◌++◌, [], ◌∷◌, List, ℕ, length, true, false, vec_len, IfOk, IfErr, MatchResult};
-ghost use Rattle.line_disk.specs.Disk.{Leaves, LeavesAlways};
-ghost use Rattle.record_file.specs.File.{Stands};
-ghost use Rattle.record_file.specs.Lines.{lines_in};
+ghost use Rattle.std.specs.Prelude.{◌≡◌, ◌≢◌, ◌↔◌, ◌+◌, ◌≤◌, ◌++◌, [], ◌∷◌, List, ℕ, length, true, false, vec_len, IfOk, IfErr, IsOk, OnOk, MatchResult};
+ghost use Rattle.line_disk.specs.Disk.{Leaves, LeavesAlways, CountsDevice};
+ghost use Rattle.record_file.specs.File.{Said, first_version, Stands};
+ghost use Rattle.record_file.specs.Kept.{said_in};
 ghost use Rattle.record_file.specs.Resting.{IsBeforeOrAfter};
-ghost use Rattle.record_file.specs.Opening.{IsRefused, CountsFault, KeepsFile};
+ghost use Rattle.record_file.specs.Opening.{IsOpenedWith, IsRefused, CountsFault, KeepsFile};
 
 use crate::appended::Appended;
 use crate::durable::write_durably;
 use crate::fault::OpenFault;
 use crate::filling::fill;
-use crate::reading::OPEN;
-use crate::settling::settle;
-use line_disk::Disk;
+use crate::reading::{FIRST_VERSION, MAX_RECORD, OPEN};
+use crate::settling::{SECOND_VERSION, settle};
+use line_disk::{Disk, DiskFault};
 use std::alloc::{AllocError, Global};
-
-/// How many bytes the longest record takes with the gate behind it.
-const ROOM: usize = 8195;
 
 /// Room for one record and the gate behind it.
 fn room(alloc: Global, n: usize) -> Result<Vec<u8>, AllocError>
@@ -26,32 +23,35 @@ fn room(alloc: Global, n: usize) -> Result<Vec<u8>, AllocError>
     vec![in alloc; 0; n]
 }
 
-/// Lines in a record file on a disk.
+/// Records in a record file on a disk: lines, each with an epoch.
 ///
 /// Once an append was answered Before or Unknown the store is stopped, until the file is opened anew.
 #[derive(Drop)]
 pub struct Store<D: Disk> {
     disk: D,
-    records: Vec<Vec<u8>>,
+    records: Vec<(u32, Vec<u8>)>,
     /// Room for one record and the gate behind it.
     buffer: Vec<u8>,
+    /// The byte of the file that tells its version.
+    version: u8,
     /// Where the bytes behind the closed gate begin.
     end: usize,
     stopped: bool,
-    ghost room: { vec_len buffer ≡ 8195 },
+    ghost room: { vec_len buffer ≡ 8199 },
     ghost gate: { 9 ≤ end },
     ghost in_file: { stopped ≡ false → D.keeps disk → end ≤ length (D.view disk).seen },
 }
 
 impl<D: Disk> Store<D> {
-    ghost use Rattle.record_file.specs.Append.{LeavesAfter, CameAsFar, CountsAppend, OnDone};
+    ghost use Rattle.record_file.specs.Append.{LeavesAfter, CameAsFar, CountsAppend, OnDone, carried_over};
     ghost use Rattle.record_file.specs.Opening.{IsSynced, LeavesRefused};
-    ghost use Rattle.record_file.specs.Store.{disk_of, found_lines, is_stopped, HasLines};
+    ghost use Rattle.record_file.specs.Store.{disk_of, found_records, is_stopped, version_of, HasRecords};
 
     /// Opens the file on a disk. It takes the memory that appends need. A fault hands the disk back.
     pub fn open(alloc: Global, disk: D) -> Result<Store<D>, (OpenFault, D)>
-        ensures lines { D.keeps disk → IfOk result (λ store. Stands (found_lines store) (D.view disk).seen) }
-        ensures ready { D.keeps disk → IfOk result (λ store. HasLines D.view store (found_lines store)) }
+        ensures records { D.keeps disk → IfOk result (λ store. Stands (found_records store) (D.view disk).seen) }
+        ensures ready { D.keeps disk → IfOk result (λ store. HasRecords D.view store (found_records store)) }
+        ensures version { D.keeps disk → IfOk result (λ store. IsOpenedWith (version_of store) (D.view disk).seen) }
         ensures goes { IfOk result (λ store. is_stopped store ≡ false) }
         ensures refused { D.keeps disk → IfErr result (λ e. IsRefused (D.view disk).seen e.0) }
 
@@ -62,7 +62,7 @@ impl<D: Disk> Store<D> {
         ensures cause { MatchResult result (λ store. D.failed (disk_of store) ≡ D.failed disk) (λ e. CountsFault e.0 (D.failed disk) (D.failed e.1)) }
         ensures premise { MatchResult result (λ store. D.keeps (disk_of store) ↔ D.keeps disk) (λ e. D.keeps e.1 ↔ D.keeps disk) }
     {
-        let buffer = match room(alloc, ROOM) {
+        let buffer = match room(alloc, MAX_RECORD) {
             Ok(buffer) => buffer,
             Err(_) => return Err((OpenFault::Memory, disk)),
         };
@@ -71,10 +71,11 @@ impl<D: Disk> Store<D> {
             return Err((OpenFault::Device, disk));
         }
         match settle(alloc, &mut disk) {
-            Ok((records, end)) => Ok(Store {
+            Ok((version, records, end)) => Ok(Store {
                 disk,
                 records,
                 buffer,
+                version,
                 end,
                 stopped: false,
             }),
@@ -82,9 +83,9 @@ impl<D: Disk> Store<D> {
         }
     }
 
-    /// The lines that the store found when it was opened.
-    pub fn records(&self) -> &[Vec<u8>]
-        ensures { lines_in result.now ≡ found_lines self.now }
+    /// The epochs and the lines of the records that the store found when it was opened.
+    pub fn records(&self) -> &[(u32, Vec<u8>)]
+        ensures { said_in result.now ≡ found_records self.now }
     {
         &self.records
     }
@@ -104,42 +105,59 @@ impl<D: Disk> Store<D> {
             disk,
             records: _,
             buffer: _,
+            version: _,
             end: _,
             stopped: _,
         } = self;
         disk
     }
 
-    /// Adds a line. Once it is Done, each crash leaves a file that has it.
-    pub fn append(&mut self, line: &[u8]) -> Appended
+    /// Makes a file of the first version one of the second, before its first append. Each other file is left as it is.
+    fn carry_over(&mut self) -> Result<(), DiskFault>
+        requires runs { is_stopped self.old ≡ false }
+        ensures same { (said : List Said) → D.keeps (disk_of self.old) → HasRecords D.view self.old said → OnOk result (HasRecords D.view self.new said) }
+        ensures any_moment { (said : List Said) → D.keeps (disk_of self.old) → HasRecords D.view self.old said
+            → LeavesAlways (Stands said) (D.view (disk_of self.old)) (D.view (disk_of self.new)) }
+        ensures version { OnOk result (version_of self.new ≡ carried_over (version_of self.old)) }
+        ensures stops { (is_stopped self.new ≡ false) ↔ IsOk result }
+        ensures cause { CountsDevice result (D.failed (disk_of self.old)) (D.failed (disk_of self.new)) }
+        ensures premise { D.keeps (disk_of self.new) ↔ D.keeps (disk_of self.old) }
+        ensures found { found_records self.new ≡ found_records self.old }
+    {
+        if self.version != FIRST_VERSION {
+            return Ok(());
+        }
+        if write_durably(&mut self.disk, 7, &[SECOND_VERSION]).is_err() {
+            self.stopped = true;
+            return Err(DiskFault::Device);
+        }
+        self.version = SECOND_VERSION;
+        Ok(())
+    }
+
+    /// Adds a record to a file of the second version.
+    fn place(&mut self, epoch: u32, line: &[u8]) -> Appended
         requires some { 1 ≤ length line.now }
         requires fits { length line.now ≤ 8192 }
+        requires runs { is_stopped self.old ≡ false }
+        requires second { version_of self.old ≢ first_version }
 
-        ensures done { (lines : List (List ℕ)) → D.keeps (disk_of self.old) → HasLines D.view self.old lines
-            → OnDone result (HasLines D.view self.new (lines ++ line.now ∷ [])) }
-
-        // What a crash may leave at any moment of the call, and after it.
-        ensures any_moment { (lines : List (List ℕ)) → D.keeps (disk_of self.old) → HasLines D.view self.old lines
-            → LeavesAlways (IsBeforeOrAfter lines line.now) (D.view (disk_of self.old)) (D.view (disk_of self.new)) }
-        ensures after { (lines : List (List ℕ)) → D.keeps (disk_of self.old) → HasLines D.view self.old lines
-            → (c : List ℕ) → Leaves (D.view (disk_of self.new)) c → LeavesAfter result lines line.now c }
-
-        // Whether the gate was written tells Before and Unknown apart.
-        ensures so_far { (lines : List (List ℕ)) → D.keeps (disk_of self.old) → HasLines D.view self.old lines
-            → CameAsFar result lines line.now (D.view (disk_of self.old)) (D.view (disk_of self.new)) }
-
-        // A stopped store makes no call of the device, and no other answer comes from one.
-        ensures stopped { (result ≡ Appended.Stopped) ↔ (is_stopped self.old ≡ true) }
-        ensures unchanged { result ≡ Appended.Stopped → self.new ≡ self.old }
+        ensures done { (said : List Said) → D.keeps (disk_of self.old) → HasRecords D.view self.old said
+            → OnDone result (HasRecords D.view self.new (said ++ (epoch, line.now) ∷ [])) }
+        ensures any_moment { (said : List Said) → D.keeps (disk_of self.old) → HasRecords D.view self.old said
+            → LeavesAlways (IsBeforeOrAfter said (epoch, line.now)) (D.view (disk_of self.old)) (D.view (disk_of self.new)) }
+        ensures after { (said : List Said) → D.keeps (disk_of self.old) → HasRecords D.view self.old said
+            → (c : List ℕ) → Leaves (D.view (disk_of self.new)) c → LeavesAfter result said (epoch, line.now) c }
+        ensures so_far { (said : List Said) → D.keeps (disk_of self.old) → HasRecords D.view self.old said
+            → CameAsFar result said (epoch, line.now) (D.view (disk_of self.old)) (D.view (disk_of self.new)) }
+        ensures goes_on { result ≢ Appended.Stopped }
         ensures stops { (is_stopped self.new ≡ false) ↔ (result ≡ Appended.Done) }
+        ensures version { version_of self.new ≡ version_of self.old }
         ensures cause { CountsAppend result (D.failed (disk_of self.old)) (D.failed (disk_of self.new)) }
         ensures premise { D.keeps (disk_of self.new) ↔ D.keeps (disk_of self.old) }
-        ensures found { found_lines self.new ≡ found_lines self.old }
+        ensures found { found_records self.new ≡ found_records self.old }
     {
-        if self.stopped {
-            return Appended::Stopped;
-        }
-        let n = fill(&mut self.buffer, line);
+        let n = fill(&mut self.buffer, epoch, line);
         if write_durably(&mut self.disk, self.end, &self.buffer[..n]).is_err() {
             self.stopped = true;
             return Appended::Before;
@@ -150,5 +168,44 @@ impl<D: Disk> Store<D> {
         }
         self.end += n;
         Appended::Done
+    }
+
+    /// Adds a record. Once it is Done, each crash leaves a file that has it. The first one makes a file of the first version one of
+    /// the second.
+    pub fn append(&mut self, epoch: u32, line: &[u8]) -> Appended
+        requires some { 1 ≤ length line.now }
+        requires fits { length line.now ≤ 8192 }
+
+        ensures done { (said : List Said) → D.keeps (disk_of self.old) → HasRecords D.view self.old said
+            → OnDone result (HasRecords D.view self.new (said ++ (epoch, line.now) ∷ [])) }
+
+        // What a crash may leave at any moment of the call, and after it.
+        ensures any_moment { (said : List Said) → D.keeps (disk_of self.old) → HasRecords D.view self.old said
+            → LeavesAlways (IsBeforeOrAfter said (epoch, line.now)) (D.view (disk_of self.old)) (D.view (disk_of self.new)) }
+        ensures after { (said : List Said) → D.keeps (disk_of self.old) → HasRecords D.view self.old said
+            → (c : List ℕ) → Leaves (D.view (disk_of self.new)) c → LeavesAfter result said (epoch, line.now) c }
+
+        // Whether the gate was written tells Before and Unknown apart.
+        ensures so_far { (said : List Said) → D.keeps (disk_of self.old) → HasRecords D.view self.old said
+            → CameAsFar result said (epoch, line.now) (D.view (disk_of self.old)) (D.view (disk_of self.new)) }
+
+        // A file of the first version is carried over, and each other one keeps its version.
+        ensures version { OnDone result (version_of self.new ≡ carried_over (version_of self.old)) }
+
+        // A stopped store makes no call of the device, and no other answer comes from one.
+        ensures stopped { (result ≡ Appended.Stopped) ↔ (is_stopped self.old ≡ true) }
+        ensures unchanged { result ≡ Appended.Stopped → self.new ≡ self.old }
+        ensures stops { (is_stopped self.new ≡ false) ↔ (result ≡ Appended.Done) }
+        ensures cause { CountsAppend result (D.failed (disk_of self.old)) (D.failed (disk_of self.new)) }
+        ensures premise { D.keeps (disk_of self.new) ↔ D.keeps (disk_of self.old) }
+        ensures found { found_records self.new ≡ found_records self.old }
+    {
+        if self.stopped {
+            return Appended::Stopped;
+        }
+        let Ok(()) = self.carry_over() else {
+            return Appended::Before;
+        };
+        self.place(epoch, line)
     }
 }

@@ -3,7 +3,7 @@ use Rattle.record_file.proofs.Exclusion.{foreign_stands, damaged_stands, damaged
 use Rattle.record_file.proofs.kinds.files_are_of_one_kind.Goals as goal
 
 pub returns-clause-one_list : goal.returns-clause-one_list
-returns-clause-one_list c = λ file lines others a b. one_list lines others file a b
+returns-clause-one_list c = λ file said others a b. one_list said others file a b
 
 pub returns-clause-foreign : goal.returns-clause-foreign
 returns-clause-foreign c = foreign_stands

@@ -1,11 +1,13 @@
-use Rattle.std.proofs.Common.{◌<◌, length}
-use Rattle.record_file.specs.File.{first_version}
+use Rattle.std.proofs.Common.{◌<◌, ◌-◌, ℕ, List, ◌++◌, length, drop}
 use Rattle.record_file.specs.Reading.{IsSoFar}
-use Rattle.record_file.specs.Lines.{lines_in}
+use Rattle.record_file.specs.Kept.{said_in}
 use Rattle.record_file.proofs.reading.walk.Given as goal
 
-abbrev pub invariant-loop-rest : goal.invariant-loop-rest
-invariant-loop-rest l = record { some : 0 < length l.rest; so_far : IsSoFar first_version l.bytes (lines_in l.lines.items) l.rest }
+abbrev pub invariant-loop-at : goal.invariant-loop-at
+invariant-loop-at l = record {
+  inside : l.at < length l.bytes;
+  so_far : (file behind : List ℕ) → IsSoFar l.version file (said_in l.fn.records.items) (l.bytes ++ behind) → IsSoFar l.version file (said_in l.records.items) (drop l.at l.bytes ++ behind);
+}
 
-abbrev pub decreases-loop-rest : goal.decreases-loop-rest
-decreases-loop-rest l = length l.rest
+abbrev pub decreases-loop-at : goal.decreases-loop-at
+decreases-loop-at l = length l.bytes - l.at

@@ -1,6 +1,7 @@
-use Rattle.std.proofs.Common.{refl, sym, ◌∙◌, subst, List, ℕ}
+use Rattle.std.proofs.Common.{refl, sym, ◌∙◌, subst, List}
 use Rattle.record_file.proofs.Appending.{at_rest_stands}
-use Rattle.record_file.specs.Store.{found_lines, HasLines}
+use Rattle.record_file.specs.File.{Said}
+use Rattle.record_file.specs.Store.{found_records, HasRecords}
 use Rattle.desk.proofs.Admitting.{refuses_file}
 use Rattle.desk.proofs.Turning.{same_held, lawful_open}
 use Rattle.desk.proofs.desk.Desk.open.Goals as goal
@@ -9,13 +10,13 @@ pub invariant_of-result : goal.invariant_of-result
 invariant_of-result g c =
     let store = c.in-Ok-open.store in
     let same = sym c.records.ensures ∙ c.in-Ok-chains_of.ensures.ok in
-    let ready = λ (keeps : _). subst (λ (ls : List (List ℕ)). HasLines g.D.Disk.view store ls) same (c.in-Ok-open.ensures.ready (c.in-Ok-open.ensures.premise.0 keeps)) in (
+    let ready = λ (keeps : _). subst (λ (ss : List Said). HasRecords g.D.Disk.view store ss) same (c.in-Ok-open.ensures.ready (c.in-Ok-open.ensures.premise.0 keeps)) in (
       lawful_open g.D.Disk.keeps g.D.Disk.view _ (same_held c.in-Ok-chains_of.chains c.in-Ok-chains_of.opening _ c.in-Ok-chains_of.ensures.copy c.in-Ok-open.ensures.goes) refl c.in-Ok.ensures.none
-          c.in-Ok-chains_of.ensures.spelled (λ keeps. at_rest_stands _ _ _ (ready keeps)),
+          c.in-Ok-chains_of.ensures.spelled (λ keeps. at_rest_stands _ _ _ _ (ready keeps)),
       (λ runs keeps. ready keeps),
       c.in-Ok.ensures.room,
     )
 
 pub returns-in-Err-chains_of-clause-refused : goal.returns-in-Err-chains_of-clause-refused
 returns-in-Err-chains_of-clause-refused g c = λ keeps.
-    refuses_file _ (found_lines c.in-Ok-open.store) c.in-Err-chains_of.fault (c.in-Ok-open.ensures.lines keeps) (rw c.records.ensures at c.in-Err-chains_of.ensures.err)
+    refuses_file _ (found_records c.in-Ok-open.store) c.in-Err-chains_of.fault (c.in-Ok-open.ensures.records keeps) (rw c.records.ensures at c.in-Err-chains_of.ensures.err)

@@ -28,7 +28,7 @@ invariant_of-self-2 g c =
           (omega (arith, c.len.ensures, c.if-len-ge-TURN_LIMIT.false)) (omega (arith, c.len-2.ensures))
           (step_same _ _ c.args.call _ _ same c.in_ok-answered.ensures.turn)
           c.answered.ensures.premise.0
-          (λ runs keeps. at_rest_stands _ _ _ (c.answered.ensures.rest runs (c.answered.ensures.premise.0 keeps)))
+          (λ runs keeps. at_rest_stands _ _ _ _ (c.answered.ensures.rest runs (c.answered.ensures.premise.0 keeps)))
           (λ runs keeps file left. subst (λ (x : Reply). MayBeLeftBy x c.answered.new.chains.accepted c.args.call file) same (c.in_ok-answered.ensures.left runs keeps file left))
           (λ is. (ap (λ s. s.disk) (c.answered.ensures.stopped is).0, (c.answered.ensures.stopped is).1)) c.answered.ensures.spelled c.lawful.ensures.counted
           (λ r call unknown. c.in_ok-answered.ensures.pending r call (same ∙ unknown))),

@@ -1,0 +1,7 @@
+use Rattle.std.proofs.Common.{◌≡◌, map, take, length}
+use Rattle.record_file.specs.Kept.{said_in}
+use Rattle.desk.specs.Files.{said_of, AreSpelled}
+use Rattle.desk.proofs.opening.admit_records.Given as goal
+
+abbrev pub invariant-loop-i : goal.invariant-loop-i
+invariant-loop-i l = record { admitted : said_in (take l.i l.records) ≡ map said_of l.chains.accepted; spelled : AreSpelled l.chains.accepted; count : l.i ≡ length l.chains.accepted }

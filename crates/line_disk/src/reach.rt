@@ -1,0 +1,19 @@
+//! How far a file is read when it is opened.
+
+/// How far a file is read when it is opened. A later read of bytes that were not read then is a fault of the device, so whatever is
+/// answered here, no read gives bytes that are not the file's.
+pub trait Reach {
+    /// Whether more is wanted than these bytes, with which the file begins. It is asked before each piece of at most 65,536 bytes,
+    /// at first with no bytes, and no more once the whole file is read.
+    fn wants_more(&mut self, bytes: &[u8]) -> bool;
+}
+
+/// Wants the whole file.
+#[derive(Drop)]
+pub struct WholeFile;
+
+impl Reach for WholeFile {
+    fn wants_more(&mut self, _bytes: &[u8]) -> bool {
+        true
+    }
+}

@@ -1,11 +1,20 @@
-//! The calls of the libraries, a call a line. An answer is the value, or the name of the fault; `?` where a line is no call.
+//! The calls of the libraries, a line each; several of one line are parted by ` | `, and so are their answers. An answer is the
+//! value, or the name of the fault; `?` where the text is no call.
 //!
 //! - ids: `id I` (as it is written again), `owns_any I`, `disjoint I I`, `is_sum I I I` (whether the first is the sum of the
 //!   others), `split I`, `sum I I`;
 //! - event trees: `events E`, `leq E E`, `exceeds_on E E I`, `join E E`, `after_event I E`;
 //! - stamps: `first`, `stamp S`, `event S`, `peek S`, `fork S`, `receive S E`, `absorb S S`;
 //! - lines: `line TEXT` (a report as it is written again, `call` for another call); any line of a client gets its reply, over
-//!   the desk of the bench; `new` begins with a fresh desk, `keep` keeps a copy of its chains, and `kept CALL` makes a call on these;
+//!   the desk of the bench; `new` begins with a fresh desk, `keep` keeps a copy of its chains, `keep opening` of those that it was
+//!   opened with, and `kept CALL` makes a call on these;
+//! - the disk in memory that the desk is over: `close` closes the desk, `disk HEX` puts a new disk that holds these bytes in place
+//!   of all (`disk` an empty one), and `open` opens a desk over the disk, behind the end of one that is open (its front, or the fault
+//!   as the program tells it). While no desk is open the calls above are answered by `closed`, but for `new` and `kept CALL`, and those
+//!   below are made, which are answered by `open` otherwise: `fail K none`, `fail K all` (the K-th call of the device from now on
+//!   fails, and has done nothing or all; which one that is, counted from the disk's first), `file` (the bytes that it holds in
+//!   hexadecimal, `-` for none), `calls` (how many calls there were), `stop K N` (in place of the disk comes one that holds what a
+//!   crash leaves behind K calls and N bytes of the next one, if that is a write);
 //! - replies: `refusal CAUSE` (the refusal for this cause that names nothing);
 //! - places, a position being a number or `retired`: `knows NAME POSITION NAME POSITION`, `need NAME POSITION NAME`,
 //!   `last_known NAME POSITION NAME FROM TO`;
@@ -16,7 +25,9 @@
 mod answer;
 mod bench;
 mod certificates;
+mod disks;
 mod event_trees;
+mod held;
 mod ids;
 mod lines;
 mod processes;
@@ -25,7 +36,6 @@ mod stamps;
 
 use anyhow::Result;
 use bench::Bench;
-pub(crate) use bench::new_desk;
 use std::alloc::Global;
 use std::io::{BufWriter, Read, Write};
 

@@ -1,2 +1,2 @@
 $records "BEGIN a" "CHECK a 1 1;1" >"$file"
-truncate -s 20 "$file"
+truncate -s 24 "$file"

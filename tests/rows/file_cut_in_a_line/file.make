@@ -1,2 +1,2 @@
 $records "BEGIN a" "CHECK a 1 1;1" >"$file"
-truncate -s 30 "$file"
+truncate -s 36 "$file"

@@ -1,2 +1,2 @@
 $records "BEGIN a" >"$file"
-truncate -s 18 "$file"
+truncate -s 22 "$file"

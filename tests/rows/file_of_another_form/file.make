@@ -1,1 +1,1 @@
-$records "BEGIN a" | sed s/RECLINE1/RECLINE2/ >"$file"
+$records "BEGIN a" | sed s/RECLINE/RECLIME/ >"$file"

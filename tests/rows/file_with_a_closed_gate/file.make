@@ -1,1 +1,1 @@
-{ printf 'RECLINE1\x00'; $records "BEGIN a" | tail -c +10; } >"$file"
+{ printf 'RECLINE2\x00'; $records "BEGIN a" | tail -c +10; } >"$file"

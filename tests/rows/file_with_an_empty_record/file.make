@@ -1,1 +1,1 @@
-{ printf 'RECLINE1\x01\x00\x00'; $records "BEGIN a" | tail -c +12; } >"$file"
+{ printf 'RECLINE2\x01\x80\x00'; $records "BEGIN a" | tail -c +12; } >"$file"

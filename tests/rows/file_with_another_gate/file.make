@@ -1,1 +1,1 @@
-{ printf 'RECLINE1\x02'; $records "BEGIN a" | tail -c +10; } >"$file"
+{ printf 'RECLINE2\x02'; $records "BEGIN a" | tail -c +10; } >"$file"

@@ -1,29 +1,17 @@
 //! The desk that calls are made on.
 
-use super::{certificates, event_trees, ids, lines, processes, replies, stamps};
+use super::held::Held;
+use super::{certificates, disks, event_trees, ids, lines, processes, replies, stamps};
 use chains::Chains;
 use desk::Desk;
-use line_disk::NullDisk;
+use line_disk::MemoryDisk;
 use std::alloc::{AllocError, Global};
-use std::mem;
 
-/// A desk, and chains that are kept aside.
+/// A desk over a disk in memory, and chains that are kept aside.
 #[derive(Drop)]
 pub struct Bench {
-    desk: Desk<NullDisk>,
+    held: Held,
     kept: Chains,
-}
-
-/// A desk of which nothing is kept on a disk.
-pub(crate) fn new_desk(alloc: Global) -> Result<Desk<NullDisk>, AllocError> {
-    Desk::open(alloc, NullDisk::new()).map_err(|_| AllocError)
-}
-
-// In place of the desk comes a fresh one.
-fn renew(desk: &mut Desk<NullDisk>) -> Result<(), AllocError> {
-    let fresh = new_desk(desk.chains().alloc())?;
-    drop(mem::replace(desk, fresh));
-    Ok(())
 }
 
 // Answers a call by its words; whether they are one.
@@ -64,55 +52,91 @@ fn answer_over(chains: &Chains, line: &str, out: &mut Vec<u8>) -> Result<bool, A
     answer_words(chains, &words, out)
 }
 
+// Keeps a copy of chains of the desk aside; whether the call names some.
+fn keep(kept: &mut Chains, desk: &Desk<MemoryDisk>, call: &str) -> Result<bool, AllocError> {
+    *kept = match call {
+        "keep" => desk.snapshot()?,
+        "keep opening" => desk.opening()?,
+        _ => return Ok(false),
+    };
+    Ok(true)
+}
+
+// Answers a call on the disk; whether it is one.
+fn answer_disk(held: &mut Held, call: &str, out: &mut Vec<u8>) -> Result<bool, AllocError> {
+    let words: Vec<&str> = call.split(' ').collect(*out.allocator())?;
+    disks::answer(held, &words, out)
+}
+
 impl Bench {
     /// Nothing was accepted yet.
     pub fn new(alloc: Global) -> Result<Bench, AllocError> {
         Ok(Bench {
-            desk: new_desk(alloc)?,
+            held: Held::new(alloc)?,
             kept: Chains::new(alloc),
         })
     }
 
-    // Keeps a copy of the desk's chains.
-    fn keep(&mut self) -> Result<(), AllocError> {
-        let kept = self.desk.snapshot()?;
-        drop(mem::replace(&mut self.kept, kept));
+    // A desk over a new disk comes in place of what is held.
+    fn renew(&mut self, out: &mut Vec<u8>) -> Result<(), AllocError> {
+        self.held = Held::new(*out.allocator())?;
+        out.extend_from_slice(b"done")
+    }
+
+    // Answers a call on the desk; whether it is one.
+    fn answer_desk(&mut self, call: &str, out: &mut Vec<u8>) -> Result<bool, AllocError> {
+        let Held::Open(desk) = &mut self.held else {
+            out.extend_from_slice(b"closed")?;
+            return Ok(true);
+        };
+        if keep(&mut self.kept, desk, call)? {
+            out.extend_from_slice(b"done")?;
+            return Ok(true);
+        }
+        if answer_over(desk.chains(), call, out)? {
+            return Ok(true);
+        }
+        lines::answer(desk, call, out)
+    }
+
+    // Answers a call; whether it is one.
+    fn answer_call(&mut self, call: &str, out: &mut Vec<u8>) -> Result<bool, AllocError> {
+        if call == "new" {
+            self.renew(out)?;
+            return Ok(true);
+        }
+        if let Some(("kept", call)) = call.split_once(' ') {
+            return answer_over(&self.kept, call, out);
+        }
+        if answer_disk(&mut self.held, call, out)? {
+            return Ok(true);
+        }
+        self.answer_desk(call, out)
+    }
+
+    // Answers calls that are parted by ` | `.
+    fn answer_calls(&mut self, line: &str, out: &mut Vec<u8>) -> Result<(), AllocError> {
+        let mut is_first = true;
+        for call in line.split(" | ") {
+            if !is_first {
+                out.extend_from_slice(b" | ")?;
+            }
+            is_first = false;
+            if !self.answer_call(call, out)? {
+                out.extend_from_slice(b"?")?;
+            }
+        }
         Ok(())
     }
 
-    // Answers a call on the bench itself; whether the word is one.
-    fn answer_word(&mut self, word: &str, out: &mut Vec<u8>) -> Result<bool, AllocError> {
-        match word {
-            "new" => renew(&mut self.desk)?,
-            "keep" => self.keep()?,
-            _ => return Ok(false),
-        }
-        out.extend_from_slice(b"done")?;
-        Ok(true)
-    }
-
-    // Answers a call; whether the line is one.
-    fn answer_call(&mut self, line: &str, out: &mut Vec<u8>) -> Result<bool, AllocError> {
-        if let Some(("kept", call)) = line.split_once(' ') {
-            return answer_over(&self.kept, call, out);
-        }
-        if answer_over(self.desk.chains(), line, out)? {
-            return Ok(true);
-        }
-        if self.answer_word(line, out)? {
-            return Ok(true);
-        }
-        lines::answer(&mut self.desk, line, out)
-    }
-
-    /// Writes what is answered to a line: the value of the call, or the name of a fault; `?` where it is no call.
+    /// Writes what is answered to a line: the value of the call, or the name of a fault; `?` where it is no call. Several calls
+    /// of one line are parted by ` | `, and so are the answers.
     pub fn answer(&mut self, line: &[u8], out: &mut Vec<u8>) -> Result<(), AllocError> {
         let Ok(line) = str::from_utf8(line) else {
             return out.extend_from_slice(b"?");
         };
-        match self.answer_call(line, out) {
-            Ok(true) => Ok(()),
-            Ok(false) => out.extend_from_slice(b"?"),
+        match self.answer_calls(line, out) {
+            Ok(()) => Ok(()),
             Err(_) => {
                 out.clear();
                 out.extend_from_slice(b"Memory")

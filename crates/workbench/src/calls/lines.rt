@@ -3,7 +3,7 @@
 use super::answer::put_by;
 use client_link::Streams;
 use desk::Desk;
-use line_disk::NullDisk;
+use line_disk::MemoryDisk;
 use report_line::{Call, PackedReport, read_line, write_line};
 use session::run;
 use std::alloc::{AllocError, Global};
@@ -35,7 +35,7 @@ fn client_of(alloc: Global, line: &[u8]) -> Result<Streams<&[u8], Vec<u8>>, Allo
 }
 
 // A session over the desk. It stands alone, since its clause is long.
-fn serve(desk: &mut Desk<NullDisk>, client: &mut Streams<&[u8], Vec<u8>>) {
+fn serve(desk: &mut Desk<MemoryDisk>, client: &mut Streams<&[u8], Vec<u8>>) {
     let _end = run(desk, client);
 }
 
@@ -47,7 +47,11 @@ fn put_without_end(reply: &[u8], out: &mut Vec<u8>) -> Result<(), AllocError> {
 }
 
 // Writes the reply of a session that has this line alone, without its LF.
-fn put_reply(desk: &mut Desk<NullDisk>, line: &[u8], out: &mut Vec<u8>) -> Result<(), AllocError> {
+fn put_reply(
+    desk: &mut Desk<MemoryDisk>,
+    line: &[u8],
+    out: &mut Vec<u8>,
+) -> Result<(), AllocError> {
     let mut client = client_of(*out.allocator(), line)?;
     serve(desk, &mut client);
     let (_rest, written) = client.into_inner();
@@ -56,7 +60,7 @@ fn put_reply(desk: &mut Desk<NullDisk>, line: &[u8], out: &mut Vec<u8>) -> Resul
 
 // The same of a line without its LF.
 fn put_reply_to(
-    desk: &mut Desk<NullDisk>,
+    desk: &mut Desk<MemoryDisk>,
     line: &[u8],
     out: &mut Vec<u8>,
 ) -> Result<(), AllocError> {
@@ -71,7 +75,7 @@ fn is_call(alloc: Global, line: &[u8]) -> bool {
 
 /// Answers a line that is a call of a client by its reply; whether it is one.
 pub fn answer(
-    desk: &mut Desk<NullDisk>,
+    desk: &mut Desk<MemoryDisk>,
     line: &str,
     out: &mut Vec<u8>,
 ) -> Result<bool, AllocError> {

@@ -1,7 +1,6 @@
 //! A session of one process against a loop that reads and compares the same lines: the first loop and session of the program;
 //! then many, whose memory is handed back to the system behind each; and many with memory that was used before.
 
-use crate::calls::new_desk;
 use anyhow::Result;
 use client_link::Streams;
 use desk::Desk;
@@ -94,6 +93,11 @@ fn time_over(rt: &HostRuntime, desk: &mut Desk<NullDisk>, input: &[u8]) -> Resul
     let output = BufWriter::new(rt.alloc(), Vec::new(rt.alloc()))?;
     let mut client = Streams::new(input, output);
     time_serving(rt, desk, &mut client)
+}
+
+/// A desk of which nothing is kept on a disk.
+fn new_desk(alloc: Global) -> Result<Desk<NullDisk>, AllocError> {
+    Desk::open(alloc, NullDisk::new()).map_err(|_| AllocError)
 }
 
 /// The same over a new desk. Making it and dropping it is not counted.

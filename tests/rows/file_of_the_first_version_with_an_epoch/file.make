@@ -1,0 +1,1 @@
+$records 'BEGIN a' | sed s/RECLINE2/RECLINE1/ >"$file"

@@ -1,0 +1,1 @@
+"$records" 'BEGIN a' >"$file" && truncate -s 8G "$file"

@@ -1,0 +1,1 @@
+printf 'no record file' >"$file" && truncate -s 8G "$file"

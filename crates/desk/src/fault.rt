@@ -17,7 +17,8 @@ pub enum DeskFault {
     /// This record is not the line of a report.
     #[error("line {0}")]
     Line(usize),
-    /// The report of this record is refused by this number: 1 where it was accepted before.
+    /// This record is refused by this number: that of the test which its report fails, 1 where that was accepted before, and 19 where
+    /// its epoch is not 0.
     #[error("refused {0} {1}")]
     Refused(usize, u8),
     /// The device failed.

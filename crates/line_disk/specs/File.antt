@@ -1,16 +1,8 @@
 -- What callers see of a disk over a file.
 use Rattle.std.specs.Prelude.{ℕ, List}
 use Rattle.line_disk.specs.Device.{Done, Unread, held}
-use Rattle.line_disk.specs.Known.{read_of, unread_of, first_of, calls_of}
+use Rattle.line_disk.specs.Known.{first_of, calls_of}
 use Rattle.line_disk.specs.declared.file.FileDisk.{FileDisk}
-
--- the bytes that were read when it was opened
-abbrev pub file_read : {P : Type 0} → FileDisk P → List ℕ
-file_read disk = read_of disk.known
-
--- how many stood behind them
-abbrev pub file_unread : {P : Type 0} → FileDisk P → ℕ
-file_unread disk = unread_of disk.known
 
 -- what the file held when it was opened: the bytes that were read, and behind them those that no code has seen
 abbrev pub file_first : {P : Type 0} → Unread → FileDisk P → List ℕ

@@ -3,7 +3,7 @@
 //!
 //! That the calls noted here are the calls made is read in this file, and not proved.
 
-ghost use Rattle.std.specs.Prelude.{◌≡◌, ◌+◌, ◌^◌, ◌<◌, ◌≤◌, ◌++◌, [], IfOk, OnOk, length, take, vec_len};
+ghost use Rattle.std.specs.Prelude.{◌≡◌, ◌+◌, ◌^◌, ◌<◌, ◌≤◌, [], IfOk, OnOk, length, take, vec_len};
 ghost use Rattle.line_disk.specs.Device.{KeepsModel, view_by};
 
 use crate::fault::device_failed;
@@ -94,7 +94,7 @@ fn sync_folder<R: Files<File = File>>(rt: &R, path: &str) -> Result<(), DiskFaul
 }
 
 impl<P: Device> FileDisk<P> {
-    ghost use Rattle.line_disk.specs.File.{file_read, file_unread, file_first, file_calls, file_failures};
+    ghost use Rattle.line_disk.specs.File.{file_calls, file_failures};
 
     /// Opens a file, and makes it if it is missing. It is read once, from its start and as far as `reach` wants it, and a copy of
     /// that is kept in memory. A file that another program has open so is not opened. Where the file is empty its folder is synced,
@@ -107,8 +107,6 @@ impl<P: Device> FileDisk<P> {
     ) -> Result<FileDisk<P>, DiskFault>
         ensures fresh { IfOk result (λ disk. file_calls disk ≡ []) }
         ensures failures { IfOk result (λ disk. file_failures disk ≡ 0) }
-        ensures front { IfOk result (λ disk. file_read disk ≡ take (length (file_read disk)) (file_first P.unread disk)) }
-        ensures length { IfOk result (λ disk. length (file_first P.unread disk) ≡ length (file_read disk) + file_unread disk) }
     {
         let opened = OpenOptions::new()
             .read(true)

@@ -54,16 +54,20 @@ pub record IsSettled (a b : View) : Type 0 where
   pub only : LeavesOnly b a.seen
   pub seen : b.seen ≡ a.seen
 
+-- the whole of a file is its front
+same_front : (f c : List ℕ) → c ≡ f → c ≡ take (length c) f
+same_front f c is = is ∙ sym (take_all (length c) f (omega (arith, ap length is)))
+
 pub settled : (a : View) → LeavesOnly a a.seen → IsSettled a a
 settled a only = record {
-  always = starts (KeepsFile a.seen) a (λ c left. (λ ls stands. subst (Stands ls) (sym (only c left)) stands, λ none. only c left));
+  always = starts (KeepsFile a.seen) a (λ c left. (λ ls stands. subst (Stands ls) (sym (only c left)) stands, (λ no_new. same_front a.seen c (only c left), λ none. only c left)));
   only = only;
   seen = refl;
 }
 
 pub settled_more : (a b z : View) → IsSettled a b → Rests b z → IsSettled a z
 settled_more a b z s rest = record {
-  always = goes_on (KeepsFile a.seen) (λ d c. c ≡ d) a b z s.always rest.0 (λ d c left same. (λ ls stands. subst (Stands ls) (sym (same ∙ s.only d left)) stands, λ none. same ∙ s.only d left));
+  always = goes_on (KeepsFile a.seen) (λ d c. c ≡ d) a b z s.always rest.0 (λ d c left same. (λ ls stands. subst (Stands ls) (sym (same ∙ s.only d left)) stands, (λ no_new. same_front a.seen c (same ∙ s.only d left), λ none. same ∙ s.only d left)));
   only = λ c left. let from = leaves (λ d c. c ≡ d) (λ d. refl) b z rest.0 c left in from.2 ∙ s.only from.0 from.1;
   seen = rest.1 ∙ s.seen;
 }
@@ -71,7 +75,7 @@ settled_more a b z s rest = record {
 -- while a new file is written
 pub new_always : (a b z : View) → IsSettled a b → length a.seen ≤ 9 → Passes (IsTorn 0 9) b z → LeavesAlways (KeepsFile a.seen) a z
 new_always a b z s short call = goes_on (KeepsFile a.seen) (IsTorn 0 9) a b z s.always call
-    (λ d c left torn. (λ ls stands. inl (omega (arith, torn.no_longer, ap length (s.only d left)), new_records ls a.seen short stands), λ none. absurd (none [] (inl (short, refl)))))
+    (λ d c left torn. (λ ls stands. inl (omega (arith, torn.no_longer, ap length (s.only d left)), new_records ls a.seen short stands), (λ no_new. absurd (omega (arith, no_new, short)), λ none. absurd (none [] (inl (short, refl))))))
 
 module _ (version : ℕ) (said : List Said) (end : ℕ) (a : View) (reading : IsReading a.seen version said end) where
   is_file : IsFileOf said a.seen
@@ -95,7 +99,7 @@ module _ (version : ℕ) (said : List Said) (end : ℕ) (a : View) (reading : Is
       let long : end ≤ length c = omega (arith, cut.no_shorter, within) in
       let begins_so : take end c ≡ front version reading.records reading.gate = ap (λ (l : List ℕ). take end l) cut.front ∙ take-take end (length c) a.seen long ∙ front_is in (
         λ ls stands. subst (λ (l : List Said). Stands l c) (one_list said ls a.seen (inr is_file) stands) (inr (begins version reading.records said reading.gate end c reading.fit reading.say reading.closed begins_so)),
-        λ none. absurd (none said (inr is_file)),
+        (λ no_new. cut.front, λ none. absurd (none said (inr is_file))),
       )
 
   -- while what stands behind the closed gate is cut off

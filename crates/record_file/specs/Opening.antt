@@ -27,9 +27,10 @@ CountsFault Memory old new = new ≡ old
 abbrev pub KeepsRecords : List ℕ → List ℕ → Type 0
 KeepsRecords old new = (said : List Said) → Stands said old → Stands said new
 
--- a file that stands for what this one stands for; where this one stands for nothing, it is this one
+-- A file that stands for what this one stands for. Of one that is no new file it is the front: at most a tail is gone. Where this one
+-- stands for nothing, it is this one.
 abbrev pub KeepsFile : List ℕ → List ℕ → Type 0
-KeepsFile old new = KeepsRecords old new × (((said : List Said) → ¬ Stands said old) → new ≡ old)
+KeepsFile old new = KeepsRecords old new × ((10 ≤ length old → new ≡ take (length new) old) × (((said : List Said) → ¬ Stands said old) → new ≡ old))
 
 -- Up to the first sync a crash leaves what it could leave at the call. From that moment on it leaves a file that has P.
 pub record IsSynced (P : List ℕ → Type 0) (old new : View) : Type 0 where

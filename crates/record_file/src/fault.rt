@@ -9,7 +9,7 @@ use thiserror::Error;
 /// Why a record file was not opened. The disk comes back beside it.
 #[derive(Clone, Copy, Debug, PartialEq, Eq, Error)]
 pub enum OpenFault {
-    /// The file has 10 bytes or more, and the first 8 are no header. It is as it was.
+    /// The file has 10 bytes or more, and the first 7 are not those of a record file. It is as it was.
     #[error("foreign")]
     Foreign,
     /// Behind the open gate of this record, counted from 1, no whole record lies in the file. It is as it was.

@@ -37,13 +37,13 @@ at_or_below e f x y z w of_e of_f le le' = elim [
   | false ∷ t ↦ omega (arith, of_e.at_left t, of_f.at_left t)
 ]
 
-more_left : (i : IdTree) (e f : EventTree) (x y z w : ℕ) → owns i [] ≡ true → Has e x y → Has f z w → x < z → y ≤ w → AreGrown e i f
+pub more_left : (i : IdTree) (e f : EventTree) (x y z w : ℕ) → owns i [] ≡ true → Has e x y → Has f z w → x < z → y ≤ w → AreGrown e i f
 more_left i e f x y z w owned of_e of_f less le = (at_or_below e f x y z w of_e of_f (omega arith) le, ([], owned, omega (arith, of_e.at_root, of_f.at_root)))
 
-more_right : (i : IdTree) (e f : EventTree) (x y z w : ℕ) → owns i (true ∷ []) ≡ true → Has e x y → Has f z w → x ≤ z → y < w → AreGrown e i f
+pub more_right : (i : IdTree) (e f : EventTree) (x y z w : ℕ) → owns i (true ∷ []) ≡ true → Has e x y → Has f z w → x ≤ z → y < w → AreGrown e i f
 more_right i e f x y z w owned of_e of_f le less = (at_or_below e f x y z w of_e of_f le (omega arith), (true ∷ [], owned, omega (arith, of_e.at_right [], of_f.at_right [])))
 
-halved : IsSplit One left right
+pub halved : IsSplit One left right
 halved = record { left = some_left; right = some_right; disjoint = apart; together = both }
 
 -- ---- report by report

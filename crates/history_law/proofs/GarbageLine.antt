@@ -149,7 +149,7 @@ module _ (root : Name) (h : History) (front accepted : List Report) (folded : Is
       (y.0, y.1, omega arith)
   up_back p Retired e failed chosen up = up
 
-  as_many : length (known front) ≤ length (known accepted)
+  pub as_many : length (known front) ≤ length (known accepted)
   as_many =
       elim (cases_lt (length (known accepted)) (length (known front))) [
         | inl fewer ↦
@@ -160,16 +160,16 @@ module _ (root : Name) (h : History) (front accepted : List Report) (folded : Is
       ]
 
   module _ (every : (p : ℕ) → p < length (known front) → Contains all p) (garbage : List Position) (is_cut : IsCut front all garbage) where
-    abbrev longer : List Position
+    abbrev pub longer : List Position
     longer = garbage ++ replicate (length (known accepted) - length (known front)) (At 0)
 
-    same_position : (p : ℕ) → position_in longer p ≡ position_in garbage p
+    pub same_position : (p : ℕ) → position_in longer p ≡ position_in garbage p
     same_position p = with_zeros garbage (length (known accepted) - length (known front)) p
 
-    unborn_later : (p : ℕ) → length (known front) ≤ p → position_in longer p ≡ At 0
+    pub unborn_later : (p : ℕ) → length (known front) ≤ p → position_in longer p ≡ At 0
     unborn_later p past = same_position p ∙ get_or_past garbage p (At 0) (let complete : length garbage ≡ length (known front) = is_cut.complete in omega arith)
 
-    longer_is_cut : (failed : List ℕ) → IsCut accepted failed longer
+    pub longer_is_cut : (failed : List ℕ) → IsCut accepted failed longer
     longer_is_cut failed = record {
       complete =
           (let complete : length garbage ≡ length (known front) = is_cut.complete in
@@ -216,7 +216,7 @@ module _ (root : Name) (h : History) (front accepted : List Report) (folded : Is
     longer_is_closed : IsClosed root h front garbage → IsClosed root h accepted longer
     longer_is_closed closed x y edge inside = in_longer x (closed x y edge (in_garbage y inside))
 
-    longer_is_consistent : (failed : List ℕ) → IsClosed root h front garbage → IsConsistentCut accepted failed longer
+    pub longer_is_consistent : (failed : List ℕ) → IsClosed root h front garbage → IsConsistentCut accepted failed longer
     longer_is_consistent failed closed = record {
       is_cut = longer_is_cut failed;
       consistent = (closed_is_consistent root h accepted after failed longer (longer_is_cut failed)).0 (longer_is_closed closed);

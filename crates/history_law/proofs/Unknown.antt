@@ -33,7 +33,7 @@ kind_of is = ap (λ (x : Event). x.kind) is
 
 -- ---- the root is known
 
-begun : (accepted : List Report) → IsFolded accepted → (p : Name) → IsKnown accepted p → (q : Name) × Contains accepted (Begin q)
+pub begun : (accepted : List Report) → IsFolded accepted → (p : Name) → IsKnown accepted p → (q : Name) × Contains accepted (Begin q)
 begun _ nothing_folded p there = (let lt = there.1 in absurd (omega arith))
 begun _ (one_folded before (Begin q) folded fit) p there = (q, Contains-push before (Begin q))
 begun _ (one_folded before (Numbered r) folded fit) p there =

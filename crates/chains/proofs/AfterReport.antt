@@ -1,9 +1,9 @@
 -- Chains are in order again after one more report.
-use Rattle.std.proofs.Common.{◌≡◌, ℕ, ◌+◌, ◌<◌, List, [], ◌∷◌, ◌++◌, length, get_or, map, Some, refl, sym, ap, subst, ◌∙◌, arith}
+use Rattle.std.proofs.Common.{◌≡◌, ℕ, ◌+◌, ◌<◌, ◌≤◌, List, [], ◌∷◌, ◌++◌, length, get_or, map, Some, refl, sym, ap, subst, ◌∙◌, arith}
 use Rattle.std.specs.Prelude.{nat_eq}
 use Rattle.std.specs.Cmp.Lexicographic.{pointwise}
 use Rattle.std.proofs.lemmas.Bool.{true≢false}
-use Rattle.std.proofs.lemmas.List.{get_or-map}
+use Rattle.std.proofs.lemmas.List.{get_or-map, length-append}
 use Rattle.std.proofs.lemmas.List.Sums.{count_by-le-length}
 use Rattle.std.proofs.lemmas.Option.{slice_get_within}
 use Rattle.indexmap.specs.IndexSet.{insert_key}
@@ -12,8 +12,8 @@ use Rattle.report_line.specs.declared.report.Report.TheVariants.{Begin, Numbered
 use Rattle.chains.specs.declared.process.Process.{Process}
 use Rattle.chains.specs.Processes.{Name, known, is_numbered_of}
 use Rattle.chains.specs.Elements.{name_of}
-use Rattle.chains.specs.Held.{counting}
-use Rattle.chains.specs.Admission.{IsReachable, one_more, Passes}
+use Rattle.chains.specs.Admission.{report_limit, process_limit}
+use Rattle.chains.specs.Folded.{IsFit, IsFolded, one_folded}
 use Rattle.chains.specs.Kept.{Kept, HasRoomFor}
 use Rattle.chains.specs.Answers.{IsNumberOf}
 use Rattle.chains.specs.Keeping.{KeptProcess, kept_of, view_of}
@@ -22,10 +22,8 @@ use Rattle.chains.specs.Room.{element_room, HasNoteRoom, MayBeKept}
 use Rattle.chains.specs.Inside.{AreInOrder}
 use Rattle.chains.proofs.Keeps.{as_many, kept_there}
 use Rattle.chains.proofs.Stepping.{same_bytes}
-use Rattle.chains.proofs.Passed.{passed_tests, begins}
 use Rattle.chains.proofs.Distinct.{distinct_known}
-use Rattle.chains.proofs.Folding.{unbegun, reached_folded}
-use Rattle.chains.proofs.InOrder.{few_after, few_known_after, in_order_numbered}
+use Rattle.chains.proofs.InOrder.{in_order_numbered}
 
 -- ---- before
 
@@ -48,20 +46,18 @@ may_be_kept k names processes (Numbered r) i h rooms at room = record {
 -- ---- after
 
 after_numbered : (accepted : List Report) (names names' : List Name) (processes processes' : List Process) (r : Report) (i : ℕ) → AreInOrder accepted names processes
-    → Passes (counting accepted) r → IsNumberOf accepted r i
+    → IsFit accepted r → IsNumberOf accepted r i
     → names' ≡ names_after names r → IsKeptBy (map view_of processes) names r i (length accepted) (map view_of processes')
     → (names' ≡ known (accepted ++ r ∷ [])) × (map view_of processes' ≡ map (kept_of (accepted ++ r ∷ [])) (known (accepted ++ r ∷ [])))
-after_numbered accepted names names' processes processes' (Numbered r) i h admitted at is kept =
-    let pass = passed_tests (counting accepted) r (length accepted + 1) admitted in
+after_numbered accepted names names' processes processes' (Numbered r) i h fit at is kept =
     let change = noted (length accepted) (is_check r.action) in
     let by : IsKeptByAction (known accepted) (changed_at change i (map (kept_of accepted) (known accepted))) r.action (length accepted) (map view_of processes') =
     subst (λ (ns : List Name). IsKeptByAction ns (changed_at change i (map (kept_of accepted) (known accepted))) r.action (length accepted) (map view_of processes')) h.named
     (subst (λ (v : List KeptProcess). IsKeptByAction names (changed_at change i v) r.action (length accepted) (map view_of processes')) h.kept kept) in
-    let both = in_order_numbered accepted r r.action i (map view_of processes') (reached_folded accepted h.reachable) h.distinct at pass by in
+    let both = in_order_numbered accepted r r.action i (map view_of processes') h.folded h.distinct at fit by in
     (is ∙ ap (λ (ns : List Name). names_after ns (Numbered r)) h.named ∙ both.0, both.1)
-after_numbered accepted names names' processes processes' (Begin p) i h admitted at is kept =
-    let none : known accepted ≡ [] = begins (known accepted) (counting accepted) p (length accepted + 1) admitted in
-    let empty : accepted ≡ [] = unbegun accepted (reached_folded accepted h.reachable) none in
+after_numbered accepted names names' processes processes' (Begin p) i h empty at is kept =
+    let none : known accepted ≡ [] = ap known empty in
     let start : kept_of (Begin p ∷ []) p ≡ born 0 = rw (same_bytes p) refl in
     let whole : accepted ++ Begin p ∷ [] ≡ Begin p ∷ [] = ap (λ (xs : List Report). xs ++ Begin p ∷ []) empty in
     let before : map view_of processes ≡ [] = h.kept ∙ ap (map (kept_of accepted)) none in
@@ -72,16 +68,16 @@ after_numbered accepted names names' processes processes' (Begin p) i h admitted
     )
 
 pub after_report : (accepted after : List Report) (names names' : List Name) (processes processes' : List Process) (r : Report) (i : ℕ) → AreInOrder accepted names processes
-    → Passes (counting accepted) r → IsNumberOf accepted r i → after ≡ accepted ++ r ∷ []
+    → IsFit accepted r → length accepted < report_limit → length (known (accepted ++ r ∷ [])) ≤ process_limit → IsNumberOf accepted r i → after ≡ accepted ++ r ∷ []
     → names' ≡ names_after names r → IsKeptBy (map view_of processes) names r i (length accepted) (map view_of processes') → AreInOrder after names' processes'
-after_report accepted after names names' processes processes' r i h admitted at is n kept =
-    let reach : IsReachable (accepted ++ r ∷ []) = one_more accepted r h.reachable admitted in
-    let both = after_numbered accepted names names' processes processes' r i h admitted at n kept in
+after_report accepted after names names' processes processes' r i h fit few few_known at is n kept =
+    let folded : IsFolded (accepted ++ r ∷ []) = one_folded accepted r h.folded fit in
+    let both = after_numbered accepted names names' processes processes' r i h fit at n kept in
     subst (λ (xs : List Report). AreInOrder xs names' processes') (sym is) (record {
-      reachable = reach;
-      few = few_after accepted r admitted;
-      few_known = few_known_after accepted r admitted h.few_known;
-      distinct = distinct_known (accepted ++ r ∷ []) (reached_folded (accepted ++ r ∷ []) reach);
+      folded = folded;
+      few = omega (arith, length-append accepted (r ∷ []), few);
+      few_known = few_known;
+      distinct = distinct_known (accepted ++ r ∷ []) folded;
       named = both.0;
       kept = both.1;
     })

@@ -1,12 +1,14 @@
--- What admission reaches is folded.
+-- What admission reaches is folded, with an epoch beside each report.
 use Rattle.std.proofs.Common.{◌≡◌, ◌≢◌, ℕ, ◌+◌, List, [], ◌∷◌, ◌++◌, length, refl, sym, ap, ◌∙◌, arith}
 use Rattle.report_line.specs.declared.report.Report.{Report}
 use Rattle.report_line.specs.declared.report.Report.TheVariants.{Begin, Numbered}
 use Rattle.report_line.specs.declared.reply.Reply.TheVariants.{Accepted}
 use Rattle.chains.specs.Processes.{Name, known}
-use Rattle.chains.specs.Held.{Held, counting}
-use Rattle.chains.specs.Admission.{IsReachable, nothing_accepted, one_more, IsAdmission}
-use Rattle.chains.specs.Folded.{IsFit, IsFolded, nothing_folded, one_folded}
+use Rattle.std.proofs.lemmas.List.{length-append}
+use Rattle.report_line.specs.declared.marked.MarkedReport.{MarkedReport}
+use Rattle.chains.specs.Held.{Held, with_report}
+use Rattle.chains.specs.Admission.{IsReachable, nothing_accepted, one_more, IsReportReply, IsAdmission}
+use Rattle.chains.specs.Folded.{IsFit, IsFolded, nothing_folded, one_folded, IsReached}
 use Rattle.chains.proofs.Passed.{passed_tests, begins}
 use Rattle.chains.proofs.Stepping.{known-push, still_known}
 
@@ -27,12 +29,17 @@ unbegun _ (one_folded before (Numbered r) folded fit) e =
 -- ---- each list that is reached
 
 -- what is accepted behind a folded list is fit
-fit_of : (held : Held) (r : Report) (front : ℕ) → IsFolded held.accepted → IsAdmission held r (Accepted front) → IsFit held.accepted r
-fit_of held (Begin p) front folded admitted = unbegun held.accepted folded (begins (known held.accepted) held p front admitted)
-fit_of held (Numbered r) front folded admitted = passed_tests held r front admitted
+pub fit_of : (held : Held) (epoch : ℕ) (r : Report) (front : ℕ) → IsFolded held.accepted → IsReportReply held epoch r (Accepted front) → IsFit held.accepted r
+fit_of held epoch (Begin p) front folded admitted = unbegun held.accepted folded (begins (known held.accepted) held epoch p front admitted)
+fit_of held epoch (Numbered r) front folded admitted = passed_tests held epoch r front admitted
 
-pub reached_folded : (accepted : List Report) → IsReachable accepted → IsFolded accepted
-reached_folded _ nothing_accepted = nothing_folded
-reached_folded _ (one_more before r reach admitted) =
-    let folded = reached_folded before reach in
-    one_folded before r folded (fit_of (counting before) r (length before + 1) folded admitted)
+pub push_reached : (held : Held) (m : MarkedReport) (front : ℕ) → IsReached held → IsAdmission held m (Accepted front) → IsReached (with_report held m)
+push_reached held m front at admitted = record {
+  folded = one_folded held.accepted m.report at.folded (fit_of held m.epoch m.report front at.folded admitted);
+  marked = omega (arith, length-append held.epochs (m.epoch ∷ []), length-append held.accepted (m.report ∷ []), at.marked);
+  counted = omega (arith, length-append held.accepted (m.report ∷ []), at.counted);
+}
+
+pub reached_folded : (held : Held) → IsReachable held → IsReached held
+reached_folded _ nothing_accepted = record { folded = nothing_folded; marked = refl; counted = omega arith }
+reached_folded _ (one_more before m reach admitted) = push_reached before m (before.front + 1) (reached_folded before reach) admitted

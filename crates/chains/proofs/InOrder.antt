@@ -19,7 +19,8 @@ use Rattle.report_line.specs.declared.report.Report.{Report}
 use Rattle.report_line.specs.declared.report.Report.TheVariants.{Begin, Numbered}
 use Rattle.chains.specs.Processes.{Name, newborn, child_of, known, IsKnown, first_of, last_passing, is_numbered_of, is_birth_of, is_absorb_of, is_absorbed, target_after}
 use Rattle.chains.specs.Elements.{name_of, lasting_made, lasting_by}
-use Rattle.chains.specs.Held.{counting}
+use Rattle.report_line.specs.declared.marked.MarkedReport.{MarkedReport}
+use Rattle.chains.specs.Held.{Held}
 use Rattle.chains.specs.Admission.{Passes, report_limit, process_limit}
 use Rattle.chains.specs.Folded.{IsFitReport, IsFolded}
 use Rattle.chains.specs.Keeping.{KeptProcess, kept_of, last_index, indexes_from}
@@ -215,18 +216,19 @@ kept_taken accepted r retired i (Some j) after fit distinct at e is =
 not_at_least : (m n : ℕ) → ¬ (m ≤ n) → n < m
 not_at_least m n h = elim (cases_lt n m) [ inl lt ↦ lt | inr le ↦ absurd (h le) ]
 
-pub few_after : (accepted : List Report) (r : Report) → Passes (counting accepted) r → length (accepted ++ r ∷ []) ≤ report_limit
-few_after accepted r h = let full = (passed (has_room (counting accepted) r (length accepted + 1) h)).0 in omega (arith, length-append accepted (r ∷ []), full)
+-- there is room for one more line
+pub few_after : (held : Held) (m : MarkedReport) → Passes held m → held.front + 1 ≤ report_limit
+few_after held m h = let full = (passed (has_room held m.epoch m.report (held.front + 1) h)).0 in omega (arith, full)
 
 -- how many are known is within the limit, where none is born or there was room for one
 known_within : (accepted : List Report) (r : Report) (o : Option Name) → newborn r ≡ o → length (known accepted) ≤ process_limit → ((o ≢ None) → length (known accepted) < process_limit) → length (known (accepted ++ r ∷ [])) ≤ process_limit
 known_within accepted r None e few room = omega (arith, few, ap length (known-push accepted r ∙ ap (λ (o : Option Name). known accepted ++ cons_option o []) e ∙ append-nil (known accepted)))
 known_within accepted r (Some q) e few room = omega (arith, room (λ f. cc), ap length (known-push accepted r ∙ ap (λ (o : Option Name). known accepted ++ cons_option o []) e), length-append (known accepted) (q ∷ []))
 
-pub few_known_after : (accepted : List Report) (r : Report) → Passes (counting accepted) r → length (known accepted) ≤ process_limit → length (known (accepted ++ r ∷ [])) ≤ process_limit
-few_known_after accepted r h few =
-    let full = (passed (passed (has_room (counting accepted) r (length accepted + 1) h)).1).0 in
-    known_within accepted r (newborn r) refl few (λ some. not_at_least process_limit (length (known accepted)) (λ le. full (some, le)))
+pub few_known_after : (held : Held) (m : MarkedReport) → Passes held m → length (known held.accepted) ≤ process_limit → length (known (held.accepted ++ m.report ∷ [])) ≤ process_limit
+few_known_after held m h few =
+    let full = (passed (passed (has_room held m.epoch m.report (held.front + 1) h)).1).0 in
+    known_within held.accepted m.report (newborn m.report) refl few (λ some. not_at_least process_limit (length (known held.accepted)) (λ le. full (some, le)))
 
 plain : (accepted : List Report) (r : NumberedReport) (after : List KeptProcess) → child_of r.action ≡ None → after ≡ map (kept_of (accepted ++ Numbered r ∷ [])) (known accepted)
     → (names_with (known accepted) (child_of r.action) ≡ known (accepted ++ Numbered r ∷ [])) × (after ≡ map (kept_of (accepted ++ Numbered r ∷ [])) (known (accepted ++ Numbered r ∷ [])))

@@ -11,7 +11,7 @@ use Rattle.std.proofs.lemmas.List.{get_or-map, length-map}
 use Rattle.std.proofs.lemmas.Option.{slice_get-get_or, slice_get_within, get_or_from_slice_get}
 use Rattle.report_line.specs.declared.report.Report.{Report}
 use Rattle.chains.specs.declared.process.Process.{Process}
-use Rattle.chains.specs.Processes.{Name, known, newborn, first_of, last_passing, is_numbered_of, is_birth_of, last_report, birth_report}
+use Rattle.chains.specs.Processes.{Name, known, newborn, first_of, last_passing, is_numbered_of, is_birth_of, last_report, last_epoch, birth_report}
 use Rattle.chains.specs.Elements.{name_of}
 use Rattle.chains.specs.Keeping.{KeptProcess, kept_of, view_of, last_index}
 use Rattle.chains.proofs.LookUps.{known_from}
@@ -52,6 +52,20 @@ pub last_some : (accepted : List Report) (processes : List Process) (i j : ℕ) 
 last_some accepted processes i j p k r h is there some at =
     ap (λ (x : Report). Some x) at ∙ sym (slice_get-get_or accepted j r (last_within accepted processes i j p k h is there some))
     ∙ ap (option_and_then (λ j. slice_get accepted j)) (sym some) ∙ last_of accepted processes i p k h is there
+
+-- ---- its epoch
+
+epoch_of : (accepted : List Report) (epochs : List ℕ) (processes : List Process) (i : ℕ) (p : Name) (k : Process) → AreKept accepted processes → name_of accepted i ≡ Some p → k ≡ get_or processes i k
+    → option_and_then (λ j. slice_get epochs j) k.last ≡ last_epoch p accepted epochs
+epoch_of accepted epochs processes i p k h is there = ap (λ (v : KeptProcess). option_and_then (λ j. slice_get epochs j) v.last) (looked_up accepted processes i p k h is there)
+
+pub no_epoch : (accepted : List Report) (epochs : List ℕ) (processes : List Process) (i : ℕ) (p : Name) (k : Process) → AreKept accepted processes → name_of accepted i ≡ Some p → k ≡ get_or processes i k
+    → k.last ≡ None → None ≡ last_epoch p accepted epochs
+no_epoch accepted epochs processes i p k h is there none = ap (option_and_then (λ j. slice_get epochs j)) (sym none) ∙ epoch_of accepted epochs processes i p k h is there
+
+pub some_epoch : (accepted : List Report) (epochs : List ℕ) (processes : List Process) (i j : ℕ) (p : Name) (k : Process) → AreKept accepted processes → name_of accepted i ≡ Some p → k ≡ get_or processes i k
+    → k.last ≡ Some j → slice_get epochs j ≡ last_epoch p accepted epochs
+some_epoch accepted epochs processes i j p k h is there some = ap (option_and_then (λ j. slice_get epochs j)) (sym some) ∙ epoch_of accepted epochs processes i p k h is there
 
 -- ---- the birth
 

@@ -27,3 +27,4 @@ pub mod Failing
 pub mod Showing
 pub mod Making
 pub mod Copying
+pub mod Putting

@@ -10,7 +10,7 @@ use Rattle.report_line.specs.declared.report.Report.TheVariants.{Begin, Numbered
 use Rattle.report_line.specs.declared.reply.Reply.TheVariants.{Accepted, Old, No}
 use Rattle.chains.specs.Processes.{Name, known, next_number, registered_id, expected_id, last_events, target_of}
 use Rattle.chains.specs.Held.{Held}
-use Rattle.chains.specs.Admission.{Decides, AreGrown, IsAdmission, IsBeginReply, IsActionReply, IsStampReply, IsWaitingReply, IsStandingReply, FitsOrNot}
+use Rattle.chains.specs.Admission.{Decides, AreGrown, IsReportReply, IsBeginReply, IsActionReply, IsStampReply, IsWaitingReply, IsStandingReply, FitsOrNot}
 use Rattle.chains.specs.Folded.{IsFitAction, IsFitReport}
 use Rattle.chains.proofs.Certain.{sure_known, sure_number, sure_id, sure_below, sure_grown, sure_split, sure_waits}
 
@@ -52,11 +52,11 @@ pub standing : (o : Option Name) (held : Held) (r : NumberedReport) (front : ℕ
 standing None held r front h = let f = passed h in (refl, sure_number r.number (next_number r.process held.accepted) f.0, f.1)
 standing (Some target) held r front h = absurd cc
 
-pub passed_tests : (held : Held) (r : NumberedReport) (front : ℕ) → IsAdmission held (Numbered r) (Accepted front) → IsFitReport held.accepted r
-passed_tests held r front h =
+pub passed_tests : (held : Held) (epoch : ℕ) (r : NumberedReport) (front : ℕ) → IsReportReply held epoch (Numbered r) (Accepted front) → IsFitReport held.accepted r
+passed_tests held epoch r front h =
     let f = passed h in
     let g = passed f.1 in
-    let k = passed_old g.1 in
+    let k = passed (passed_old g.1).1 in
     let t = standing (target_of r.process held.accepted) held r front k.1 in
     let stamp = stamped held r r.action front (unwaited held r r.action front t.2) in
     record {
@@ -70,9 +70,20 @@ passed_tests held r front h =
     }
 
 -- BEGIN is accepted where no process is known
-pub begins : (ks : List Name) (held : Held) (p : Name) (front : ℕ) → IsBeginReply (slice_get ks 0) held p (Accepted front) → ks ≡ []
-begins [] held p front h = refl
-begins (k ∷ ks) held p front h = absurd (let e = (passed h).1 in cc)
+pub begins : (ks : List Name) (held : Held) (epoch : ℕ) (p : Name) (front : ℕ) → IsBeginReply (slice_get ks 0) held epoch p (Accepted front) → ks ≡ []
+begins [] held epoch p front h = refl
+begins (k ∷ ks) held epoch p front h = absurd (let e = (passed h).1 in cc)
+
+-- ---- the epoch
+
+epoch_of_begin : (o : Option Name) (held : Held) (epoch : ℕ) (p : Name) (front : ℕ) → IsBeginReply o held epoch p (Accepted front) → epoch ≡ held.epoch
+epoch_of_begin None held epoch p front h = sure_number epoch held.epoch (passed h).0
+epoch_of_begin (Some q) held epoch p front h = absurd (let e = (passed h).1 in cc)
+
+-- what is accepted is of the present epoch
+pub present_epoch : (held : Held) (epoch : ℕ) (r : Report) (front : ℕ) → IsReportReply held epoch r (Accepted front) → epoch ≡ held.epoch
+present_epoch held epoch (Begin p) front h = epoch_of_begin (slice_get (known held.accepted) 0) held epoch p front h
+present_epoch held epoch (Numbered r) front h = sure_number epoch held.epoch (passed (passed_old (passed (passed h).1).1).1).0
 
 -- ---- the last tests
 
@@ -82,13 +93,13 @@ room_of_action held r (Retire target) front h = (passed h).1
 room_of_action held r (Absorb retired) front h = (passed h).1
 room_of_action held r _ front h = h
 
-room_of_begin : (o : Option Name) (held : Held) (p : Name) (front : ℕ) → IsBeginReply o held p (Accepted front) → FitsOrNot held (Begin p) (Accepted front)
-room_of_begin None held p front h = h
-room_of_begin (Some q) held p front h = absurd (let e = (passed h).1 in cc)
+room_of_begin : (o : Option Name) (held : Held) (epoch : ℕ) (p : Name) (front : ℕ) → IsBeginReply o held epoch p (Accepted front) → FitsOrNot held (Begin p) (Accepted front)
+room_of_begin None held epoch p front h = (passed h).1
+room_of_begin (Some q) held epoch p front h = absurd (let e = (passed h).1 in cc)
 
 -- what is accepted has room
-pub has_room : (held : Held) (r : Report) (front : ℕ) → IsAdmission held r (Accepted front) → FitsOrNot held r (Accepted front)
-has_room held (Begin p) front h = room_of_begin (slice_get (known held.accepted) 0) held p front h
-has_room held (Numbered r) front h =
-    let t = standing (target_of r.process held.accepted) held r front (passed_old (passed (passed h).1).1).1 in
+pub has_room : (held : Held) (epoch : ℕ) (r : Report) (front : ℕ) → IsReportReply held epoch r (Accepted front) → FitsOrNot held r (Accepted front)
+has_room held epoch (Begin p) front h = room_of_begin (slice_get (known held.accepted) 0) held epoch p front h
+has_room held epoch (Numbered r) front h =
+    let t = standing (target_of r.process held.accepted) held r front (passed (passed_old (passed (passed h).1).1).1).1 in
     room_of_action held r r.action front (stamped held r r.action front (unwaited held r r.action front t.2)).2

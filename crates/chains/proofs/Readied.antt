@@ -5,7 +5,7 @@ use Rattle.report_line.specs.declared.report.Report.{Report}
 use Rattle.report_line.specs.declared.report.Report.TheVariants.{Begin, Numbered}
 use Rattle.report_line.specs.declared.reply.Reply.TheVariants.{Accepted}
 use Rattle.chains.specs.Held.{Held}
-use Rattle.chains.specs.Admission.{IsAdmission}
+use Rattle.chains.specs.Admission.{IsReportReply}
 use Rattle.chains.specs.Kept.{Kept, HasRoomFor}
 use Rattle.chains.specs.Answers.{IsNumberOf}
 use Rattle.chains.specs.Testing.{IsNumberIn}
@@ -19,7 +19,7 @@ readied k accepted (Numbered r) None same is found room = absurd found
 readied k accepted (Numbered r) (Some i) same is found room = (subst (λ (xs : List Report). IsNumberOf xs (Numbered r) i) (sym same) is, room)
 
 -- the number of a report that is accepted was found
-pub found : (held : Held) (r : Report) (number : Option ℕ) (front : ℕ) → IsNumberIn held.accepted r number → IsAdmission held r (Accepted front) → IsFound r number
-found held (Begin p) number front is admitted = is
-found held (Numbered r) None front is admitted = is (passed_tests held r front admitted).is_known
-found held (Numbered r) (Some i) front is admitted = tt
+pub found : (held : Held) (epoch : ℕ) (r : Report) (number : Option ℕ) (front : ℕ) → IsNumberIn held.accepted r number → IsReportReply held epoch r (Accepted front) → IsFound r number
+found held epoch (Begin p) number front is admitted = is
+found held epoch (Numbered r) None front is admitted = is (passed_tests held epoch r front admitted).is_known
+found held epoch (Numbered r) (Some i) front is admitted = tt

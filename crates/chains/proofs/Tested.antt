@@ -21,9 +21,9 @@ use Rattle.report_line.specs.declared.reply.Reply.TheVariants as replies
 use Rattle.chains.specs.declared.tests.Verdict.{Verdict}
 use Rattle.chains.specs.declared.tests.Verdict.TheVariants.{Old, Fits}
 use Rattle.chains.specs.declared.refusal.No.{No}
-use Rattle.chains.specs.Processes.{Name, last_report, target_of, registered_id, expected_id}
+use Rattle.chains.specs.Processes.{Name, last_report, last_epoch, target_of, registered_id, expected_id}
 use Rattle.chains.specs.Held.{Held}
-use Rattle.chains.specs.Admission.{Decides, TakesMemory, IsStampReply, IsWaitingReply, IsStandingReply, IsNumberedReply, IsAdmission}
+use Rattle.chains.specs.Admission.{Decides, TakesMemory, IsStampReply, IsWaitingReply, IsStandingReply, IsEpochReply, IsNumberedReply, IsRepeated, IsReportReply}
 use Rattle.chains.specs.Keeping.{Tests}
 use Rattle.chains.specs.Testing.{RefusesWith, IsFull, IsNoAbsorb}
 
@@ -58,16 +58,17 @@ refuses_full F P front refusal limit (inl e) h = inl (inl (h, rw e refl))
 refuses_full F P front refusal limit (inr e) h = lacking (λ a. Decides F (replies.No Full None (Some (decimal limit))) a (P a)) front refusal (replies.No Full None (Some (decimal limit))) e (inl (h, refl)) tt
 
 -- a report with a number is refused where nothing was accepted yet
-pub refuses_first : (held : Held) (report : Report) (r : NumberedReport) → report ≡ Numbered r → held.accepted ≡ []
-    → Tests (IsAdmission held report) held.front (Err (record { code = NothingBegun; name = None; value = None }))
-refuses_first held report r is none = rw is (inl (inl (none, refl)))
+pub refuses_first : (held : Held) (epoch : ℕ) (report : Report) (r : NumberedReport) → report ≡ Numbered r → held.accepted ≡ []
+    → Tests (IsReportReply held epoch report) held.front (Err (record { code = NothingBegun; name = None; value = None }))
+refuses_first held epoch report r is none = rw is (inl (inl (none, refl)))
 
 -- a report that is not the last one of its process is left to the tests behind
-pub not_last : (held : Held) (report : Report) (r : NumberedReport) (result : Result Verdict No) (b : Bool) → b ≡ false → (IsTrue b ↔ (last_report r.process held.accepted ≡ Some report)) → report ≡ Numbered r
-    → Tests (IsStandingReply (target_of r.process held.accepted) held r) held.front result → Tests (IsNumberedReply held r) held.front result
-not_last held report r result b other last is later =
-    passed_on (last_report r.process held.accepted ≡ Some (Numbered r)) (replies.Old held.front) (IsStandingReply (target_of r.process held.accepted) held r) held.front result
-    (λ e. both_ways b other (last.1 (e ∙ ap (λ (x : Report). Some x) (sym is)))) later
+pub not_last : (held : Held) (epoch : ℕ) (report : Report) (r : NumberedReport) (result : Result Verdict No) (b : Bool) → b ≡ false
+    → (IsTrue b ↔ ((last_report r.process held.accepted ≡ Some report) × (last_epoch r.process held.accepted held.epochs ≡ Some epoch))) → report ≡ Numbered r
+    → Tests (IsEpochReply held epoch r) held.front result → Tests (IsNumberedReply held epoch r) held.front result
+not_last held epoch report r result b other last is later =
+    passed_on (IsRepeated held epoch r) (replies.Old held.front) (IsEpochReply held epoch r) held.front result
+    (λ e. both_ways b other (last.1 (e.0 ∙ ap (λ (x : Report). Some x) (sym is), e.1))) later
 
 -- a refusal since the process ended
 pub refuses_ended : {E : Type 0} (target : Name) (held : Held) (r : NumberedReport) (refusal : No) (value : Result (List ℕ) E)

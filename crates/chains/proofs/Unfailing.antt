@@ -1,5 +1,5 @@
 -- Replies that no turn gives: of a device that failed, where the store is not stopped behind it; and a line, which is only shown.
-use Rattle.std.proofs.Common.{◌≡◌, ◌≢◌, ℕ, Bool, true, false, List, Option, Some, None, inl, inr, sym, ap, ◌∙◌}
+use Rattle.std.proofs.Common.{◌≡◌, ◌≢◌, ℕ, ◌+◌, Bool, true, false, List, Option, Some, None, inl, inr, sym, ap, ◌∙◌}
 use Rattle.std.specs.Prelude.{slice_get}
 use Rattle.std.proofs.lemmas.Bool.{true≢false}
 use Rattle.report_line.specs.declared.code.Code.{Code}
@@ -8,6 +8,7 @@ use Rattle.report_line.specs.declared.report.Action.TheVariants.{Fork, Retire, A
 use Rattle.report_line.specs.declared.report.NumberedReport.{NumberedReport}
 use Rattle.report_line.specs.declared.report.Report.{Report}
 use Rattle.report_line.specs.declared.report.Report.TheVariants.{Begin, Numbered}
+use Rattle.report_line.specs.declared.marked.MarkedReport.{MarkedReport}
 use Rattle.report_line.specs.declared.call.Call.{Call}
 use Rattle.report_line.specs.declared.call.Call.TheVariants as calls
 use Rattle.report_line.specs.declared.reply.Outcome.{Outcome}
@@ -15,7 +16,7 @@ use Rattle.report_line.specs.declared.reply.Reply.{Reply}
 use Rattle.report_line.specs.declared.reply.Reply.TheVariants.{Accepted, Old, No, Line, State, Taken, Fail}
 use Rattle.chains.specs.Processes.{Name, known, target_of}
 use Rattle.chains.specs.Held.{Held}
-use Rattle.chains.specs.Admission.{Decides, FitsOrNot, IsBeginReply, IsActionReply, IsStampReply, IsWaitingReply, IsStandingReply, IsAdmission}
+use Rattle.chains.specs.Admission.{Decides, FitsOrNot, IsBeginReply, IsActionReply, IsStampReply, IsWaitingReply, IsStandingReply, IsReportReply, IsAdmission}
 use Rattle.chains.specs.Turns.{Fate, fine, memory, before, unknown, IsLineReply, IsGarbageReply, state_by, IsStateReply, IsQuestionTurn, IsReported, IsTurn}
 use Rattle.chains.proofs.Turning.{unchanged}
 
@@ -61,14 +62,17 @@ module _ (answer : Reply) (other : IsOther answer) where
   of_standing (Some target) held r h = other.no_refusal _ _ _ h
   of_standing None held r h = of_waiting held r r.action (behind h (other.no_refusal _ _ _))
 
-  of_begin : (root : Option Name) (held : Held) (p : Name) → ¬ IsBeginReply root held p answer
-  of_begin None held p h = of_room held (Begin p) h
-  of_begin (Some root) held p h = other.no_old _ (behind h (other.no_refusal _ _ _))
+  of_begin : (root : Option Name) (held : Held) (epoch : ℕ) (p : Name) → ¬ IsBeginReply root held epoch p answer
+  of_begin None held epoch p h = of_room held (Begin p) (behind h (other.no_refusal _ _ _))
+  of_begin (Some root) held epoch p h = other.no_old _ (behind h (other.no_refusal _ _ _))
 
-  pub of_admission : (held : Held) (r : Report) → ¬ IsAdmission held r answer
-  of_admission held (Begin p) h = of_begin (slice_get (known held.accepted) 0) held p h
-  of_admission held (Numbered r) h =
-      of_standing (target_of r.process held.accepted) held r (behind (behind (behind h (other.no_refusal _ _ _)) (other.no_refusal _ _ _)) (other.no_old _))
+  of_report_reply : (held : Held) (epoch : ℕ) (r : Report) → ¬ IsReportReply held epoch r answer
+  of_report_reply held epoch (Begin p) h = of_begin (slice_get (known held.accepted) 0) held epoch p h
+  of_report_reply held epoch (Numbered r) h =
+      of_standing (target_of r.process held.accepted) held r (behind (behind (behind (behind h (other.no_refusal _ _ _)) (other.no_refusal _ _ _)) (other.no_old _)) (other.no_refusal _ _ _))
+
+  pub of_admission : (held : Held) (m : MarkedReport) → ¬ IsAdmission held m answer
+  of_admission held m h = of_report_reply held m.epoch m.report h
 
   -- ---- questions
 
@@ -90,7 +94,7 @@ module _ (answer : Reply) (other : IsOther answer) where
 
 -- ---- turns that tell of no device that failed
 
-of_report : (stopped : Bool) (fate : Fate) (held : Held) (r : Report) (o : Outcome) (after : Held) → stopped ≡ false → after.stopped ≡ false → ¬ IsReported stopped fate held r (Fail o) after
+of_report : (stopped : Bool) (fate : Fate) (held : Held) (r : MarkedReport) (o : Outcome) (after : Held) → stopped ≡ false → after.stopped ≡ false → ¬ IsReported stopped fate held r (Fail o) after
 of_report true fate held r o after up still t = true≢false up
 of_report false fine held r o after up still t = of_admission (Fail o) (failure_is_other o) held r t.0
 of_report false memory held r o after up still t = let e = t.3 in cc
@@ -105,6 +109,7 @@ pub no_failure : (held after : Held) (call : Call) (o : Outcome) → held.stoppe
 no_failure held after (calls.Report r) o up still (fate, t) = of_report held.stopped fate held r o after up still t
 no_failure held after (calls.Line names) o up still (fate, t) = of_question held.stopped fate held (IsLineReply held names) o after up (of_line (Fail o) (failure_is_other o) held names) t
 no_failure held after calls.Garbage o up still (fate, t) = of_question held.stopped fate held (IsGarbageReply held) o after up (of_garbage (Fail o) (failure_is_other o) held) t
+no_failure held after (calls.Settle front names) o up still (fate, t) = let e = t.1 in cc
 no_failure held after (calls.State p) o up still (fate, t) =
     of_question held.stopped fate held (IsStateReply held.accepted p) o after up (of_state (Fail o) (failure_is_other o) held.accepted p) t
 no_failure held after calls.Bye o up still (fate, t) = let e = t.1 in cc
@@ -113,7 +118,7 @@ no_failure held after calls.Unread o up still (fate, t) = let e = t.1 in cc
 
 -- ---- a turn's reply is never a line, which is only shown
 
-line_of_report : (stopped : Bool) (fate : Fate) (held : Held) (r : Report) (text : List ℕ) (after : Held) → ¬ IsReported stopped fate held r (Line text) after
+line_of_report : (stopped : Bool) (fate : Fate) (held : Held) (r : MarkedReport) (text : List ℕ) (after : Held) → ¬ IsReported stopped fate held r (Line text) after
 line_of_report true fate held r text after t = let e = t.1 in cc
 line_of_report false fine held r text after t = of_admission (Line text) (line_is_other text) held r t.0
 line_of_report false memory held r text after t = let e = t.3 in cc
@@ -128,12 +133,13 @@ pub no_line : (held after : Held) (call : Call) (text : List ℕ) → ¬ IsTurn 
 no_line held after (calls.Report r) text (fate, t) = line_of_report held.stopped fate held r text after t
 no_line held after (calls.Line names) text (fate, t) = line_of_question held.stopped fate held (IsLineReply held names) text after (of_line (Line text) (line_is_other text) held names) t
 no_line held after calls.Garbage text (fate, t) = line_of_question held.stopped fate held (IsGarbageReply held) text after (of_garbage (Line text) (line_is_other text) held) t
+no_line held after (calls.Settle front names) text (fate, t) = let e = t.1 in cc
 no_line held after (calls.State p) text (fate, t) = line_of_question held.stopped fate held (IsStateReply held.accepted p) text after (of_state (Line text) (line_is_other text) held.accepted p) t
 no_line held after calls.Bye text (fate, t) = let e = t.1 in cc
 no_line held after (calls.Bad n) text (fate, t) = let e = t.1 in cc
 no_line held after calls.Unread text (fate, t) = let e = t.1 in cc
 
-report_when_stopped : (stopped : Bool) (fate : Fate) (held : Held) (r : Report) (reply : Reply) (after : Held) → stopped ≡ true → IsReported stopped fate held r reply after → after ≡ held
+report_when_stopped : (stopped : Bool) (fate : Fate) (held : Held) (r : MarkedReport) (reply : Reply) (after : Held) → stopped ≡ true → IsReported stopped fate held r reply after → after ≡ held
 report_when_stopped true fate held r reply after down t = t.2
 report_when_stopped false fate held r reply after down t = absurd (true≢false (sym down))
 
@@ -142,6 +148,7 @@ pub stays_stopped : (held after : Held) (call : Call) (reply : Reply) → held.s
 stays_stopped held after (calls.Report r) reply down (fate, t) = report_when_stopped held.stopped fate held r reply after down t
 stays_stopped held after (calls.Line names) reply down (fate, t) = unchanged held.stopped fate held _ reply after t
 stays_stopped held after calls.Garbage reply down (fate, t) = unchanged held.stopped fate held _ reply after t
+stays_stopped held after (calls.Settle front names) reply down (fate, t) = t.2
 stays_stopped held after (calls.State p) reply down (fate, t) = unchanged held.stopped fate held _ reply after t
 stays_stopped held after calls.Bye reply down (fate, t) = t.2
 stays_stopped held after (calls.Bad n) reply down (fate, t) = t.2

@@ -6,19 +6,20 @@ use Rattle.id_tree.specs.Split.{IsSplit}
 use Rattle.id_tree.specs.Spelling.{spelling}
 use Rattle.event_tree.specs.EventTree.{EventTree}
 use Rattle.event_tree.specs.Values.{IsAtOrBelow, ExceedsOn}
-use Rattle.report_line.specs.declared.code.Code.TheVariants.{NothingBegun, OtherRoot, UnknownProcess, Ended, WrongNumber, NotWaiting, WrongId, NotGrown, NameTaken, WrongParts, WrongTarget, NotJoined, Full}
+use Rattle.report_line.specs.declared.code.Code.TheVariants.{NothingBegun, OtherRoot, UnknownProcess, Ended, WrongNumber, NotWaiting, WrongId, NotGrown, NameTaken, WrongParts, WrongTarget, NotJoined, Full, OtherEpoch}
 use Rattle.report_line.specs.declared.report.Action.{Action}
 use Rattle.report_line.specs.declared.report.Action.TheVariants.{Fork, Retire, Absorb}
 use Rattle.report_line.specs.declared.report.NumberedReport.{NumberedReport}
 use Rattle.report_line.specs.declared.report.Report.{Report}
 use Rattle.report_line.specs.declared.report.Report.TheVariants.{Begin, Numbered}
+use Rattle.report_line.specs.declared.marked.MarkedReport.{MarkedReport}
 use Rattle.report_line.specs.declared.reply.Reply.{Reply}
 use Rattle.report_line.specs.declared.reply.Reply.TheVariants.{Accepted, Old, No, Fail}
 use Rattle.report_line.specs.declared.reply.Outcome.TheVariants.{Before, Unknown}
-use Rattle.chains.specs.Processes.{Name, newborn, known, IsKnown, last_report, next_number, last_events, registered_id, expected_id, target_of, Waits}
+use Rattle.chains.specs.Processes.{Name, newborn, known, IsKnown, last_report, last_epoch, next_number, last_events, registered_id, expected_id, target_of, Waits}
 use Rattle.chains.specs.Held.{Held, counting, with_report, with_stop}
 
--- how many reports are accepted at most
+-- how many lines are accepted at most
 abbrev pub report_limit : ℕ
 report_limit = 16384
 
@@ -41,10 +42,11 @@ FitsOrNot held r answer =
 abbrev pub AreGrown : EventTree → IdTree → EventTree → Type 0
 AreGrown last id events = IsAtOrBelow last events × ExceedsOn id events last
 
--- BEGIN, where this process is the root, if one is
-abbrev pub IsBeginReply : Option Name → Held → Name → Reply → Type 0
-IsBeginReply None held p answer = FitsOrNot held (Begin p) answer
-IsBeginReply (Some root) held p answer =
+-- BEGIN, where this process is the root, if one is; what begins is of the present epoch
+abbrev pub IsBeginReply : Option Name → Held → ℕ → Name → Reply → Type 0
+IsBeginReply None held epoch p answer =
+    Decides (epoch ≢ held.epoch) (No OtherEpoch (Some p) (Some (decimal held.epoch))) answer (FitsOrNot held (Begin p) answer)
+IsBeginReply (Some root) held epoch p answer =
     Decides (p ≢ root) (No OtherRoot (Some root) None) answer (answer ≡ Old held.front)
 
 -- the tests of the report's action, which stands beside the report for the cases: a child's name is new, and the two ids are
@@ -84,30 +86,44 @@ IsStandingReply None held r answer =
     Decides (r.number ≢ next_number r.process held.accepted) (No WrongNumber (Some r.process) (Some (decimal (next_number r.process held.accepted)))) answer
     (IsWaitingReply held r r.action answer)
 
--- a report of a known process: whether it is the last one once more, and then the later tests
-abbrev pub IsNumberedReply : Held → NumberedReport → Reply → Type 0
-IsNumberedReply held r answer =
-    Decides (last_report r.process held.accepted ≡ Some (Numbered r)) (Old held.front) answer
+-- the report is the last one of its process once more, with the epoch that it was accepted with
+abbrev pub IsRepeated : Held → ℕ → NumberedReport → Type 0
+IsRepeated held epoch r = (last_report r.process held.accepted ≡ Some (Numbered r)) × (last_epoch r.process held.accepted held.epochs ≡ Some epoch)
+
+-- a report of a known process that is no repeat: whether its epoch is the present one, and then the later tests
+abbrev pub IsEpochReply : Held → ℕ → NumberedReport → Reply → Type 0
+IsEpochReply held epoch r answer =
+    Decides (epoch ≢ held.epoch) (No OtherEpoch (Some r.process) (Some (decimal held.epoch))) answer
     (IsStandingReply (target_of r.process held.accepted) held r answer)
 
--- The reply to a report: the tests stand in their order, and the first that applies decides.
-abbrev pub IsAdmission : Held → Report → Reply → Type 0
-IsAdmission held (Begin p) answer = IsBeginReply (slice_get (known held.accepted) 0) held p answer
-IsAdmission held (Numbered r) answer =
+-- a report of a known process: whether it is the last one once more, and then the later tests
+abbrev pub IsNumberedReply : Held → ℕ → NumberedReport → Reply → Type 0
+IsNumberedReply held epoch r answer =
+    Decides (IsRepeated held epoch r) (Old held.front) answer
+    (IsEpochReply held epoch r answer)
+
+-- The reply to a report of this epoch; the line of a BEGIN has no mark, and is of epoch 0.
+abbrev pub IsReportReply : Held → ℕ → Report → Reply → Type 0
+IsReportReply held epoch (Begin p) answer = IsBeginReply (slice_get (known held.accepted) 0) held epoch p answer
+IsReportReply held epoch (Numbered r) answer =
     Decides (held.accepted ≡ []) (No NothingBegun None None) answer
     (Decides (¬ IsKnown held.accepted r.process) (No UnknownProcess (Some r.process) None) answer
-    (IsNumberedReply held r answer))
+    (IsNumberedReply held epoch r answer))
+
+-- The reply to a report: the tests stand in their order, and the first that applies decides.
+abbrev pub IsAdmission : Held → MarkedReport → Reply → Type 0
+IsAdmission held m answer = IsReportReply held m.epoch m.report answer
 
 -- all tests let the report pass
-abbrev pub Passes : Held → Report → Type 0
-Passes held r = IsAdmission held r (Accepted (held.front + 1))
+abbrev pub Passes : Held → MarkedReport → Type 0
+Passes held m = IsAdmission held m (Accepted (held.front + 1))
 
 -- what is held after a reply to the report: the report where it is accepted; where the device failed the store is stopped
-abbrev pub held_after : Held → Report → Reply → Held
-held_after held r (Accepted front) = with_report held r
-held_after held r (Fail Before) = with_stop held
-held_after held r (Fail Unknown) = with_stop held
-held_after held r _ = held
+abbrev pub held_after : Held → MarkedReport → Reply → Held
+held_after held m (Accepted front) = with_report held m
+held_after held m (Fail Before) = with_stop held
+held_after held m (Fail Unknown) = with_stop held
+held_after held m _ = held
 
 -- the answers that take memory: to keep the report, or to make the value of a refusal
 abbrev pub TakesMemory : Reply → Type 0
@@ -115,12 +131,7 @@ TakesMemory (Accepted front) = ⊤
 TakesMemory (No code name (Some value)) = ⊤
 TakesMemory _ = ⊥
 
--- the lists that admission reaches from the empty one, where the front counts the reports
-pub data IsReachable : List Report → Type 0 where
-  nothing_accepted : IsReachable []
-  one_more : (accepted : List Report) (r : Report) → IsReachable accepted → Passes (counting accepted) r → IsReachable (accepted ++ r ∷ [])
-
--- what is held is a list that admission reaches, and the front counts its reports
-pub record IsReached (held : Held) : Type 0 where
-  pub reachable : IsReachable held.accepted
-  pub counted : held.front ≡ length held.accepted
+-- what admission reaches from nothing
+pub data IsReachable : Held → Type 0 where
+  nothing_accepted : IsReachable (counting [])
+  one_more : (held : Held) (m : MarkedReport) → IsReachable held → Passes held m → IsReachable (with_report held m)

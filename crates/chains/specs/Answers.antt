@@ -3,6 +3,7 @@ use Rattle.std.specs.Prelude.{◌≡◌, ◌⊎◌, ℕ, ◌+◌, ◌<◌, List,
 use Rattle.report_line.specs.declared.code.Code.TheVariants.{OutOfMemory}
 use Rattle.report_line.specs.declared.report.Report.{Report}
 use Rattle.report_line.specs.declared.report.Report.TheVariants.{Begin, Numbered}
+use Rattle.report_line.specs.declared.marked.MarkedReport.{MarkedReport}
 use Rattle.report_line.specs.declared.reply.Reply.{Reply}
 use Rattle.report_line.specs.declared.reply.Reply.TheVariants as replies
 use Rattle.chains.specs.declared.refusal.No.{No}
@@ -22,7 +23,7 @@ reply_of (Ok (Old front)) = replies.Old front
 reply_of (Err refusal) = replies.No refusal.code refusal.name refusal.value
 
 -- a refusal by a test, or for want of memory in an answer that takes memory
-abbrev pub IsRefusal : Held → Report → No → Type 0
+abbrev pub IsRefusal : Held → MarkedReport → No → Type 0
 IsRefusal held r refusal =
     IsAdmission held r (replies.No refusal.code refusal.name refusal.value)
     ⊎ ((answer : Reply) × IsAdmission held r answer × TakesMemory answer
@@ -36,16 +37,16 @@ IsNumberOf accepted (Numbered r) i = name_of accepted i ≡ Some r.process
 -- the report may be committed: it is to be accepted, and there is room
 pub record MayBeAccepted (k : Kept) (ready : ReadyReport) : Type 0 where
   pub admitted : Passes (held_of k) ready.report
-  pub process : IsNumberOf k.accepted ready.report ready.process
+  pub process : IsNumberOf k.accepted ready.report.report ready.process
   pub room : 0 < k.room
-  pub element_room : HasRoomFor k ready.report ready.process
+  pub element_room : HasRoomFor k ready.report.report ready.process
 
 abbrev pub IsReady : Prepared → Kept → Type 0
 IsReady (prepared.Old front) k = front ≡ k.front
 IsReady (prepared.Ready ready) k = MayBeAccepted k ready
 
 -- what preparing a report answers
-abbrev pub Prepares : Held → Report → Result Prepared No → Type 0
+abbrev pub Prepares : Held → MarkedReport → Result Prepared No → Type 0
 Prepares held r (Ok (prepared.Old front)) = IsAdmission held r (replies.Old front)
 Prepares held r (Ok (prepared.Ready ready)) = ready.report ≡ r
 Prepares held r (Err refusal) = IsRefusal held r refusal

@@ -10,8 +10,9 @@ use Rattle.chains.specs.Kept.{Kept}
 
 abbrev pub kept_code : Coded Kept
 kept_code =
-    code_by (List Report × (ℕ × (ℕ × List ℕ))) (coded× (coded_list report_code) (coded× coded_ℕ (coded× coded_ℕ (coded_list coded_ℕ)))) (λ k. (k.accepted, (k.front, (k.room, k.rooms))))
-    (λ p. record { accepted = p.0; front = p.1.0; room = p.1.1.0; rooms = p.1.1.1 }) (λ _. refl)
+    code_by (List Report × (List ℕ × (ℕ × (ℕ × (ℕ × List ℕ))))) (coded× (coded_list report_code) (coded× (coded_list coded_ℕ) (coded× coded_ℕ (coded× coded_ℕ (coded× coded_ℕ (coded_list coded_ℕ))))))
+    (λ k. (k.accepted, (k.epochs, (k.front, (k.epoch, (k.room, k.rooms))))))
+    (λ p. record { accepted = p.0; epochs = p.1.0; front = p.1.1.0; epoch = p.1.1.1.0; room = p.1.1.1.1.0; rooms = p.1.1.1.1.1 }) (λ _. refl)
 
 -- a position by one number
 abbrev pub position_number : Position → ℕ

@@ -1,6 +1,6 @@
 -- The accepted lists that admission's tests fold without those of a retirement's target and of room: those that admission
 -- reaches, and others, on which the laws hold as well.
-use Rattle.std.specs.Prelude.{◌≡◌, ◌≢◌, List, [], ◌∷◌, ◌++◌, None, ⊤}
+use Rattle.std.specs.Prelude.{◌≡◌, ◌≢◌, ◌≤◌, List, [], ◌∷◌, ◌++◌, length, None, ⊤}
 use Rattle.id_tree.specs.Split.{IsSplit}
 use Rattle.event_tree.specs.Values.{IsAtOrBelow}
 use Rattle.report_line.specs.declared.report.Action.{Action}
@@ -9,6 +9,7 @@ use Rattle.report_line.specs.declared.report.NumberedReport.{NumberedReport}
 use Rattle.report_line.specs.declared.report.Report.{Report}
 use Rattle.report_line.specs.declared.report.Report.TheVariants.{Begin, Numbered}
 use Rattle.chains.specs.Processes.{IsKnown, next_number, last_events, registered_id, expected_id, target_of, Waits}
+use Rattle.chains.specs.Held.{Held}
 use Rattle.chains.specs.Admission.{AreGrown}
 
 -- What the tests of the action ask for, which stands beside the report for the cases: the name of a fork's child is new, and
@@ -38,3 +39,9 @@ IsFit accepted (Numbered r) = IsFitReport accepted r
 pub data IsFolded : List Report → Type 0 where
   nothing_folded : IsFolded []
   one_folded : (accepted : List Report) (r : Report) → IsFolded accepted → IsFit accepted r → IsFolded (accepted ++ r ∷ [])
+
+-- What is held is a folded list with an epoch beside each report, and the front counts its reports and may count more lines.
+pub record IsReached (held : Held) : Type 0 where
+  pub folded : IsFolded held.accepted
+  pub marked : length held.epochs ≡ length held.accepted
+  pub counted : length held.accepted ≤ held.front

@@ -8,17 +8,20 @@ use Rattle.chains.specs.declared.chains.Chains.TheInside.{Inside}
 use Rattle.report_line.specs.declared.report.Report.{Report}
 use Rattle.chains.specs.declared.process.Process.{Process}
 use Rattle.chains.specs.Processes.{Name, known}
-use Rattle.chains.specs.Admission.{IsReachable, report_limit, process_limit}
+use Rattle.chains.specs.Admission.{report_limit, process_limit}
+use Rattle.chains.specs.Folded.{IsFolded}
 use Rattle.chains.specs.Kept.{Kept}
 use Rattle.chains.specs.Keeping.{kept_of, view_of}
 use Rattle.chains.specs.Room.{element_room}
 
--- the accepted list and the number of its reports, the least room of the three fields, and the room of each process
+-- the accepted list with its epochs, the front and the present epoch, the least room of the four fields, and the room of each process
 abbrev pub kept_in : Inside → Kept
 kept_in a = record {
   accepted = a.reports.items;
-  front = length a.reports.items;
-  room = min (vec_capacity a.reports - vec_len a.reports) (min (spare a.names) (vec_capacity a.processes - vec_len a.processes));
+  epochs = a.epochs.items;
+  front = a.front;
+  epoch = a.epoch;
+  room = min (vec_capacity a.reports - vec_len a.reports) (min (vec_capacity a.epochs - vec_len a.epochs) (min (spare a.names) (vec_capacity a.processes - vec_len a.processes)));
   rooms = map element_room a.processes.items;
 }
 
@@ -28,7 +31,7 @@ AreDistinctNames names = (i j : ℕ) (p : Name) → i < length names → j < len
 
 -- the names are those of the known processes, and beside each stands what is kept of it
 pub record AreInOrder (accepted : List Report) (names : List Name) (processes : List Process) : Type 0 where
-  pub reachable : IsReachable accepted
+  pub folded : IsFolded accepted
   pub few : length accepted ≤ report_limit
   pub few_known : length (known accepted) ≤ process_limit
   pub distinct : AreDistinctNames (known accepted)
@@ -41,4 +44,7 @@ first_stamp = record { id = One; events = Leaf 0 }
 
 pub record IsInOrder (a : Inside) : Type 0 where
   pub fields : AreInOrder a.reports.items a.names.keys a.processes.items
+  pub marked : length a.epochs.items ≡ length a.reports.items
+  pub counted : length a.reports.items ≤ a.front
+  pub within : a.front ≤ report_limit
   pub first : a.first ≡ first_stamp

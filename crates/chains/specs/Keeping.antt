@@ -1,6 +1,6 @@
 -- Working definitions: what is kept of each process beside the accepted list, and the tests of a report.
 use Rattle.std.specs.Prelude.{◌≡◌, ◌⊎◌, ℕ, suc, ◌+◌, Bool, List, [], ◌∷◌, ◌++◌, Option, Some, None, Result, Ok, Err, if◌then◌else◌}
-use Rattle.std.specs.Option.{option_map, unwrap_or, is_some}
+use Rattle.std.specs.Option.{unwrap_or, is_some}
 use Rattle.report_line.specs.declared.code.Code.TheVariants.{OutOfMemory}
 use Rattle.report_line.specs.declared.report.Report.{Report}
 use Rattle.report_line.specs.declared.reply.Reply.{Reply}
@@ -9,14 +9,10 @@ use Rattle.chains.specs.declared.process.Process.{Process}
 use Rattle.chains.specs.declared.tests.Verdict.{Verdict}
 use Rattle.chains.specs.declared.tests.Verdict.TheVariants.{Old, Fits}
 use Rattle.chains.specs.declared.refusal.No.{No}
-use Rattle.chains.specs.Processes.{Name, reports_of, is_numbered_of, is_birth_of, is_absorbed, first_of}
+use Rattle.chains.specs.Processes.{Name, reports_of, is_numbered_of, is_birth_of, is_absorbed}
+pub use Rattle.chains.specs.Processes.{last_index}
 use Rattle.chains.specs.Elements.{lasting_made}
 use Rattle.chains.specs.Admission.{TakesMemory}
-
--- the index of the last element that passes a test
-abbrev pub last_index : {X : Type 0} → (X → Bool) → List X → Option ℕ
-last_index test [] = None
-last_index test (x ∷ xs) = first_of (option_map (λ i. suc i) (last_index test xs)) (if test x then Some 0 else None)
 
 -- the indexes, counted from n, of the elements of which something is made
 abbrev pub indexes_from : {X Y : Type 0} → (X → Option Y) → ℕ → List X → List ℕ

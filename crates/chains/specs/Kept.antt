@@ -3,11 +3,13 @@ use Rattle.std.specs.Prelude.{ℕ, ◌<◌, List, slice_index_or, ⊤}
 use Rattle.report_line.specs.declared.report.Report.{Report}
 use Rattle.report_line.specs.declared.report.Report.TheVariants.{Begin, Numbered}
 
--- The accepted list and the front, how many more reports find room without memory, and how many more elements of each known
+-- The accepted list with the epoch of each report, the front and the present epoch, how many more reports find room without memory, and how many more elements of each known
 -- process, in order of birth.
 pub record Kept : Type 0 where
   pub accepted : List Report
+  pub epochs : List ℕ
   pub front : ℕ
+  pub epoch : ℕ
   pub room : ℕ
   pub rooms : List ℕ
 

@@ -22,3 +22,4 @@ pub mod Room
 pub mod Stamps
 pub mod Agrees
 pub mod Greatest
+pub mod Fitting

@@ -1,7 +1,7 @@
 -- What an accepted list says of processes. An accepted list has its reports in the order of their acceptance.
-use Rattle.std.specs.Prelude.{◌≡◌, ℕ, ◌+◌, Bool, false, List, [], ◌∷◌, Option, Some, None, count_by, filter, Contains, if◌then◌else◌}
+use Rattle.std.specs.Prelude.{◌≡◌, ℕ, suc, ◌+◌, Bool, slice_get, option_and_then, false, List, [], ◌∷◌, Option, Some, None, count_by, filter, Contains, if◌then◌else◌}
 use Rattle.std.specs.List.{filter_map, list_any}
-use Rattle.std.specs.Option.{option_map_or}
+use Rattle.std.specs.Option.{option_map, option_map_or}
 -- the first of two that is there
 pub use Rattle.std.specs.Option.{option_or as first_of}
 use Rattle.std.specs.Str.{bytes_eq}
@@ -59,9 +59,18 @@ abbrev pub last_passing : {X : Type 0} → (X → Bool) → List X → Option X
 last_passing test [] = None
 last_passing test (x ∷ xs) = first_of (last_passing test xs) (if test x then Some x else None)
 
+-- the index of the last element that passes a test
+abbrev pub last_index : {X : Type 0} → (X → Bool) → List X → Option ℕ
+last_index test [] = None
+last_index test (x ∷ xs) = first_of (option_map (λ i. suc i) (last_index test xs)) (if test x then Some 0 else None)
+
 -- the last accepted report of p with a number
 abbrev pub last_report : Name → List Report → Option Report
 last_report p accepted = last_passing (is_numbered_of p) accepted
+
+-- the epoch that stands beside the last accepted report of p with a number
+abbrev pub last_epoch : Name → List Report → List ℕ → Option ℕ
+last_epoch p accepted epochs = option_and_then (λ i. slice_get epochs i) (last_index (is_numbered_of p) accepted)
 
 -- whether p is born by the report
 abbrev pub is_birth_of : Name → Report → Bool

@@ -3,8 +3,9 @@ use Rattle.std.specs.Prelude.{◌≡◌, ◌⊎◌, Bool, true, false, codes, Li
 use Rattle.id_tree.specs.Spelling.{spelling}
 use Rattle.report_line.specs.declared.code.Code.TheVariants.{NothingBegun, UnknownProcess, OutOfMemory}
 use Rattle.report_line.specs.declared.report.Report.{Report as AnyReport}
+use Rattle.report_line.specs.declared.marked.MarkedReport.{MarkedReport}
 use Rattle.report_line.specs.declared.call.Call.{Call}
-use Rattle.report_line.specs.declared.call.Call.TheVariants.{Report, Line, Garbage, State, Bye, Bad, Unread}
+use Rattle.report_line.specs.declared.call.Call.TheVariants.{Report, Line, Garbage, Settle, State, Bye, Bad, Unread}
 use Rattle.report_line.specs.declared.reply.Outcome.TheVariants.{Before, Unknown, Stopped}
 use Rattle.report_line.specs.declared.reply.Reply.{Reply}
 use Rattle.report_line.specs.declared.reply.Reply.TheVariants as replies
@@ -58,7 +59,7 @@ IsStateReply accepted p reply =
 
 -- The reply to a report where the store is not stopped: that of admission, or for want of memory in one that takes memory;
 -- where the device fails, the report is not accepted, and the store is stopped.
-abbrev pub IsReportTurn : Fate → Held → AnyReport → Reply → Held → Type 0
+abbrev pub IsReportTurn : Fate → Held → MarkedReport → Reply → Held → Type 0
 IsReportTurn fine held r reply after = IsAdmission held r reply × (after ≡ held_after held r reply)
 IsReportTurn memory held r reply after =
     (answer : Reply) × IsAdmission held r answer × TakesMemory answer × (reply ≡ no_memory) × (after ≡ held)
@@ -75,15 +76,17 @@ IsQuestionTurn true fate held Answers reply after = IsPlainTurn fate held (λ x.
 IsQuestionTurn false fate held Answers reply after = IsPlainTurn fate held Answers reply after
 
 -- the reply to a report, which a stopped store refuses
-abbrev pub IsReported : Bool → Fate → Held → AnyReport → Reply → Held → Type 0
+abbrev pub IsReported : Bool → Fate → Held → MarkedReport → Reply → Held → Type 0
 IsReported true fate held r reply after = IsPlainTurn fate held (λ x. x ≡ replies.Fail Stopped) reply after
 IsReported false fate held r reply after = IsReportTurn fate held r reply after
 
--- From what is held, with this fate, the call is replied to so, and this is held then.
+-- From what is held, with this fate, the call is replied to so, and this is held then. SETTLE is not built yet: its line counts as
+-- outside the grammar.
 abbrev pub IsTurnWith : Fate → Held → Call → Reply → Held → Type 0
 IsTurnWith fate held (Report r) reply after = IsReported held.stopped fate held r reply after
 IsTurnWith fate held (Line names) reply after = IsQuestionTurn held.stopped fate held (IsLineReply held names) reply after
 IsTurnWith fate held Garbage reply after = IsQuestionTurn held.stopped fate held (IsGarbageReply held) reply after
+IsTurnWith fate held (Settle front names) reply after = IsPlainTurn fate held (λ x. x ≡ replies.Bad 1) reply after
 IsTurnWith fate held (State p) reply after = IsQuestionTurn held.stopped fate held (IsStateReply held.accepted p) reply after
 IsTurnWith fate held Bye reply after = IsPlainTurn fate held (λ x. x ≡ replies.Bye) reply after
 IsTurnWith fate held (Bad n) reply after = IsPlainTurn fate held (λ x. x ≡ replies.Bad n) reply after

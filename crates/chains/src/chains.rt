@@ -5,15 +5,16 @@ ghost use Rattle.std.specs.Option.{option_map};
 ghost use Rattle.report_line.specs.View.{action_of};
 ghost use Rattle.id_tree.specs.IdTree.{One};
 ghost use Rattle.event_tree.specs.EventTree.{Leaf};
-ghost use Rattle.chains.specs.Processes.{Name as AnyName, known, newborn, IsKnown, reports_of, last_report, birth_report, id_after, id_at_birth, events_after, registered_id, last_events, target_of, target_after, is_absorbed, reports_by};
+ghost use Rattle.chains.specs.Processes.{Name as AnyName, known, newborn, IsKnown, reports_of, last_report, last_epoch, birth_report, id_after, id_at_birth, events_after, registered_id, last_events, target_of, target_after, is_absorbed, reports_by};
 ghost use Rattle.chains.specs.Elements.{name_of, element, elements, elements_of, lasting_of, lasting_made, makes_lasting, present_in, present_report, makers_of};
 ghost use Rattle.chains.specs.Stamps.{stamp_of};
 ghost use Rattle.chains.specs.Positions.{IsLastSurviving};
 ghost use Rattle.chains.specs.Knowledge.{events_at, retired_events};
 ghost use Rattle.chains.specs.States.{IsStateOf};
 ghost use Rattle.chains.specs.Held.{held_of, counting, with_report};
-ghost use Rattle.chains.specs.Admission.{IsReachable, IsAdmission, report_limit, process_limit};
+ghost use Rattle.chains.specs.Admission.{IsAdmission, report_limit, process_limit};
 ghost use Rattle.chains.specs.Folded.{IsFolded};
+ghost use Rattle.chains.specs.Fitting.{MayBePut};
 ghost use Rattle.chains.specs.Kept.{Kept, HasRoomFor};
 ghost use Rattle.chains.specs.Inside.{first_stamp};
 ghost use Rattle.chains.specs.Answers.{IsReady, MayBeAccepted, Prepares, Commits, IsNumberOf, reply_of};
@@ -34,13 +35,13 @@ use crate::position::{Place, Position};
 use crate::prepared::{Prepared, Ready};
 use crate::process::Process;
 use crate::refusal::{Admitted, No};
-use crate::reports::{at_index, nth_by};
+use crate::reports::{at_index, nth_by, number_at};
 use crate::state::State;
 use crate::tests::{Verdict, is_birth, out_of_memory};
 use event_tree::Events;
 use id_tree::Id;
 use indexmap::IndexSet;
-use report_line::{ActionView, Name, PackedReport, ReportView, Shared};
+use report_line::{ActionView, MarkedReport, Name, PackedReport, ReportView, Shared};
 use stamp::Stamp;
 use std::alloc::{AllocError, Global};
 use std::marker::Model;
@@ -52,6 +53,12 @@ pub struct Chains {
     /// The stamp of a root at its birth.
     first: Stamp,
     reports: Vec<Shared<PackedReport>>,
+    /// The epoch of each of them.
+    epochs: Vec<u32>,
+    /// How many lines were accepted, settlements and what they undid included.
+    front: u32,
+    /// How many settlements were accepted.
+    epoch: u32,
     /// The known processes, in order of birth.
     names: IndexSet<Name>,
     /// What is kept of each of them.
@@ -84,6 +91,9 @@ impl Chains {
             alloc,
             first: Stamp::first(alloc),
             reports: Vec::new(alloc),
+            epochs: Vec::new(alloc),
+            front: 0,
+            epoch: 0,
             names: IndexSet::new(alloc),
             processes: Vec::new(alloc),
             recent: 0,
@@ -95,12 +105,16 @@ impl Chains {
         ensures { IfOk result (λ copy. held_of copy ≡ held_of self.now) }
     {
         let reports = share_all(self.alloc, &self.reports)?;
+        let epochs = Vec::from_slice(self.alloc, &self.epochs)?;
         let names = copy_names(self.alloc, self.names.as_slice())?;
         let processes = copy_processes(self.alloc, &self.processes)?;
         Ok(Chains {
             alloc: self.alloc,
             first: Stamp::first(self.alloc),
             reports,
+            epochs,
+            front: self.front,
+            epoch: self.epoch,
             names,
             processes,
             recent: self.recent,
@@ -114,10 +128,12 @@ impl Chains {
 
     /// Tells a proof what holds of all chains.
     pub fn lawful(&self)
-        ensures reachable { IsReachable self.now.accepted }
-        // The front counts the accepted reports.
-        ensures counted { self.now.front ≡ length self.now.accepted }
         ensures folded { IsFolded self.now.accepted }
+        // Each accepted report has its epoch.
+        ensures marked { length self.now.epochs ≡ length self.now.accepted }
+        // The front counts the accepted reports, and may count more lines.
+        ensures counted { length self.now.accepted ≤ self.now.front }
+        ensures few_lines { self.now.front ≤ report_limit }
         ensures few { length self.now.accepted ≤ report_limit }
         ensures few_known { length (known self.now.accepted) ≤ process_limit }
         // The ids of live processes and of retirements that wait.
@@ -128,14 +144,21 @@ impl Chains {
         let _reports = &self.reports;
     }
 
-    /// The front: how many reports are accepted.
+    /// The front: how many lines were accepted, settlements and what they undid included.
     pub fn front(&self) -> u32
         ensures { result ≡ self.now.front }
     {
-        self.reports.len() as u32
+        self.front
     }
 
-    /// Whether none is.
+    /// The present epoch: how many settlements were accepted.
+    pub fn epoch(&self) -> u32
+        ensures { result ≡ self.now.epoch }
+    {
+        self.epoch
+    }
+
+    /// Whether no report is accepted.
     pub fn is_empty(&self) -> bool
         ensures { IsTrue result ↔ (self.now.accepted ≡ []) }
     {
@@ -195,6 +218,17 @@ impl Chains {
         match self.processes[process as usize].last {
             None => None,
             Some(index) => Some(&self.reports[index as usize]),
+        }
+    }
+
+    /// The epoch of the last of its reports with a number.
+    pub(crate) fn last_epoch(&self, process: u32) -> Option<u32>
+        requires { process < length (known self.now.accepted) }
+        ensures { (p : AnyName) → name_of self.now.accepted process ≡ Some p → result ≡ last_epoch p self.now.accepted self.now.epochs }
+    {
+        match self.processes[process as usize].last {
+            None => None,
+            Some(index) => number_at(&self.epochs, index),
         }
     }
 
@@ -322,6 +356,13 @@ impl Chains {
         at_index(&self.reports, i)
     }
 
+    /// The epoch of report i of the accepted ones, counted from 0. It takes no memory.
+    pub fn epoch_at(&self, i: u32) -> Option<u32>
+        ensures { result ≡ slice_get self.now.epochs i }
+    {
+        number_at(&self.epochs, i)
+    }
+
     /// Report k with a number of a process, counted from 0. It goes over the accepted reports, and takes no memory.
     pub fn report_by(&self, process: u32, k: u32) -> Option<&PackedReport>
         requires { process < length (known self.now.accepted) }
@@ -422,25 +463,26 @@ impl Chains {
         ensures element_room { OnOk result (HasPlace number self.new.rooms) }
     {
         self.reports.reserve(1)?;
+        self.epochs.reserve(1)?;
         self.names.reserve(1)?;
         self.processes.reserve(1)?;
         reserve_element(&mut self.processes, number)
     }
 
     /// Makes every growth that accepting a report needs.
-    fn ready(
+    pub(crate) fn ready(
         &mut self,
-        report: Shared<PackedReport>,
+        report: MarkedReport,
         number: Option<u32>,
     ) -> Result<Ready, AllocError>
-        requires number { IsNumberIn self.old.accepted report number }
-        requires known { IsFound report number }
+        requires number { IsNumberIn self.old.accepted report.report number }
+        requires known { IsFound report.report number }
         ensures same { held_of self.new ≡ held_of self.old }
         ensures report { IfOk result (λ r. r.report ≡ report) }
-        ensures ready { IfOk result (λ r. IsNumberOf self.new.accepted report r.process × (0 < self.new.room) × HasRoomFor self.new report r.process) }
+        ensures ready { IfOk result (λ r. IsNumberOf self.new.accepted report.report r.process × (0 < self.new.room) × HasRoomFor self.new report.report r.process) }
     {
         self.grow(number)?;
-        let lasting = if is_birth(&report) {
+        let lasting = if is_birth(&report.report) {
             Vec::with_capacity(self.alloc, 1)?
         } else {
             Vec::new(self.alloc)
@@ -454,19 +496,19 @@ impl Chains {
 
     /// Makes the tests of a report and every growth that accepting it needs. What is held stays as it is, also where what is
     /// answered is dropped.
-    pub fn prepare(&mut self, report: &PackedReport) -> Result<Prepared, No>
+    pub fn prepare(&mut self, report: &PackedReport, epoch: u32) -> Result<Prepared, No>
         ensures same { held_of self.new ≡ held_of self.old }
-        ensures answer { Prepares (held_of self.old) report.now result }
+        ensures answer { Prepares (held_of self.old) (record { epoch = epoch; report = report.now }) result }
         ensures ready { IfOk result (λ prepared. IsReady prepared self.new) }
     {
         let number = self.number_in(report);
-        match self.tested(report, number)? {
+        match self.tested(report, epoch, number)? {
             Verdict::Old => Ok(Prepared::Old(self.front())),
             Verdict::Fits => {
-                let Ok(copy) = shared_copy(self.alloc, report) else {
+                let Ok(report) = shared_copy(self.alloc, report) else {
                     return Err(out_of_memory());
                 };
-                match self.ready(copy, number) {
+                match self.ready(MarkedReport { epoch, report }, number) {
                     Ok(ready) => Ok(Prepared::Ready(ready)),
                     Err(_) => Err(out_of_memory()),
                 }
@@ -475,13 +517,13 @@ impl Chains {
     }
 
     /// The same of a shared report, which is not copied: between this and `commit` a caller may keep it elsewhere, too.
-    pub fn prepare_shared(&mut self, report: Shared<PackedReport>) -> Result<Prepared, No>
+    pub fn prepare_shared(&mut self, report: MarkedReport) -> Result<Prepared, No>
         ensures same { held_of self.new ≡ held_of self.old }
         ensures answer { Prepares (held_of self.old) report result }
         ensures ready { IfOk result (λ prepared. IsReady prepared self.new) }
     {
-        let number = self.number_in(&report);
-        match self.tested(&report, number) {
+        let number = self.number_in(&report.report);
+        match self.tested(&report.report, report.epoch, number) {
             Err(refused) => Err(refused),
             Ok(Verdict::Old) => Ok(Prepared::Old(self.front())),
             Ok(Verdict::Fits) => match self.ready(report, number) {
@@ -492,13 +534,13 @@ impl Chains {
     }
 
     /// Accepts a report.
-    fn accept(&mut self, ready: Ready)
-        requires { MayBeAccepted self.old ready }
+    pub(crate) fn accept(&mut self, ready: Ready)
+        requires { MayBePut self.old ready }
         ensures { held_of self.new ≡ with_report (held_of self.old) ready.report }
     {
-        let front = self.reports.len() as u32;
+        let index = self.reports.len() as u32;
         let Ready {
-            report,
+            report: MarkedReport { epoch, report },
             process,
             lasting,
         } = ready;
@@ -507,10 +549,12 @@ impl Chains {
             &mut self.processes,
             &report,
             process as usize,
-            front,
+            index,
             lasting,
         );
         self.reports.push_reserved(report);
+        self.epochs.push_reserved(epoch);
+        self.front += 1;
         self.recent = process;
     }
 
@@ -519,6 +563,7 @@ impl Chains {
         requires { IsReady prepared self.old }
         ensures { Commits prepared (held_of self.old) result (held_of self.new) }
     {
+        self.lawful();
         match prepared {
             Prepared::Old(front) => Admitted::Old(front),
             Prepared::Ready(ready) => {
@@ -528,16 +573,16 @@ impl Chains {
         }
     }
 
-    /// Tests a report and accepts it where it passes. A refusal changes nothing.
-    pub fn admit(&mut self, report: &PackedReport) -> Result<Admitted, No>
-        ensures turn { (fate : Fate) × IsDeviceFree fate × IsReportTurn fate (held_of self.old) report.now (reply_of result) (held_of self.new) }
+    /// Tests a report of this epoch and accepts it where it passes. A refusal changes nothing.
+    pub fn admit(&mut self, report: &PackedReport, epoch: u32) -> Result<Admitted, No>
+        ensures turn { (fate : Fate) × IsDeviceFree fate × IsReportTurn fate (held_of self.old) (record { epoch = epoch; report = report.now }) (reply_of result) (held_of self.new) }
     {
-        let prepared = self.prepare(report)?;
+        let prepared = self.prepare(report, epoch)?;
         Ok(self.commit(prepared))
     }
 
     /// Tests a report and accepts it where it passes: it is then shared, and not copied. A refusal changes nothing.
-    pub fn admit_shared(&mut self, report: Shared<PackedReport>) -> Result<Admitted, No>
+    pub fn admit_shared(&mut self, report: MarkedReport) -> Result<Admitted, No>
         ensures turn { (fate : Fate) × IsDeviceFree fate × IsReportTurn fate (held_of self.old) report (reply_of result) (held_of self.new) }
     {
         let prepared = self.prepare_shared(report)?;

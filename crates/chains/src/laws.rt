@@ -6,17 +6,18 @@ ghost use Rattle.report_line.specs.declared.report.Report.{Report};
 ghost use Rattle.report_line.specs.declared.report.Report.TheVariants.{Numbered};
 ghost use Rattle.report_line.specs.declared.call.Call.{Call};
 ghost use Rattle.report_line.specs.declared.reply.Reply.{Reply};
-ghost use Rattle.chains.specs.Held.{Held, counting};
-ghost use Rattle.chains.specs.Admission.{IsReachable, IsReached, IsAdmission, held_after};
+ghost use Rattle.report_line.specs.declared.marked.MarkedReport.{MarkedReport};
+ghost use Rattle.chains.specs.Held.{Held};
+ghost use Rattle.chains.specs.Admission.{IsReachable, IsAdmission, held_after};
 ghost use Rattle.chains.specs.Processes.{Name, reports_by, reports_of, last_report};
 ghost use Rattle.chains.specs.Elements.{elements_of, element_made, makers_of};
-ghost use Rattle.chains.specs.Folded.{IsFit, IsFolded};
+ghost use Rattle.chains.specs.Folded.{IsFit, IsFolded, IsReached};
 ghost use Rattle.chains.specs.Turns.{IsTurn};
 ghost use Rattle.chains.specs.Laws.{ArePartsOfAll, NeverFall};
 
 /// What admission reaches is folded.
 pub fn reachable_lists_are_folded()
-    ensures { (accepted : List Report) → IsReachable accepted → IsFolded accepted }
+    ensures { (held : Held) → IsReachable held → IsReached held }
 {}
 
 /// What holds of each folded list: each report is fit behind those before it, the reports of a process are counted by their
@@ -35,9 +36,9 @@ pub fn makers_make_the_elements()
     ensures { (p : Name) (accepted : List Report) → map (element_made p) (makers_of p accepted) ≡ map (λ s. Some s) (elements_of p accepted) }
 {}
 
-/// From a list that admission reaches, whatever it replies to a report, it reaches what is accepted then; and so it is with
-/// each turn, whatever its call and its fate. The front goes on counting the reports.
+/// From a folded list, whatever admission replies to a report, what is held then is folded; and so it is with each turn, whatever its
+/// call and its fate. The front never falls below the number of reports.
 pub fn replies_keep_lists_reachable()
-    ensures report { (accepted : List Report) (r : Report) (answer : Reply) → IsReachable accepted → IsAdmission (counting accepted) r answer → IsReached (held_after (counting accepted) r answer) }
+    ensures report { (held : Held) (m : MarkedReport) (answer : Reply) → IsReached held → IsAdmission held m answer → IsReached (held_after held m answer) }
     ensures turn { (held after : Held) (call : Call) (reply : Reply) → IsReached held → IsTurn held call reply after → IsReached after }
 {}

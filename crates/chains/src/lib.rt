@@ -5,6 +5,7 @@ mod chains;
 mod copies;
 mod elements;
 mod failed;
+mod fitting;
 mod laws;
 mod places;
 mod position;

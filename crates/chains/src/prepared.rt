@@ -2,14 +2,14 @@
 
 ghost use Rattle.std.specs.Prelude.{◌≡◌};
 
-use report_line::{PackedReport, Shared};
+use report_line::{MarkedReport, PackedReport};
 use std::marker::Model;
 
 /// A report that passed all tests, with the number of its process where that is known, and room for a process that is born
 /// by it.
 #[derive(Drop)]
 pub struct Ready {
-    pub(crate) report: Shared<PackedReport>,
+    pub(crate) report: MarkedReport,
     pub(crate) process: u32,
     pub(crate) lasting: Vec<u32>,
 }
@@ -31,9 +31,16 @@ impl Model for Ready {
 impl Ready {
     /// The report.
     pub fn report(&self) -> &PackedReport
-        ensures { result.now ≡ self.now.report }
+        ensures { result.now ≡ self.now.report.report }
     {
-        &self.report
+        &self.report.report
+    }
+
+    /// Its epoch.
+    pub fn epoch(&self) -> u32
+        ensures { result ≡ self.now.report.epoch }
+    {
+        self.report.epoch
     }
 }
 

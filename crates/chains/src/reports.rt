@@ -15,6 +15,13 @@ pub(crate) fn at_index(reports: &[Shared<PackedReport>], i: u32) -> Option<&Pack
     }
 }
 
+/// Number i of these, counted from 0.
+pub(crate) fn number_at(numbers: &[u32], i: u32) -> Option<u32>
+    ensures { result ≡ slice_get numbers.now i }
+{
+    numbers.get(i as usize).copied()
+}
+
 /// Whether the report is one of this process, with a number.
 fn is_numbered_of(report: &PackedReport, name: &Name) -> bool
     ensures { result ≡ is_numbered_of name.now report.now }

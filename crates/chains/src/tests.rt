@@ -9,10 +9,10 @@ ghost use Rattle.id_tree.specs.Sum.{sum_of};
 ghost use Rattle.report_line.specs.declared.report.Report.TheVariants as reports;
 ghost use Rattle.report_line.specs.View.{action_of, numbered_of};
 ghost use Rattle.report_line.specs.declared.report.Action.TheVariants as actions;
-ghost use Rattle.chains.specs.Processes.{Name as AnyName, known, newborn, IsKnown, last_report, last_events, registered_id, target_of, Waits};
+ghost use Rattle.chains.specs.Processes.{Name as AnyName, known, newborn, IsKnown, last_report, last_epoch, last_events, registered_id, target_of, Waits};
 ghost use Rattle.chains.specs.Elements.{name_of};
 ghost use Rattle.chains.specs.Held.{held_of};
-ghost use Rattle.chains.specs.Admission.{FitsOrNot, AreGrown, IsActionReply, IsStampReply, IsWaitingReply, IsStandingReply, IsNumberedReply, IsBeginReply, IsAdmission, report_limit, process_limit};
+ghost use Rattle.chains.specs.Admission.{FitsOrNot, AreGrown, IsActionReply, IsStampReply, IsWaitingReply, IsStandingReply, IsNumberedReply, IsBeginReply, IsReportReply, report_limit, process_limit};
 ghost use Rattle.chains.specs.Keeping.{Tests};
 ghost use Rattle.chains.specs.Testing.{IsNumberIn, IsNoAbsorb, RefusesWith, IsFull};
 
@@ -23,7 +23,7 @@ use report_line::{ActionView, Code, Forked, Name, NumberedView, PackedReport, Re
 use stamp::Stamp;
 use std::alloc::{AllocError, Global};
 
-/// How many reports are accepted at most.
+/// How many lines are accepted at most.
 pub const REPORT_LIMIT: u32 = 16_384;
 
 /// How many processes are known at most.
@@ -132,11 +132,16 @@ impl Chains {
 
     /// All tests of a report but that of memory. The number is that of the process that reports.
     #[inline(always)]
-    pub(crate) fn tested(&self, report: &PackedReport, number: Option<u32>) -> Result<Verdict, No>
+    pub(crate) fn tested(
+        &self,
+        report: &PackedReport,
+        epoch: u32,
+        number: Option<u32>,
+    ) -> Result<Verdict, No>
         requires { IsNumberIn self.now.accepted report.now number }
-        ensures { Tests (IsAdmission (held_of self.now) report.now) self.now.front result }
+        ensures { Tests (IsReportReply (held_of self.now) epoch report.now) self.now.front result }
     {
-        match self.test(report, number) {
+        match self.test(report, epoch, number) {
             Ok(verdict) => Ok(verdict),
             Err(refusal) => Err(refusal.named()),
         }
@@ -146,13 +151,14 @@ impl Chains {
     fn test<'a>(
         &'a self,
         report: &'a PackedReport,
+        epoch: u32,
         number: Option<u32>,
     ) -> Result<Verdict, Refusal<'a>>
         requires { IsNumberIn self.now.accepted report.now number }
-        ensures { Tests (IsAdmission (held_of self.now) report.now) self.now.front result }
+        ensures { Tests (IsReportReply (held_of self.now) epoch report.now) self.now.front result }
     {
         match report.view() {
-            ReportView::Begin { process } => self.test_begin(report, process),
+            ReportView::Begin { process } => self.test_begin(report, epoch, process),
             ReportView::Numbered(fields) => {
                 if self.is_empty() {
                     return Err(Refusal {
@@ -163,7 +169,7 @@ impl Chains {
                 }
                 match number {
                     None => Err(refusal(Code::UnknownProcess, fields.process)),
-                    Some(place) => self.test_numbered(place, report, fields),
+                    Some(place) => self.test_numbered(place, report, epoch, fields),
                 }
             }
         }
@@ -173,13 +179,14 @@ impl Chains {
     fn test_begin<'a>(
         &'a self,
         report: &PackedReport,
+        epoch: u32,
         name: &'a Name,
     ) -> Result<Verdict, Refusal<'a>>
         requires { report.now ≡ reports.Begin name.now }
-        ensures { Tests (IsBeginReply (slice_get (known self.now.accepted) 0) (held_of self.now) name.now) self.now.front result }
+        ensures { Tests (IsBeginReply (slice_get (known self.now.accepted) 0) (held_of self.now) epoch name.now) self.now.front result }
     {
         match self.root() {
-            None => self.test_room(report),
+            None => self.test_first(report, epoch, name),
             Some(root) => {
                 if root.as_bytes() == name.as_bytes() {
                     Ok(Verdict::Old)
@@ -190,8 +197,54 @@ impl Chains {
         }
     }
 
+    /// The tests of a `BEGIN` where nothing has begun.
+    fn test_first<'a>(
+        &'a self,
+        report: &PackedReport,
+        epoch: u32,
+        name: &'a Name,
+    ) -> Result<Verdict, Refusal<'a>>
+        requires { report.now ≡ reports.Begin name.now }
+        ensures { Tests (IsBeginReply None (held_of self.now) epoch name.now) self.now.front result }
+    {
+        if self.epoch() != epoch {
+            return Err(refusal_with(
+                Code::OtherEpoch,
+                name,
+                number_text(self.alloc(), self.epoch()),
+            ));
+        }
+        self.test_room(report)
+    }
+
     /// The tests of a report of a known process.
     fn test_numbered<'a>(
+        &'a self,
+        place: u32,
+        report: &PackedReport,
+        epoch: u32,
+        fields: NumberedView<'a>,
+    ) -> Result<Verdict, Refusal<'a>>
+        requires place { name_of self.now.accepted place ≡ Some fields.process.now }
+        requires fields { report.now ≡ reports.Numbered (numbered_of fields) }
+        ensures { Tests (IsNumberedReply (held_of self.now) epoch (numbered_of fields.entry)) self.now.front result }
+    {
+        if self.is_last(place, report, epoch) {
+            return Ok(Verdict::Old);
+        }
+        if epoch != self.epoch() {
+            return Err(refusal_with(
+                Code::OtherEpoch,
+                fields.process,
+                number_text(self.alloc(), self.epoch()),
+            ));
+        }
+        self.test_standing(place, report, fields)
+    }
+
+    /// The tests of a report of a known process behind that of its epoch.
+    #[inline(always)]
+    fn test_standing<'a>(
         &'a self,
         place: u32,
         report: &PackedReport,
@@ -199,11 +252,8 @@ impl Chains {
     ) -> Result<Verdict, Refusal<'a>>
         requires place { name_of self.now.accepted place ≡ Some fields.process.now }
         requires fields { report.now ≡ reports.Numbered (numbered_of fields) }
-        ensures { Tests (IsNumberedReply (held_of self.now) (numbered_of fields.entry)) self.now.front result }
+        ensures { Tests (IsStandingReply (target_of fields.entry.process.now self.now.accepted) (held_of self.now) (numbered_of fields.entry)) self.now.front result }
     {
-        if self.is_last(place, report) {
-            return Ok(Verdict::Old);
-        }
         match self.target_of(place) {
             Some(target) => Err(refusal_with(
                 Code::Ended,
@@ -214,15 +264,19 @@ impl Chains {
         }
     }
 
-    /// Whether the report is the last one of its process.
-    fn is_last(&self, place: u32, report: &PackedReport) -> bool
+    /// Whether the report is the last one of its process, which was accepted with this epoch.
+    fn is_last(&self, place: u32, report: &PackedReport, epoch: u32) -> bool
         requires { place < length (known self.now.accepted) }
-        ensures { (p : AnyName) → name_of self.now.accepted place ≡ Some p → IsTrue result ↔ (last_report p self.now.accepted ≡ Some report.now) }
+        ensures { (p : AnyName) → name_of self.now.accepted place ≡ Some p → IsTrue result ↔ ((last_report p self.now.accepted ≡ Some report.now) × (last_epoch p self.now.accepted self.now.epochs ≡ Some epoch)) }
     {
         match self.last_report(place) {
             None => false,
             // Of one process most reports are told apart by their numbers.
-            Some(last) => last.number() == report.number() && last.equal(report),
+            Some(last) => {
+                last.number() == report.number()
+                    && self.last_epoch(place) == Some(epoch)
+                    && last.equal(report)
+            }
         }
     }
 
@@ -257,7 +311,7 @@ impl Chains {
     }
 
     /// The number of this process, if it retired into the other one and was not absorbed.
-    fn waiting(&self, retired: &Name, target: &Name) -> Option<u32>
+    pub(crate) fn waiting(&self, retired: &Name, target: &Name) -> Option<u32>
         ensures { MatchOption result (¬ Waits self.now.accepted retired.now target.now) (λ r. Waits self.now.accepted retired.now target.now × (name_of self.now.accepted r ≡ Some retired.now)) }
     {
         self.lawful();
@@ -411,7 +465,7 @@ impl Chains {
     }
 
     /// Whether the events are at or above the last ones, and greater at some point of the registered id.
-    fn is_grown(&self, place: u32, registered: &Id, stamp: &Stamp) -> bool
+    pub(crate) fn is_grown(&self, place: u32, registered: &Id, stamp: &Stamp) -> bool
         requires place { place < length (known self.now.accepted) }
         requires registered { (p : AnyName) → name_of self.now.accepted place ≡ Some p → registered.now ≡ registered_id p self.now.accepted }
         ensures { (p : AnyName) → name_of self.now.accepted place ≡ Some p → IsTrue result ↔ AreGrown (last_events p self.now.accepted) (registered_id p self.now.accepted) stamp.now.events }
@@ -462,7 +516,7 @@ pub(crate) fn is_birth(report: &PackedReport) -> bool
 }
 
 /// Whether these are two parts of the id, each of which owns something, and together all of it.
-fn is_split(id: &Id, kept: &Id, given: &Id) -> bool
+pub(crate) fn is_split(id: &Id, kept: &Id, given: &Id) -> bool
     ensures { IsTrue result ↔ IsSplit id.now kept.now given.now }
 {
     kept.owns_any() && given.owns_any() && id.is_sum_of(kept, given)

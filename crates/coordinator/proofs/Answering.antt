@@ -8,8 +8,8 @@ use Rattle.report_line.specs.declared.reply.Reply.TheVariants.{Line, Taken}
 use Rattle.chains.specs.Processes.{Name}
 use Rattle.chains.specs.Kept.{Kept}
 use Rattle.chains.specs.Held.{Held, held_of}
-use Rattle.chains.specs.Admission.{IsReached}
-use Rattle.chains.proofs.Folding.{reached_folded}
+use Rattle.chains.specs.Admission.{IsReachable}
+use Rattle.chains.specs.Folded.{IsReached}
 use Rattle.knows_row.proofs.Lawful.{lawful}
 use Rattle.reasons.specs.Certificates.{positions_of}
 use Rattle.reasons.specs.Shown.{IsLineText, IsShown}
@@ -17,6 +17,7 @@ use Rattle.history_law.specs.Headline.{IsRightLine}
 use Rattle.history_law.proofs.Lines.{line_of_histories}
 use Rattle.propagate.proofs.Certified.{certified_is_greatest}
 use Rattle.desk.specs.Desks.{DeskState}
+use Rattle.desk.specs.Lawful.{unstopped}
 use Rattle.coordinator.specs.Passes.{PassEntry, PassState, IsAnswered, IsShownOver, Sees, IsLineFor}
 use Rattle.coordinator.specs.Parts.{IsShownInstead, LastTaken, MayShowLine, with_line}
 use Rattle.coordinator.specs.Calls.{IsTurnFor, IsTakenFor}
@@ -24,7 +25,7 @@ use Rattle.coordinator.specs.Calls.{IsTurnFor, IsTakenFor}
 -- the text of a certificate that certifies is right
 right_text : (held : Held) (names : List Name) (text : List ℕ) → IsReached held → IsLineText held names text → IsRightLine held names text
 right_text held names text reach t =
-    let folded = reached_folded held.accepted reach.reachable in
+    let folded = reach.folded in
     record {
       certificate = t.certificate;
       text_is = t.text_is;
@@ -39,16 +40,17 @@ same_text s t e = cc
 shows_taken : (held : Held) (call : Call) (text : List ℕ) (n : ℕ) → IsLineFor held call text → IsShown held call (Taken n) (Line text)
 shows_taken held (calls.Line listed) text n (names, asks, fits) = inl (text, refl, subst (λ (ns : List Name). IsLineText held ns text) asks fits)
 shows_taken held calls.Garbage text n (names, asks, fits) = inl (text, refl, subst (λ (ns : List Name). IsLineText held ns text) asks fits)
-shows_taken held (calls.Report r) text n (names, asks, fits) = absurd asks
+shows_taken held (calls.Report m) text n (names, asks, fits) = absurd asks
+shows_taken held (calls.Settle front listed) text n (names, asks, fits) = absurd asks
 shows_taken held (calls.State p) text n (names, asks, fits) = absurd asks
 shows_taken held calls.Bye text n (names, asks, fits) = absurd asks
 shows_taken held (calls.Bad m) text n (names, asks, fits) = absurd asks
 shows_taken held calls.Unread text n (names, asks, fits) = absurd asks
 
 -- the line that was computed is shown
-pub shown_line : (held : Held) (call : Call) (text : List ℕ) → IsReached held → IsLineFor held call text → IsShownOver held call (Taken held.front) (Line text)
-shown_line held call text reach fits = record {
-  reached = reach;
+pub shown_line : (held : Held) (call : Call) (text : List ℕ) → IsReachable (unstopped held) → IsReached held → IsLineFor held call text → IsShownOver held call (Taken held.front) (Line text)
+shown_line held call text admitted reach fits = record {
+  reached = admitted;
   front = λ n is. cc is;
   shows = shows_taken held call text held.front fits;
   right = λ other e. (fits.0, fits.1, subst (IsRightLine held fits.0) (same_text text other e) (right_text held fits.0 text reach fits.2));
@@ -78,7 +80,7 @@ answered_shown before after old call k text mid new t reached fits (front, last,
             (subst (λ (r : Reply). Sees old.front r mid.front) (ap (λ (e : PassEntry). e.receipt.reply) same.1) made.one.front);
       };
       held = held_of k;
-      shows = subst (λ (r : Reply). IsShownOver (held_of k) call r (Line text)) (sym taken) (shown_line (held_of k) call text reached fits);
+      shows = subst (λ (r : Reply). IsShownOver (held_of k) call r (Line text)) (sym taken) (shown_line (held_of k) call text (subst IsReachable (sym t.snapshot_is.0) made.shows.reached) reached fits);
     }
 
 answered_by : {D : Type 0} (before after : DeskState D) (old : PassState) (call : Call) (k : Kept) (mid new : PassState)

@@ -16,7 +16,8 @@ use Rattle.chains.specs.Elements.{name_of}
 use Rattle.chains.specs.Positions.{IsChosen, IsSurviving, position_in}
 use Rattle.chains.specs.Knowledge.{Knows}
 use Rattle.chains.specs.Held.{Held}
-use Rattle.chains.specs.Admission.{IsReached, report_limit}
+use Rattle.chains.specs.Admission.{report_limit}
+use Rattle.chains.specs.Folded.{IsReached}
 use Rattle.reasons.specs.declared.certificate.Certificate.{Certificate}
 use Rattle.reasons.specs.declared.fault.CertificateFault.{CertificateFault}
 use Rattle.reasons.specs.declared.fault.CertificateFault.TheVariants as faults
@@ -72,12 +73,12 @@ module _ (accepted : List Report) (few : length accepted ≤ report_limit) where
       let at : position_in (positions_of line) i ≡ x.position = get_or-map (λ (y : Place). y.position) line i d (At 0) in_range in
       (omega (arith, is, below), small failed i x.position (subst (IsChosen accepted failed i) at (chosen i below)))
 
-known_numbers : (held : Held) (c : Certificate) → IsReached held → length held.accepted ≤ report_limit → Certifies held c → HasKnownNumbers held.accepted c
-known_numbers held c reach few certifies = record {
+known_numbers : (held : Held) (c : Certificate) → IsReached held → held.front ≤ report_limit → Certifies held c → HasKnownNumbers held.accepted c
+known_numbers held c reach few certifies = let fewer : length held.accepted ≤ report_limit = omega (arith, few, reach.counted) in record {
   failed = All-weaker (Contains c.failed) (λ p. p < length (known held.accepted)) certifies.known_failed c.failed (All-contains_itself c.failed);
-  front = omega (arith, certifies.front, reach.counted, few);
-  line = lined held.accepted few c.failed c.line certifies.in_order certifies.cut.chosen;
-  reasons = reasoned held.accepted few c.failed (positions_of c.line) certifies.reasons.fallen c.reasons certifies.reasons.each;
+  front = omega (arith, certifies.front, few);
+  line = lined held.accepted fewer c.failed c.line certifies.in_order certifies.cut.chosen;
+  reasons = reasoned held.accepted fewer c.failed (positions_of c.line) certifies.reasons.fallen c.reasons certifies.reasons.each;
 }
 
 -- ---- one text, one certificate
@@ -90,7 +91,7 @@ ReadsOnly accepted =
 same_ok : (a b : Certificate) (r : Result Certificate CertificateFault) → r ≡ Ok a → r ≡ Ok b → a ≡ b
 same_ok a b r e f = cc
 
-module _ (held : Held) (text : List ℕ) (reach : IsReached held) (few : length held.accepted ≤ report_limit) (only : ReadsOnly held.accepted) where
+module _ (held : Held) (text : List ℕ) (reach : IsReached held) (few : held.front ≤ report_limit) (only : ReadsOnly held.accepted) where
   read_of : (c : Certificate) (result : Result Certificate CertificateFault) → IsReadAs held.accepted text result → Certifies held c → text ≡ certificate_text held.accepted c
       → (result ≡ Ok c) ⊎ (result ≡ Err faults.Memory)
   read_of c result read certifies is = only c (known_numbers held c reach few certifies) result (subst (λ (t : List ℕ). IsReadAs held.accepted t result) is read)

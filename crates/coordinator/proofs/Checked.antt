@@ -4,10 +4,11 @@ use Rattle.std.proofs.lemmas.Bool.{cases_eq}
 use Rattle.std.proofs.lemmas.List.{take_more}
 use Rattle.std.proofs.lemmas.Option.{get_or_from_slice_get, slice_get_within}
 use Rattle.report_line.specs.declared.report.Report.{Report}
+use Rattle.report_line.specs.declared.marked.MarkedReport.{MarkedReport}
 use Rattle.report_line.specs.declared.call.Call.{Call}
 use Rattle.report_line.specs.declared.call.Call.TheVariants as calls
 use Rattle.report_line.specs.declared.reply.Reply.{Reply}
-use Rattle.report_line.specs.declared.reply.Reply.TheVariants.{Accepted, Old, No, Bad, Fail, Line, State, Bye, Taken}
+use Rattle.report_line.specs.declared.reply.Reply.TheVariants.{Accepted, Old, No, Bad, Fail, Line, State, Settled, Bye, Taken}
 use Rattle.report_line.specs.declared.reply.Outcome.TheVariants.{Before, Unknown, Stopped}
 use Rattle.chains.specs.Processes.{Name}
 use Rattle.chains.specs.Kept.{Kept}
@@ -27,94 +28,100 @@ use Rattle.coordinator.specs.Closing.{IsCause, ShowsRightly}
 use Rattle.coordinator.specs.Marks.{owner_at}
 use Rattle.coordinator.specs.Checks.{HaveSame, RightOver, IsEntryOf, IsCheckedOver, IsWrongOver, AreCheckedTo, IsWrongThere}
 
--- ---- whether the store is stopped does not matter for a line
+-- ---- neither the epochs nor whether the store is stopped matter for a line
 
-abbrev with_flag : List Report → ℕ → Bool → Held
-with_flag accepted front stopped = record { accepted = accepted; front = front; stopped = stopped }
+abbrev with_rest : List Report → ℕ → List ℕ → ℕ → Bool → Held
+with_rest accepted front epochs epoch stopped = record { accepted = accepted; epochs = epochs; front = front; epoch = epoch; stopped = stopped }
 
-text_over : (accepted : List Report) (front : ℕ) (s t : Bool) (names : List Name) (text : List ℕ) → IsLineText (with_flag accepted front s) names text → IsLineText (with_flag accepted front t) names text
-text_over accepted front s t names text x = record {
-  certificate = x.certificate;
-  for_names = x.for_names;
-  certifies = record {
-    front = x.certifies.front;
-    failed = x.certifies.failed;
-    known_failed = x.certifies.known_failed;
-    in_order = x.certifies.in_order;
-    cut = x.certifies.cut;
-    consistent = x.certifies.consistent;
-    reasons = x.certifies.reasons;
-  };
-  text_is = x.text_is;
-}
+module _ (accepted : List Report) (front : ℕ) (es fs : List ℕ) (k l : ℕ) (s t : Bool) where
+  text_over : (names : List Name) (text : List ℕ) → IsLineText (with_rest accepted front es k s) names text → IsLineText (with_rest accepted front fs l t) names text
+  text_over names text x = record {
+    certificate = x.certificate;
+    for_names = x.for_names;
+    certifies = record {
+      front = x.certifies.front;
+      failed = x.certifies.failed;
+      known_failed = x.certifies.known_failed;
+      in_order = x.certifies.in_order;
+      cut = x.certifies.cut;
+      consistent = x.certifies.consistent;
+      reasons = x.certifies.reasons;
+    };
+    text_is = x.text_is;
+  }
 
-asks_over : (accepted : List Report) (front : ℕ) (s t : Bool) (call : Call) (names : List Name) → AsksForLine (with_flag accepted front s) call names → AsksForLine (with_flag accepted front t) call names
-asks_over accepted front s t (calls.Line listed) names a = a
-asks_over accepted front s t calls.Garbage names a = a
-asks_over accepted front s t (calls.Report r) names a = a
-asks_over accepted front s t (calls.State p) names a = a
-asks_over accepted front s t calls.Bye names a = a
-asks_over accepted front s t (calls.Bad n) names a = a
-asks_over accepted front s t calls.Unread names a = a
+  asks_over : (call : Call) (names : List Name) → AsksForLine (with_rest accepted front es k s) call names → AsksForLine (with_rest accepted front fs l t) call names
+  asks_over (calls.Line listed) names a = a
+  asks_over calls.Garbage names a = a
+  asks_over (calls.Report m) names a = a
+  asks_over (calls.Settle n listed) names a = a
+  asks_over (calls.State p) names a = a
+  asks_over calls.Bye names a = a
+  asks_over (calls.Bad n) names a = a
+  asks_over calls.Unread names a = a
 
-line_over : (accepted : List Report) (front : ℕ) (s t : Bool) (call : Call) (text : List ℕ) → IsLineFor (with_flag accepted front s) call text → IsLineFor (with_flag accepted front t) call text
-line_over accepted front s t call text (names, asks, fits) = (names, asks_over accepted front s t call names asks, text_over accepted front s t names text fits)
+  line_over : (call : Call) (text : List ℕ) → IsLineFor (with_rest accepted front es k s) call text → IsLineFor (with_rest accepted front fs l t) call text
+  line_over call text (names, asks, fits) = (names, asks_over call names asks, text_over names text fits)
 
 -- over what has the same list and front
 line_same : (a b : Held) (call : Call) (text : List ℕ) → a.accepted ≡ b.accepted → a.front ≡ b.front → IsLineFor a call text → IsLineFor b call text
 line_same a b call text list front fits =
-    subst (λ (n : ℕ). IsLineFor (with_flag b.accepted n b.stopped) call text) front
-    (subst (λ (xs : List Report). IsLineFor (with_flag xs a.front b.stopped) call text) list (line_over a.accepted a.front a.stopped b.stopped call text fits))
+    subst (λ (n : ℕ). IsLineFor (with_rest b.accepted n b.epochs b.epoch b.stopped) call text) front
+    (subst (λ (xs : List Report). IsLineFor (with_rest xs a.front b.epochs b.epoch b.stopped) call text) list
+    (line_over a.accepted a.front a.epochs b.epochs a.epoch b.epoch a.stopped b.stopped call text fits))
 
 -- ---- one turn
 
 -- where a report is not accepted, all stays but whether the store is stopped
-kept_after : (held : Held) (r : Report) (reply : Reply) → ((n : ℕ) → reply ≢ Accepted n) → ((held_after held r reply).accepted ≡ held.accepted) × ((held_after held r reply).front ≡ held.front)
-kept_after held r (Accepted n) other = absurd (other n refl)
-kept_after held r (Old n) other = (refl, refl)
-kept_after held r (No code name value) other = (refl, refl)
-kept_after held r (Bad n) other = (refl, refl)
-kept_after held r (Fail Before) other = (refl, refl)
-kept_after held r (Fail Unknown) other = (refl, refl)
-kept_after held r (Fail Stopped) other = (refl, refl)
-kept_after held r (Line text) other = (refl, refl)
-kept_after held r (State name reports elements live id) other = (refl, refl)
-kept_after held r Bye other = (refl, refl)
-kept_after held r (Taken n) other = (refl, refl)
+kept_after : (held : Held) (m : MarkedReport) (reply : Reply) → ((n : ℕ) → reply ≢ Accepted n) → ((held_after held m reply).accepted ≡ held.accepted) × ((held_after held m reply).front ≡ held.front)
+kept_after held m (Accepted n) other = absurd (other n refl)
+kept_after held m (Old n) other = (refl, refl)
+kept_after held m (No code name value) other = (refl, refl)
+kept_after held m (Bad n) other = (refl, refl)
+kept_after held m (Fail Before) other = (refl, refl)
+kept_after held m (Fail Unknown) other = (refl, refl)
+kept_after held m (Fail Stopped) other = (refl, refl)
+kept_after held m (Line text) other = (refl, refl)
+kept_after held m (State name reports elements live id) other = (refl, refl)
+kept_after held m (Settled epoch front) other = (refl, refl)
+kept_after held m Bye other = (refl, refl)
+kept_after held m (Taken n) other = (refl, refl)
 
 same_by : (k : Kept) (held after : Held) → HaveSame k held → after ≡ held → HaveSame k after
 same_by k held after same e = subst (HaveSame k) (sym e) same
 
 -- a turn that accepts nothing
 pub same_without : (k : Kept) (held after : Held) (call : Call) (reply : Reply) → ((n : ℕ) → reply ≢ Accepted n) → HaveSame k held → IsTurn held call reply after → HaveSame k after
-same_without k held after (calls.Report r) reply other same (fate, t) =
-    let stays = kept_after held r reply other in
-    subst (HaveSame k) (sym (after_report_turn held.stopped fate held r reply after t)) (same.0 ∙ sym stays.0, same.1 ∙ sym stays.1)
+same_without k held after (calls.Report m) reply other same (fate, t) =
+    let stays = kept_after held m reply other in
+    subst (HaveSame k) (sym (after_report_turn held.stopped fate held m reply after t)) (same.0 ∙ sym stays.0, same.1 ∙ sym stays.1)
 same_without k held after (calls.Line names) reply other same (fate, t) = same_by k held after same (unchanged held.stopped fate held _ reply after t)
 same_without k held after calls.Garbage reply other same (fate, t) = same_by k held after same (unchanged held.stopped fate held _ reply after t)
+same_without k held after (calls.Settle front names) reply other same (fate, t) = same_by k held after same t.2
 same_without k held after (calls.State p) reply other same (fate, t) = same_by k held after same (unchanged held.stopped fate held _ reply after t)
 same_without k held after calls.Bye reply other same (fate, t) = same_by k held after same t.2
 same_without k held after (calls.Bad n) reply other same (fate, t) = same_by k held after same t.2
 same_without k held after calls.Unread reply other same (fate, t) = same_by k held after same t.2
 
 -- a turn of another call than a report
-pub same_unreported : (k : Kept) (held after : Held) (call : Call) (reply : Reply) → ((r : Report) → call ≢ calls.Report r) → HaveSame k held → IsTurn held call reply after → HaveSame k after
-same_unreported k held after (calls.Report r) reply other same t = absurd (other r refl)
+pub same_unreported : (k : Kept) (held after : Held) (call : Call) (reply : Reply) → ((m : MarkedReport) → call ≢ calls.Report m) → HaveSame k held → IsTurn held call reply after → HaveSame k after
+same_unreported k held after (calls.Report m) reply other same t = absurd (other m refl)
 same_unreported k held after (calls.Line names) reply other same (fate, t) = same_by k held after same (unchanged held.stopped fate held _ reply after t)
 same_unreported k held after calls.Garbage reply other same (fate, t) = same_by k held after same (unchanged held.stopped fate held _ reply after t)
+same_unreported k held after (calls.Settle front names) reply other same (fate, t) = same_by k held after same t.2
 same_unreported k held after (calls.State p) reply other same (fate, t) = same_by k held after same (unchanged held.stopped fate held _ reply after t)
 same_unreported k held after calls.Bye reply other same (fate, t) = same_by k held after same t.2
 same_unreported k held after (calls.Bad n) reply other same (fate, t) = same_by k held after same t.2
 same_unreported k held after calls.Unread reply other same (fate, t) = same_by k held after same t.2
 
 -- a turn that accepts a report
-pub same_with : (k new : Kept) (held after : Held) (call : Call) (reply : Reply) (r : Report) (n : ℕ) → call ≡ calls.Report r → reply ≡ Accepted n → held_of new ≡ with_report (held_of k) r → HaveSame k held
+pub same_with : (k new : Kept) (held after : Held) (call : Call) (reply : Reply) (m : MarkedReport) (n : ℕ) → call ≡ calls.Report m → reply ≡ Accepted n → held_of new ≡ with_report (held_of k) m → HaveSame k held
     → IsTurn held call reply after → HaveSame new after
-same_with k new held after call reply r n is says more same t =
-    let t' : IsTurn held (calls.Report r) (Accepted n) after = subst (λ (x : Reply). IsTurn held (calls.Report r) x after) says (subst (λ (c : Call). IsTurn held c reply after) is t) in
-    let a = after_report_turn held.stopped t'.0 held r (Accepted n) after t'.1 in
+same_with k new held after call reply m n is says more same t =
+    let t' : IsTurn held (calls.Report m) (Accepted n) after = subst (λ (x : Reply). IsTurn held (calls.Report m) x after) says (subst (λ (c : Call). IsTurn held c reply after) is t) in
+    let a = after_report_turn held.stopped t'.0 held m (Accepted n) after t'.1 in
     subst (HaveSame new) (sym a)
-    (ap (λ (h : Held). h.accepted) more ∙ ap (λ (xs : List Report). xs ++ r ∷ []) same.0, ap (λ (h : Held). h.front) more ∙ ap (λ (m : ℕ). m + 1) same.1)
+    (ap (λ (h : Held). h.accepted) more ∙ ap (λ (xs : List Report). xs ++ m.report ∷ []) same.0, ap (λ (h : Held). h.front) more ∙ ap (λ (i : ℕ). i + 1) same.1)
 
 -- ---- the replay
 

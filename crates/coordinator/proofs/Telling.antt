@@ -6,18 +6,20 @@ use Rattle.report_line.specs.declared.report.Action.TheVariants.{Check, Present,
 use Rattle.report_line.specs.declared.report.NumberedReport.{NumberedReport}
 use Rattle.report_line.specs.declared.report.Report.{Report}
 use Rattle.report_line.specs.declared.report.Report.TheVariants.{Begin, Numbered}
+use Rattle.report_line.specs.declared.marked.MarkedReport.{MarkedReport}
 use Rattle.report_line.specs.declared.call.Call.{Call}
 use Rattle.report_line.specs.declared.call.Call.TheVariants as calls
 use Rattle.report_line.specs.declared.reply.Outcome.TheVariants.{Before, Unknown, Stopped}
 use Rattle.report_line.specs.declared.reply.Reply.{Reply}
-use Rattle.report_line.specs.declared.reply.Reply.TheVariants.{Accepted, Old, No, Bad, Fail, Line, State, Bye, Taken}
+use Rattle.report_line.specs.declared.reply.Reply.TheVariants.{Accepted, Old, No, Bad, Fail, Line, State, Settled, Bye, Taken}
 use Rattle.chains.specs.Processes.{Name, known, target_of}
 use Rattle.chains.specs.Held.{Held}
-use Rattle.chains.specs.Admission.{Decides, FitsOrNot, IsBeginReply, IsActionReply, IsStampReply, IsWaitingReply, IsStandingReply, IsAdmission, IsReached, held_after}
+use Rattle.chains.specs.Admission.{Decides, FitsOrNot, IsBeginReply, IsActionReply, IsStampReply, IsWaitingReply, IsStandingReply, IsReportReply, IsReachable, held_after}
 use Rattle.chains.specs.Turns.{Fate, fine, memory, before, unknown, no_memory, IsLineReply, IsGarbageReply, IsStateReply, state_by, IsQuestionTurn, IsReported, IsTurn}
-use Rattle.chains.proofs.Turning.{turn_reached}
 use Rattle.chains.proofs.Unfailing.{no_line}
 use Rattle.reasons.specs.Shown.{IsLineShown, IsShown}
+use Rattle.desk.specs.Lawful.{unstopped}
+use Rattle.desk.proofs.Unsettled.{still_admitted}
 use Rattle.coordinator.specs.Passes.{front_of, IsShownOver, MayShow}
 use Rattle.coordinator.specs.Parts.{first_shown}
 
@@ -60,14 +62,15 @@ module _ (held : Held) (x : Reply) where
   standing (Some target) r = λ e. subst (Kinds held) (sym e) (inl tt)
   standing None r = decided held _ _ x _ (inl tt) (waiting r r.action)
 
-  begun : (root : Option Name) (p : Name) → IsBeginReply root held p x → Kinds held x
-  begun None p = fits (Begin p)
-  begun (Some root) p = decided held _ _ x _ (inl tt) (λ e. inr (inl e))
+  begun : (root : Option Name) (epoch : ℕ) (p : Name) → IsBeginReply root held epoch p x → Kinds held x
+  begun None epoch p = decided held _ _ x _ (inl tt) (fits (Begin p))
+  begun (Some root) epoch p = decided held _ _ x _ (inl tt) (λ e. inr (inl e))
 
-  pub admitted : (r : Report) → IsAdmission held r x → Kinds held x
-  admitted (Begin p) = begun (slice_get (known held.accepted) 0) p
-  admitted (Numbered r) =
-      decided held _ _ x _ (inl tt) (decided held _ _ x _ (inl tt) (decided held _ _ x _ (inr (inl refl)) (standing (target_of r.process held.accepted) r)))
+  pub admitted : (epoch : ℕ) (r : Report) → IsReportReply held epoch r x → Kinds held x
+  admitted epoch (Begin p) = begun (slice_get (known held.accepted) 0) epoch p
+  admitted epoch (Numbered r) =
+      decided held _ _ x _ (inl tt)
+      (decided held _ _ x _ (inl tt) (decided held _ _ x _ (inr (inl refl)) (decided held _ _ x _ (inl tt) (standing (target_of r.process held.accepted) r))))
 
 -- ---- what is told
 
@@ -82,29 +85,30 @@ silent held after reply said none e same =
 still : (held after : Held) (reply said : Reply) → front_of said ≡ None → reply ≡ said → after ≡ held → Tells held reply after
 still held after reply said none e same = silent held after reply said none e (ap (λ (h : Held). h.front) same)
 
-tells_no : (held : Held) (r : Report) (reply : Reply) → IsNo reply → Tells held reply (held_after held r reply)
-tells_no held r (No code name value) refused = silent held held (No code name value) (No code name value) refl refl refl
-tells_no held r (Accepted f) never = absurd never
-tells_no held r (Old f) never = absurd never
-tells_no held r (Bad n) never = absurd never
-tells_no held r (Fail o) never = absurd never
-tells_no held r (Line t) never = absurd never
-tells_no held r (State m k l b i) never = absurd never
-tells_no held r Bye never = absurd never
-tells_no held r (Taken f) never = absurd never
+tells_no : (held : Held) (m : MarkedReport) (reply : Reply) → IsNo reply → Tells held reply (held_after held m reply)
+tells_no held m (No code name value) refused = silent held held (No code name value) (No code name value) refl refl refl
+tells_no held m (Accepted f) never = absurd never
+tells_no held m (Old f) never = absurd never
+tells_no held m (Bad n) never = absurd never
+tells_no held m (Fail o) never = absurd never
+tells_no held m (Line t) never = absurd never
+tells_no held m (State q k l b i) never = absurd never
+tells_no held m (Settled k f) never = absurd never
+tells_no held m Bye never = absurd never
+tells_no held m (Taken f) never = absurd never
 
-tells_kind : (held : Held) (r : Report) (reply : Reply) → Kinds held reply → Tells held reply (held_after held r reply)
-tells_kind held r reply (inl refused) = tells_no held r reply refused
-tells_kind held r reply (inr (inl e)) = rw e ((λ n is. cc is), omega arith)
-tells_kind held r reply (inr (inr e)) = rw e ((λ n is. cc is), omega arith)
+tells_kind : (held : Held) (m : MarkedReport) (reply : Reply) → Kinds held reply → Tells held reply (held_after held m reply)
+tells_kind held m reply (inl refused) = tells_no held m reply refused
+tells_kind held m reply (inr (inl e)) = rw e ((λ n is. cc is), omega arith)
+tells_kind held m reply (inr (inr e)) = rw e ((λ n is. cc is), omega arith)
 
-tells_reported : (b : Bool) (fate : Fate) (held after : Held) (r : Report) (reply : Reply) → IsReported b fate held r reply after → Tells held reply after
-tells_reported true fate held after r reply step = still held after reply (Fail Stopped) refl step.1 step.2
-tells_reported false fine held after r reply step =
-    subst (λ (h : Held). Tells held reply h) (sym step.1) (tells_kind held r reply (admitted held reply r step.0))
-tells_reported false memory held after r reply step = still held after reply no_memory refl step.3 step.4
-tells_reported false before held after r reply step = silent held after reply (Fail Before) refl step.1 (ap (λ (h : Held). h.front) step.2)
-tells_reported false unknown held after r reply step = silent held after reply (Fail Unknown) refl step.1 (ap (λ (h : Held). h.front) step.2)
+tells_reported : (b : Bool) (fate : Fate) (held after : Held) (m : MarkedReport) (reply : Reply) → IsReported b fate held m reply after → Tells held reply after
+tells_reported true fate held after m reply step = still held after reply (Fail Stopped) refl step.1 step.2
+tells_reported false fine held after m reply step =
+    subst (λ (h : Held). Tells held reply h) (sym step.1) (tells_kind held m reply (admitted held reply m.epoch m.report step.0))
+tells_reported false memory held after m reply step = still held after reply no_memory refl step.3 step.4
+tells_reported false before held after m reply step = silent held after reply (Fail Before) refl step.1 (ap (λ (h : Held). h.front) step.2)
+tells_reported false unknown held after m reply step = silent held after reply (Fail Unknown) refl step.1 (ap (λ (h : Held). h.front) step.2)
 
 tells_line : (held : Held) (names : List Name) (reply : Reply) → IsLineReply held names reply → Tells held reply held
 tells_line held names reply (inl (q, e)) = silent held held reply _ refl e refl
@@ -134,7 +138,8 @@ pub tells : (held after : Held) (call : Call) (reply : Reply) → IsTurn held ca
 tells held after (calls.Bad n) reply (fate, step) = still held after reply _ refl step.1 step.2
 tells held after calls.Unread reply (fate, step) = still held after reply _ refl step.1 step.2
 tells held after calls.Bye reply (fate, step) = still held after reply _ refl step.1 step.2
-tells held after (calls.Report r) reply (fate, step) = tells_reported held.stopped fate held after r reply step
+tells held after (calls.Report m) reply (fate, step) = tells_reported held.stopped fate held after m reply step
+tells held after (calls.Settle front names) reply (fate, step) = still held after reply _ refl step.1 step.2
 tells held after (calls.Line names) reply (fate, step) =
     tells_asked held.stopped fate held after (IsLineReply held names) reply (tells_line held names reply) step
 tells held after calls.Garbage reply (fate, step) = tells_asked held.stopped fate held after (IsGarbageReply held) reply (tells_garbage held reply) step
@@ -154,6 +159,7 @@ shows_no (Bad n) never = absurd never
 shows_no (Fail o) never = absurd never
 shows_no (Line t) never = absurd never
 shows_no (State m k l b i) never = absurd never
+shows_no (Settled k f) never = absurd never
 shows_no Bye never = absurd never
 shows_no (Taken f) never = absurd never
 
@@ -162,12 +168,12 @@ shows_kind held reply (inl refused) = shows_no reply refused
 shows_kind held reply (inr (inl e)) = shows_said reply _ refl e
 shows_kind held reply (inr (inr e)) = shows_said reply _ refl e
 
-shows_reported : (b : Bool) (fate : Fate) (held after : Held) (r : Report) (reply : Reply) → IsReported b fate held r reply after → first_shown reply ≡ reply
-shows_reported true fate held after r reply step = shows_said reply _ refl step.1
-shows_reported false fine held after r reply step = shows_kind held reply (admitted held reply r step.0)
-shows_reported false memory held after r reply step = shows_said reply _ refl step.3
-shows_reported false before held after r reply step = shows_said reply _ refl step.1
-shows_reported false unknown held after r reply step = shows_said reply _ refl step.1
+shows_reported : (b : Bool) (fate : Fate) (held after : Held) (m : MarkedReport) (reply : Reply) → IsReported b fate held m reply after → first_shown reply ≡ reply
+shows_reported true fate held after m reply step = shows_said reply _ refl step.1
+shows_reported false fine held after m reply step = shows_kind held reply (admitted held reply m.epoch m.report step.0)
+shows_reported false memory held after m reply step = shows_said reply _ refl step.3
+shows_reported false before held after m reply step = shows_said reply _ refl step.1
+shows_reported false unknown held after m reply step = shows_said reply _ refl step.1
 
 shows_told : (held : Held) (p : Name) (target : Option Name) (reply : Reply) → reply ≡ state_by target held.accepted p → first_shown reply ≡ reply
 shows_told held p None reply e = shows_said reply _ refl e
@@ -191,13 +197,15 @@ line_first over names (Bad n) = refl
 line_first over names (Fail outcome) = refl
 line_first over names (Line text) = refl
 line_first over names (State name reports elements live id) = refl
+line_first over names (Settled epoch front) = refl
 line_first over names Bye = refl
 line_first over names (Taken front) = inr refl
 
 shows_first : (held after over : Held) (call : Call) (reply : Reply) → IsTurn held call reply after → IsShown over call reply (first_shown reply)
 shows_first held after over (calls.Line names) reply t = line_first over names reply
 shows_first held after over calls.Garbage reply t = line_first over (known over.accepted) reply
-shows_first held after over (calls.Report r) reply (fate, step) = shows_reported held.stopped fate held after r reply step
+shows_first held after over (calls.Report m) reply (fate, step) = shows_reported held.stopped fate held after m reply step
+shows_first held after over (calls.Settle front names) reply (fate, step) = shows_said reply _ refl step.1
 shows_first held after over (calls.State p) reply (fate, step) = shows_asked held.stopped fate held after p reply step
 shows_first held after over calls.Bye reply (fate, step) = shows_said reply _ refl step.1
 shows_first held after over (calls.Bad n) reply (fate, step) = shows_said reply _ refl step.1
@@ -213,6 +221,7 @@ first_line (Bad n) text e = e
 first_line (Fail outcome) text e = e
 first_line (Line t) text e = e
 first_line (State name reports elements live id) text e = e
+first_line (Settled epoch front) text e = e
 first_line Bye text e = e
 first_line (Taken front) text e = absurd cc
 
@@ -220,9 +229,9 @@ never_first : (held after : Held) (call : Call) (reply : Reply) (text : List ℕ
 never_first held after call reply text t e = no_line held after call text (subst (λ (x : Reply). IsTurn held call x after) (first_line reply text e) t)
 
 -- what is shown first for a turn
-pub shown_first : (held after : Held) (call : Call) (reply : Reply) → IsReached held → IsTurn held call reply after → IsShownOver after call reply (first_shown reply)
+pub shown_first : (held after : Held) (call : Call) (reply : Reply) → IsReachable (unstopped held) → IsTurn held call reply after → IsShownOver after call reply (first_shown reply)
 shown_first held after call reply reach t = record {
-  reached = turn_reached held after call reply reach t;
+  reached = still_admitted held after call reply reach t;
   front = (tells held after call reply t).0;
   shows = shows_first held after after call reply t;
   right = λ text e. absurd (never_first held after call reply text t e);
@@ -237,5 +246,6 @@ may_show_first (Bad n) = refl
 may_show_first (Fail outcome) = refl
 may_show_first (Line text) = refl
 may_show_first (State name reports elements live id) = refl
+may_show_first (Settled epoch front) = refl
 may_show_first Bye = refl
 may_show_first (Taken front) = inl refl

@@ -3,10 +3,11 @@ use Rattle.std.specs.Prelude.{◌≡◌, ◌+◌, ◌<◌, ◌⊎◌, [], ◌∷
 use Rattle.report_line.specs.declared.call.Call.{Call}
 use Rattle.report_line.specs.declared.reply.Reply.TheVariants.{Taken}
 use Rattle.chains.specs.Kept.{Kept}
+use Rattle.chains.specs.Held.{held_of}
 use Rattle.chains.specs.Turns.{IsTurn}
 use Rattle.desk.specs.declared.turn.Receipt.{Receipt}
 use Rattle.desk.specs.Desks.{DeskState}
-use Rattle.desk.specs.Lawful.{turn_limit}
+use Rattle.desk.specs.Lawful.{turn_limit, unstopped}
 use Rattle.coordinator.specs.declared.fault.CallFault.{CallFault}
 use Rattle.coordinator.specs.declared.fault.CallFault.TheVariants.{Foreign, Worn, Memory}
 use Rattle.coordinator.specs.Passes.{PassState, PassEntry, IsOneEntry, IsShownOver, last_turn}
@@ -25,10 +26,10 @@ pub record IsTurnFor {D : Type 0} (before after : DeskState D) (old : PassState)
   pub turn : IsOneTurn before call entry.receipt after
   pub shows : IsShownOver after.held call entry.receipt.reply entry.shown
 
--- the same, with the accepted list of that turn where a line was taken
+-- the same, with what was held at that turn where a line was taken
 pub record IsTakenFor {D : Type 0} (before after : DeskState D) (old : PassState) (call : Call) (snapshot : Option Kept) (new : PassState) : Type 0 where
   pub made : IsTurnFor before after old call new
-  pub snapshot_is : IfSome snapshot (λ k. (k.accepted ≡ after.held.accepted) × (made.entry.receipt.reply ≡ Taken k.front))
+  pub snapshot_is : IfSome snapshot (λ k. (held_of k ≡ unstopped after.held) × (made.entry.receipt.reply ≡ Taken k.front))
 
 -- why a fault was answered
 abbrev pub IsDue : {D : Type 0} → DeskState D → PassState → CallFault → Type 0

@@ -2,7 +2,6 @@
 use Rattle.std.specs.Prelude.{◌≡◌, ◌≢◌, ◌⊎◌, ℕ, ◌-◌, ◌<◌, ◌≤◌, ◌==◌, false, List, length, take, All, Contains, Some, slice_get, ⊤}
 use Rattle.std.specs.List.{count_by, flat_map}
 use Rattle.line_disk.specs.Disk.{View, Leaves}
-use Rattle.report_line.specs.declared.report.Report.{Report}
 use Rattle.report_line.specs.declared.reply.Reply.TheVariants.{Line}
 use Rattle.chains.specs.Held.{Held}
 use Rattle.desk.specs.declared.turn.Turn.{Turn}
@@ -77,11 +76,11 @@ IsCause opening ts passes (Stranger number) = IsStrange opening ts passes number
 IsCause opening ts passes (Missing shares turns) = IsMissing opening ts passes shares turns
 IsCause opening ts passes Memory = ⊤
 
--- why an audit was refused: that the opening lists differ comes first
-abbrev pub IsAuditCause : {D : Type 0} → List Report → DeskState D → List PassState → CloseFault → Type 0
+-- why an audit was refused: that not the same was held at the opening comes first
+abbrev pub IsAuditCause : {D : Type 0} → Held → DeskState D → List PassState → CloseFault → Type 0
 IsAuditCause opening desk passes (Stranger number) =
-    ((number ≡ 0) × (opening ≢ desk.opening.accepted)) ⊎ ((opening ≡ desk.opening.accepted) × IsStrange desk.opening desk.turns passes number)
-IsAuditCause opening desk passes (Missing shares turns) = (opening ≡ desk.opening.accepted) × IsMissing desk.opening desk.turns passes shares turns
+    ((number ≡ 0) × (opening ≢ desk.opening)) ⊎ ((opening ≡ desk.opening) × IsStrange desk.opening desk.turns passes number)
+IsAuditCause opening desk passes (Missing shares turns) = (opening ≡ desk.opening) × IsMissing desk.opening desk.turns passes shares turns
 IsAuditCause opening desk passes Memory = ⊤
 
 -- The coordinator has ended. Its turns replay from what was held at the opening and are those of the passes. A crash leaves a file

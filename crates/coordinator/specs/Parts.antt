@@ -4,7 +4,7 @@ use Rattle.report_line.specs.declared.call.Call.{Call}
 use Rattle.report_line.specs.declared.reply.Reply.{Reply}
 use Rattle.report_line.specs.declared.reply.Reply.TheVariants.{Line, Taken}
 use Rattle.chains.specs.Held.{Held}
-use Rattle.chains.specs.Admission.{IsReached}
+use Rattle.chains.specs.Folded.{IsReached}
 use Rattle.chains.specs.Turns.{no_memory}
 use Rattle.coordinator.specs.Passes.{PassEntry, PassState, IsLineFor}
 

@@ -6,11 +6,12 @@ use Rattle.report_line.specs.declared.reply.Reply.{Reply}
 use Rattle.report_line.specs.declared.reply.Reply.TheVariants.{Accepted, Old, Line, Taken}
 use Rattle.chains.specs.Processes.{Name, known}
 use Rattle.chains.specs.Held.{Held}
-use Rattle.chains.specs.Admission.{IsReached}
+use Rattle.chains.specs.Admission.{IsReachable}
 use Rattle.chains.specs.Turns.{no_memory}
 use Rattle.reasons.specs.Shown.{IsLineText, IsShown}
 use Rattle.history_law.specs.Headline.{IsRightLine}
 use Rattle.desk.specs.declared.turn.Receipt.{Receipt}
+use Rattle.desk.specs.Lawful.{unstopped}
 
 -- a call, the receipt of its turn, and the reply that is shown for it
 pub record PassEntry : Type 0 where
@@ -71,10 +72,10 @@ AsksForLine held _ names = ⊥
 abbrev pub IsLineFor : Held → Call → List ℕ → Type 0
 IsLineFor held call text = (names : List Name) × AsksForLine held call names × IsLineText held names text
 
--- Over what is held, which admission reaches and whose front is the one that the reply tells, this is shown for the call and the
+-- Over what is held, which admission reaches from nothing and whose front is the one that the reply tells, this is shown for the call and the
 -- reply of its turn. A line that is shown is right: it is the greatest closed cut of every lawful history that agrees.
 pub record IsShownOver (held : Held) (call : Call) (reply shown : Reply) : Type 0 where
-  pub reached : IsReached held
+  pub reached : IsReachable (unstopped held)
   pub front : (n : ℕ) → front_of reply ≡ Some n → held.front ≡ n
   pub shows : IsShown held call reply shown
   pub right : (text : List ℕ) → shown ≡ Line text → (names : List Name) × AsksForLine held call names × IsRightLine held names text

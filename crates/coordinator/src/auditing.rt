@@ -31,21 +31,39 @@ fn is_same_report(a: &Chains, b: &Chains, i: u32) -> bool
     }
 }
 
-/// Whether both have accepted the same list.
+/// Whether both have the same epoch beside the report there, or none.
+fn is_same_epoch(a: &Chains, b: &Chains, i: u32) -> bool
+    ensures { IsTrue result ↔ (slice_get a.now.epochs i ≡ slice_get b.now.epochs i) }
+{
+    a.epoch_at(i) == b.epoch_at(i)
+}
+
+/// Whether both have accepted the same list, with the same epochs.
 fn have_same_reports(a: &Chains, b: &Chains) -> bool
-    ensures { IsTrue result ↔ (a.now.accepted ≡ b.now.accepted) }
+    requires { a.now.front ≡ b.now.front }
+    ensures { IsTrue result ↔ ((a.now.accepted ≡ b.now.accepted) × (a.now.epochs ≡ b.now.epochs)) }
 {
     a.lawful();
     b.lawful();
-    if a.front() != b.front() {
-        return false;
-    }
     for i in 0..a.front() {
-        if !is_same_report(a, b, i) {
+        if !is_same_report(a, b, i) || !is_same_epoch(a, b, i) {
             return false;
         }
     }
     true
+}
+
+/// Whether both hold the same.
+fn hold_the_same(a: &Chains, b: &Chains) -> bool
+    ensures { IsTrue result ↔ (held_of a.now ≡ held_of b.now) }
+{
+    if a.front() != b.front() {
+        return false;
+    }
+    if a.epoch() != b.epoch() {
+        return false;
+    }
+    have_same_reports(a, b)
 }
 
 /// Marks the turns of all passes.
@@ -141,23 +159,23 @@ fn audit_turns<L: Ledger>(
     audit_marked(opening, chains, turns, passes, &mut marks, &mut owners)
 }
 
-/// Whether the desk was opened with the list that these chains have, its turns are those of the passes, each once, and each line
+/// Whether the desk was opened with what these chains hold, its turns are those of the passes, each once, and each line
 /// that a pass shows is the one that was asked for over what the turns before its own replay to.
 pub fn audit<L: Ledger, D: Disk>(
     opening: &Chains,
     desk: &Desk<D>,
     passes: &[Pass<L>],
 ) -> Result<(), CloseFault>
-    ensures opening { OnOk result (opening.now.accepted ≡ desk.now.opening.accepted) }
+    ensures opening { OnOk result (held_of opening.now ≡ desk.now.opening) }
     ensures ok { OnOk result (IsAudited desk.now.opening desk.now.turns passes.now) }
-    ensures err { IfErr result (IsAuditCause opening.now.accepted desk.now passes.now) }
+    ensures err { IfErr result (IsAuditCause (held_of opening.now) desk.now passes.now) }
 {
     desk.lawful();
     opening.lawful();
     let Ok(mut chains) = desk.opening() else {
         return Err(CloseFault::Memory);
     };
-    if !have_same_reports(opening, &chains) {
+    if !hold_the_same(opening, &chains) {
         return Err(CloseFault::Stranger(0));
     }
     audit_turns(opening, &mut chains, desk.turns(), passes)

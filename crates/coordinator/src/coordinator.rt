@@ -237,7 +237,6 @@ impl<L: Ledger, D: Disk> Coordinator<L, D> {
             locked,
             workers,
         } = self;
-        opening.lawful();
         let locked = locked.into_inner();
         if let Err(fault) = audit(&opening, locked.desk(), passes.as_slice()) {
             let coordinator = Coordinator {

@@ -50,6 +50,13 @@ pub(crate) fn same_call(a: &Call, b: &Call) -> bool
         (Call::Report(a), Call::Report(b)) => a.equal(b),
         (Call::Line(a), Call::Line(b)) => same_names(a.as_slice(), b.as_slice()),
         (Call::Garbage, Call::Garbage) => true,
+        (
+            Call::Settle { front, names },
+            Call::Settle {
+                front: other_front,
+                names: other_names,
+            },
+        ) => *front == *other_front && same_names(names.as_slice(), other_names.as_slice()),
         (Call::State(a), Call::State(b)) => same_name(a, b),
         (Call::Bye, Call::Bye) => true,
         (Call::Bad(a), Call::Bad(b)) => *a == *b,
@@ -99,6 +106,13 @@ fn same_reply(a: &Reply, b: &Reply) -> bool
                 && *live == *other_live
                 && same_text(id, other_id)
         }
+        (
+            Reply::Settled { epoch, front },
+            Reply::Settled {
+                epoch: other_epoch,
+                front: other_front,
+            },
+        ) => *epoch == *other_epoch && *front == *other_front,
         (Reply::Bye, Reply::Bye) => true,
         (Reply::Taken(a), Reply::Taken(b)) => *a == *b,
         _ => false,

@@ -109,7 +109,12 @@ fn line_for<R: Threads + Sync, G: ChunkGate + Sync>(
     match call {
         Call::Line(names) => text_for(chains, &table, names.as_slice()),
         Call::Garbage => garbage_for(chains, &table),
-        Call::Report(_) | Call::State(_) | Call::Bye | Call::Bad(_) | Call::Unread => None,
+        Call::Report(_)
+        | Call::Settle { .. }
+        | Call::State(_)
+        | Call::Bye
+        | Call::Bad(_)
+        | Call::Unread => None,
     }
 }
 

@@ -1,7 +1,6 @@
 //! One replay of the turns, in which each shown line is tested at its place.
 
 ghost use Rattle.std.specs.Prelude.{◌≡◌, ◌≤◌, ◌<◌, length, IfErr, OnOk};
-ghost use Rattle.report_line.specs.declared.report.Report.{Report as AnyReport};
 ghost use Rattle.chains.specs.Held.{Held, held_of, with_report};
 ghost use Rattle.chains.specs.Turns.{IsTurn};
 ghost use Rattle.desk.specs.Replays.{Replays};
@@ -13,7 +12,7 @@ use crate::pass::Pass;
 use crate::shown_lines::is_right;
 use chains::{Admitted, Chains};
 use desk::Turn;
-use report_line::{Call, PackedReport, Reply, Shared};
+use report_line::{Call, MarkedReport, Reply};
 use std::alloc::AllocError;
 use std::sync::ledger::Ledger;
 
@@ -47,7 +46,7 @@ fn check_entry<L: Ledger>(
 }
 
 /// Accepts a report that was accepted over the same list before: memory aside it is accepted again.
-fn accept_again(chains: &mut Chains, report: &Shared<PackedReport>) -> Result<(), AllocError>
+fn accept_again(chains: &mut Chains, report: &MarkedReport) -> Result<(), AllocError>
     ensures { OnOk result (held_of chains.new ≡ with_report (held_of chains.old) report.now) }
 {
     match chains.admit_shared(report.share()?) {

@@ -150,7 +150,12 @@ fn is_line_for(chains: &Chains, call: &Call, text: &[u8]) -> Result<bool, AllocE
     match call {
         Call::Line(names) => is_line_of(chains, names.as_slice(), text),
         Call::Garbage => is_garbage_line(chains, text),
-        Call::Report(_) | Call::State(_) | Call::Bye | Call::Bad(_) | Call::Unread => Ok(false),
+        Call::Report(_)
+        | Call::Settle { .. }
+        | Call::State(_)
+        | Call::Bye
+        | Call::Bad(_)
+        | Call::Unread => Ok(false),
     }
 }
 

@@ -6,6 +6,7 @@ use Rattle.std.proofs.lemmas.List.{map_push, take_more, drop_more, map-append}
 use Rattle.record_file.specs.File.{Said, Stands}
 use Rattle.record_file.specs.Kept.{said_in}
 use Rattle.report_line.specs.declared.report.Report.{Report}
+use Rattle.chains.specs.Held.{counting}
 use Rattle.chains.specs.Admission.{IsReachable}
 use Rattle.desk.specs.Files.{said_of, AreSpelled}
 use Rattle.desk.specs.Openings.{Reaches, RefusesRecords, RefusesFile}
@@ -34,7 +35,7 @@ module _ (xs : List (ℕ × Vec ℕ Global)) (i : ℕ) (v : ℕ × Vec ℕ Globa
       ∙ ap (λ (w : ℕ × Vec ℕ Global). said_in (take i xs) ++ said_at w ∷ said_in (drop (i + 1) xs)) (sym is)
       ∙ ap (λ (ss : List Said). ss ++ said_at v ∷ said_in (drop (i + 1) xs)) so_far
 
-  module _ (spelled : AreSpelled accepted) (admitted : IsReachable accepted) where
+  module _ (spelled : AreSpelled accepted) (admitted : IsReachable (counting accepted)) where
     reaches : (k : ℕ) → k ≡ length accepted + 1 → Reaches (said_in xs) k (said_at v)
     reaches k number = record { front = accepted; rest = said_in (drop (i + 1) xs); parts = parts; number = number; spelled = spelled; admitted = admitted }
 

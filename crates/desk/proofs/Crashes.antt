@@ -5,11 +5,14 @@ use Rattle.record_file.specs.File.{Said, Stands}
 use Rattle.record_file.specs.Resting.{IsBeforeOrAfter}
 use Rattle.record_file.specs.Staging.{WasStaged}
 use Rattle.report_line.specs.declared.report.Report.{Report}
+use Rattle.report_line.specs.declared.marked.MarkedReport.{MarkedReport}
+use Rattle.report_line.specs.declared.call.Call.{Call}
+use Rattle.report_line.specs.declared.call.Call.TheVariants as calls
 use Rattle.report_line.specs.declared.reply.Outcome.TheVariants.{Before, Unknown}
 use Rattle.report_line.specs.declared.reply.Reply.{Reply}
 use Rattle.report_line.specs.declared.reply.Reply.TheVariants.{Accepted, Fail}
 use Rattle.desk.specs.Files.{line_of, said_of, StandsFor}
-use Rattle.desk.specs.Parts.{StandsWith, MayBeLeft}
+use Rattle.desk.specs.Parts.{StandsWith, MayBeLeft, MayBeLeftBy}
 use Rattle.desk.specs.Placed.{IsUnderWay, IsPlaced}
 use Rattle.desk.proofs.Spelled.{said_more}
 
@@ -54,6 +57,11 @@ module _ (accepted : List Report) (r : Report) (line : List ℕ) (is_line : line
 
   pub placed_unknown : (a b : View) (reply : Reply) → reply ≡ Fail Unknown → WasStaged (map said_of accepted) (0, line) a b → IsPlaced reply accepted r a b
   placed_unknown a b reply same was = subst (λ (x : Reply). IsPlaced x accepted r a b) (sym same) (under_way a b was)
+
+-- what is left by a turn of a report is left by one of its call
+pub left_by_call : (reply : Reply) (accepted : List Report) (call : Call) (m : MarkedReport) (c : List ℕ) → call ≡ calls.Report m → MayBeLeft reply accepted m.report c → MayBeLeftBy reply accepted call c
+left_by_call reply accepted call m c asks (inl stands) = inl stands
+left_by_call reply accepted call m c asks (inr (says, stands)) = inr (m, asks, says, stands)
 
 pub placed_before : (accepted : List Report) (r : Report) (a b : View) (reply : Reply) → reply ≡ Fail Before → LeavesAlways (StandsFor accepted) a b → IsPlaced reply accepted r a b
 placed_before accepted r a b reply same always = subst (λ (x : Reply). IsPlaced x accepted r a b) (sym same) always

@@ -1,22 +1,37 @@
 -- Turns of the reports of lawful histories.
-use Rattle.std.proofs.Common.{◌≡◌, ◌+◌, ℕ, List, [], ◌∷◌, false, map, subst}
+use Rattle.std.proofs.Common.{◌≡◌, ◌⊎◌, ◌+◌, ℕ, List, [], ◌∷◌, false, map, refl, sym, ◌∙◌, ap, subst}
 use Rattle.report_line.specs.declared.report.Report.{Report}
+use Rattle.report_line.specs.declared.marked.MarkedReport.{MarkedReport}
 use Rattle.report_line.specs.declared.call.Call.{Call}
 use Rattle.report_line.specs.declared.call.Call.TheVariants as calls
 use Rattle.report_line.specs.declared.reply.Reply.{Reply}
-use Rattle.chains.specs.Held.{Held}
-use Rattle.chains.specs.Turns.{IsTurn}
-use Rattle.lawful_reports.specs.Accepting.{AreTurns}
+use Rattle.report_line.specs.declared.reply.Reply.TheVariants.{Accepted}
+use Rattle.chains.specs.Held.{Held, present, with_report}
+use Rattle.chains.specs.Turns.{Fate, IsTurnWith, IsTurn}
+use Rattle.lawful_reports.specs.Accepting.{IsRoomTurn, IsRefusalForRoom, AreTurns}
 use Rattle.lawful_reports.proofs.Going.{turns_refuse_for_room_alone, accepted_or_refused, up_to_refusal}
 use Rattle.desk.specs.Replays.{ReplaysFrom, Replays}
 use Rattle.desk.specs.OfHistories.{IsTurnOfHistories, AreTurnsOfHistories}
 use Rattle.desk.specs.declared.turn.Turn.{Turn}
+use Rattle.desk.proofs.Unsettled.{same_epoch}
+
+abbrev bearing : ℕ → Report → MarkedReport
+bearing epoch r = record { epoch = epoch; report = r }
+
+-- a report of the present epoch
+of_present : (held after : Held) (m : MarkedReport) (reply : Reply) (fate : Fate) → held.epoch ≡ m.epoch
+    → (IsTurnWith fate held (calls.Report (present held m.report)) reply after → IsRoomTurn fate held m.report reply after) → IsTurnWith fate held (calls.Report m) reply after
+    → ((reply ≡ Accepted (held.front + 1)) × (after ≡ with_report held m)) ⊎ IsRefusalForRoom held m.report reply
+of_present held after m reply fate now told turn =
+    let found = accepted_or_refused held after m.report reply fate (told (subst (λ (k : ℕ). IsTurnWith fate held (calls.Report (bearing k m.report)) reply after) (sym now) turn)) in
+    subst (λ (k : ℕ). ((reply ≡ Accepted (held.front + 1)) × (after ≡ with_report held (bearing k m.report))) ⊎ IsRefusalForRoom held m.report reply) now found
 
 pub turn_of_histories : (held after : Held) (call : Call) (reply : Reply) → IsTurn held call reply after → IsTurnOfHistories held call reply after
-turn_of_histories held after (calls.Report r) reply (fate, turn) =
-    λ root h w following running. accepted_or_refused held after r reply fate (turns_refuse_for_room_alone root h held after r reply fate w following running turn)
+turn_of_histories held after (calls.Report m) reply (fate, turn) =
+    λ root h w following now running. of_present held after m reply fate (sym now) (λ t. turns_refuse_for_room_alone root h held after m.report reply fate w following running t) turn
 turn_of_histories held after (calls.Line names) reply turn = tt
 turn_of_histories held after calls.Garbage reply turn = tt
+turn_of_histories held after (calls.Settle front names) reply turn = tt
 turn_of_histories held after (calls.State p) reply turn = tt
 turn_of_histories held after calls.Bye reply turn = tt
 turn_of_histories held after (calls.Bad n) reply turn = tt
@@ -28,15 +43,22 @@ same_head c d cs ds is = cc
 same_tail : (c d : Call) (cs ds : List Call) → c ∷ cs ≡ d ∷ ds → cs ≡ ds
 same_tail c d cs ds is = cc
 
+-- the call of a report of this epoch
+abbrev of_epoch : ℕ → Report → Call
+of_epoch epoch r = calls.Report (bearing epoch r)
+
 -- turns of these reports, one by one
-turns_of : (made : ℕ) (from after : Held) (turns : List Turn) (reports : List Report) → ReplaysFrom made from turns after
-    → map (λ t. t.call) turns ≡ map calls.Report reports → AreTurns from reports (map (λ t. t.receipt.reply) turns) after
-turns_of made from after [] [] replays is = replays
-turns_of made from after [] (r ∷ reports) replays is = absurd (cc)
-turns_of made from after (t ∷ turns) [] replays is = absurd (cc)
-turns_of made from after (t ∷ turns) (r ∷ reports) (number, (between, step, more)) is =
-    (between, subst (λ (c : Call). IsTurn from c t.receipt.reply between) (same_head _ _ _ _ is) step, turns_of (made + 1) between after turns reports more (same_tail _ _ _ _ is))
+turns_of : (epoch made : ℕ) (from after : Held) (turns : List Turn) (reports : List Report) → epoch ≡ from.epoch → ReplaysFrom made from turns after
+    → map (λ t. t.call) turns ≡ map (of_epoch epoch) reports → AreTurns from reports (map (λ t. t.receipt.reply) turns) after
+turns_of epoch made from after [] [] now replays is = replays
+turns_of epoch made from after [] (r ∷ reports) now replays is = absurd (cc)
+turns_of epoch made from after (t ∷ turns) [] now replays is = absurd (cc)
+turns_of epoch made from after (t ∷ turns) (r ∷ reports) now (number, (between, step, more)) is = (
+  between,
+  subst (λ (c : Call). IsTurn from c t.receipt.reply between) (same_head _ _ _ _ is ∙ ap (λ (k : ℕ). of_epoch k r) now) step,
+  turns_of epoch (made + 1) between after turns reports (now ∙ sym (same_epoch from between t.call t.receipt.reply step)) more (same_tail _ _ _ _ is),
+)
 
 pub turns_of_histories : (opening held : Held) (turns : List Turn) → opening.stopped ≡ false → Replays opening turns held → AreTurnsOfHistories opening turns held
 turns_of_histories opening held turns goes replays root h reports rest w parts calls_are =
-    up_to_refusal root h opening reports rest (map (λ t. t.receipt.reply) turns) held w goes parts (turns_of 0 opening held turns reports replays calls_are)
+    up_to_refusal root h opening reports rest (map (λ t. t.receipt.reply) turns) held w goes parts (turns_of opening.epoch 0 opening held turns reports refl replays calls_are)

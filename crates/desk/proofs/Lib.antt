@@ -1,4 +1,5 @@
 pub mod Spelled
+pub mod Unmarked
 pub mod Short
 pub mod Numbers
 pub mod Crashes
@@ -6,6 +7,8 @@ pub mod Admitting
 pub mod OneAccepted
 pub mod OneAnswer
 pub mod OwnFile
+pub mod Unsettled
+pub mod Accepting
 pub mod Deciding
 pub mod Turning
 pub mod LawfulTurns

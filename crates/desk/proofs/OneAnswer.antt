@@ -1,5 +1,5 @@
 -- Admission answers once.
-use Rattle.std.proofs.Common.{◌≡◌, inl, inr, Option, Some, None, sym, ◌∙◌}
+use Rattle.std.proofs.Common.{◌≡◌, inl, inr, ℕ, Option, Some, None, sym, ◌∙◌}
 use Rattle.std.specs.Prelude.{slice_get}
 use Rattle.report_line.specs.declared.report.Action.{Action}
 use Rattle.report_line.specs.declared.report.Action.TheVariants.{Check, Present, Fork, Retire, Absorb}
@@ -9,7 +9,7 @@ use Rattle.report_line.specs.declared.report.Report.TheVariants.{Begin, Numbered
 use Rattle.report_line.specs.declared.reply.Reply.{Reply}
 use Rattle.chains.specs.Processes.{Name, known, target_of}
 use Rattle.chains.specs.Held.{Held}
-use Rattle.chains.specs.Admission.{Decides, FitsOrNot, IsBeginReply, IsActionReply, IsStampReply, IsWaitingReply, IsStandingReply, IsAdmission}
+use Rattle.chains.specs.Admission.{Decides, FitsOrNot, IsBeginReply, IsActionReply, IsStampReply, IsWaitingReply, IsStandingReply, IsReportReply}
 
 one : (P : Type 0) (reply x y : Reply) (L M : Type 0) → (L → M → x ≡ y) → Decides P reply x L → Decides P reply y M → x ≡ y
 one P reply x y L M later (inl (p, e)) (inl (q, f)) = e ∙ sym f
@@ -42,10 +42,10 @@ module _ (held : Held) (x y : Reply) where
   standing (Some target) r = λ e f. e ∙ sym f
   standing None r = one _ _ x y _ _ (waiting r r.action)
 
-  begun : (root : Option Name) (p : Name) → IsBeginReply root held p x → IsBeginReply root held p y → x ≡ y
-  begun None p = fits (Begin p)
-  begun (Some root) p = one _ _ x y _ _ (λ e f. e ∙ sym f)
+  begun : (root : Option Name) (epoch : ℕ) (p : Name) → IsBeginReply root held epoch p x → IsBeginReply root held epoch p y → x ≡ y
+  begun None epoch p = one _ _ x y _ _ (fits (Begin p))
+  begun (Some root) epoch p = one _ _ x y _ _ (λ e f. e ∙ sym f)
 
-  pub one_answer : (r : Report) → IsAdmission held r x → IsAdmission held r y → x ≡ y
-  one_answer (Begin p) = begun (slice_get (known held.accepted) 0) p
-  one_answer (Numbered r) = one _ _ x y _ _ (one _ _ x y _ _ (one _ _ x y _ _ (standing (target_of r.process held.accepted) r)))
+  pub one_answer : (epoch : ℕ) (r : Report) → IsReportReply held epoch r x → IsReportReply held epoch r y → x ≡ y
+  one_answer epoch (Begin p) = begun (slice_get (known held.accepted) 0) epoch p
+  one_answer epoch (Numbered r) = one _ _ x y _ _ (one _ _ x y _ _ (one _ _ x y _ _ (one _ _ x y _ _ (standing (target_of r.process held.accepted) r))))

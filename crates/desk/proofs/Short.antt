@@ -4,12 +4,14 @@ use Rattle.report_line.specs.Spelling.{spelling}
 use Rattle.report_line.specs.declared.call.Call.{Call}
 use Rattle.report_line.specs.declared.call.Call.TheVariants as calls
 use Rattle.desk.specs.Files.{IsShort}
+use Rattle.desk.proofs.Spelled.{no_longer}
 
 -- what a short line is read as
 pub short_call : (line : List ℕ) (call : Call) → length line ≤ 8192 → line ≡ spelling call → IsShort call
-short_call line (calls.Report r) few is = omega (arith, few, ap length is)
+short_call line (calls.Report m) few is = omega (arith, few, ap length is, no_longer m)
 short_call line (calls.Line names) few is = tt
 short_call line calls.Garbage few is = tt
+short_call line (calls.Settle front names) few is = tt
 short_call line (calls.State p) few is = tt
 short_call line calls.Bye few is = tt
 short_call line (calls.Bad n) few is = tt

@@ -5,6 +5,8 @@ use Rattle.std.proofs.lemmas.List.Elements.{Contains-append_left, Contains-appen
 use Rattle.line_disk.specs.Disk.{View, Leaves, LeavesAlways}
 use Rattle.record_file.proofs.Moments.{starts}
 use Rattle.report_line.specs.declared.report.Report.{Report}
+use Rattle.report_line.specs.declared.marked.MarkedReport.{MarkedReport}
+use Rattle.report_line.specs.Reports.{unmarked}
 use Rattle.report_line.specs.declared.call.Call.{Call}
 use Rattle.report_line.specs.Spelling.{HasSpelling}
 use Rattle.report_line.specs.declared.call.Call.TheVariants as calls
@@ -12,19 +14,20 @@ use Rattle.report_line.specs.declared.reply.Outcome.TheVariants.{Unknown}
 use Rattle.report_line.specs.declared.reply.Reply.{Reply}
 use Rattle.report_line.specs.declared.reply.Reply.TheVariants.{Fail}
 use Rattle.chains.specs.Kept.{Kept}
-use Rattle.chains.specs.Held.{Held, counting, held_of}
-use Rattle.chains.specs.Admission.{Passes}
+use Rattle.chains.specs.Held.{Held, counting, held_of, held_with}
+use Rattle.chains.specs.Admission.{IsReachable, Passes}
 use Rattle.chains.specs.Turns.{IsTurn}
 use Rattle.desk.specs.Desks.{DeskState}
-use Rattle.desk.specs.Lawful.{IsLawful, turn_limit}
+use Rattle.desk.specs.Lawful.{IsLawful, turn_limit, unstopped}
 use Rattle.desk.specs.Files.{AreSpelled, StandsFor, IsPending, MayFollow, MayStandFor, StandsWhile}
-use Rattle.desk.specs.Parts.{held_with, StandsBy, MayBeLeftBy}
+use Rattle.desk.specs.Parts.{StandsBy, MayBeLeftBy}
 use Rattle.desk.specs.Placed.{IsPlacedBy}
 use Rattle.desk.specs.Replays.{ReplaysFrom, Replays}
 use Rattle.desk.specs.declared.turn.Turn.{Turn}
 use Rattle.chains.proofs.Unfailing.{stays_stopped}
 use Rattle.desk.proofs.Crashes.{always_weaker}
 use Rattle.desk.proofs.Deciding.{unknown_follows}
+use Rattle.desk.proofs.Unsettled.{still_admitted}
 
 -- ---- one turn more
 
@@ -41,27 +44,27 @@ replays_more made from middle after [] t so_far number step =
 replays_more made from middle after (u ∷ turns) t so_far number step =
     (so_far.0, (so_far.1.0, so_far.1.1, replays_more (made + 1) so_far.1.0 middle after turns t so_far.1.2 (omega (arith, number)) step))
 
-pending_still : (turns : List Turn) (t : Turn) (r : Report) → IsPending turns r → IsPending (turns ++ t ∷ []) r
-pending_still turns t r p = (p.0, Contains-append_left turns (t ∷ []) p.0 p.1, p.2, p.3)
+pending_still : (turns : List Turn) (t : Turn) (m : MarkedReport) → IsPending turns m → IsPending (turns ++ t ∷ []) m
+pending_still turns t m p = (p.0, Contains-append_left turns (t ∷ []) p.0 p.1, p.2, p.3)
 
 -- a report that is pending after one turn more was so before, or is that turn's
-pending_in : (turns : List Turn) (t : Turn) (r : Report) → IsPending (turns ++ t ∷ []) r → IsPending turns r ⊎ ((t.call ≡ calls.Report r) × (t.receipt.reply ≡ Fail Unknown))
-pending_in turns t r (u, among, call, reply) = elim (Contains-append_cases turns (t ∷ []) u among) [
+pending_in : (turns : List Turn) (t : Turn) (m : MarkedReport) → IsPending (turns ++ t ∷ []) m → IsPending turns m ⊎ ((t.call ≡ calls.Report m) × (t.receipt.reply ≡ Fail Unknown))
+pending_in turns t m (u, among, call, reply) = elim (Contains-append_cases turns (t ∷ []) u among) [
   | inl old ↦ inl (u, old, call, reply)
-  | inr new ↦ let is : u ≡ t = search (rules) in inr (subst (λ (v : Turn). v.call ≡ calls.Report r) is call, subst (λ (v : Turn). v.receipt.reply ≡ Fail Unknown) is reply)
+  | inr new ↦ let is : u ≡ t = search (rules) in inr (subst (λ (v : Turn). v.call ≡ calls.Report m) is call, subst (λ (v : Turn). v.receipt.reply ≡ Fail Unknown) is reply)
 ]
 
-none_pending : (turns : List Turn) (r : Report) → turns ≡ [] → IsPending turns r → ⊥
-none_pending turns r none (u, among, call, reply) = let nothing : Contains [] u = subst (λ (ts : List Turn). Contains ts u) none among in search (rules)
+none_pending : (turns : List Turn) (m : MarkedReport) → turns ≡ [] → IsPending turns m → ⊥
+none_pending turns m none (u, among, call, reply) = let nothing : Contains [] u = subst (λ (ts : List Turn). Contains ts u) none among in search (rules)
 
 still_stands : (accepted : List Report) (turns : List Turn) (t : Turn) (c : List ℕ) → MayStandFor accepted turns c → MayStandFor accepted (turns ++ t ∷ []) c
 still_stands accepted turns t c (inl stands) = inl stands
-still_stands accepted turns t c (inr (r, pending, stands)) = inr (r, pending_still turns t r pending, stands)
+still_stands accepted turns t c (inr (m, pending, stands)) = inr (m, pending_still turns t m pending, stands)
 
 left_stands : (accepted : List Report) (turns : List Turn) (t : Turn) (c : List ℕ) → MayBeLeftBy t.receipt.reply accepted t.call c → MayStandFor accepted (turns ++ t ∷ []) c
 left_stands accepted turns t c (inl stands) = inl stands
-left_stands accepted turns t c (inr (r, call, reply, stands)) =
-    inr (r, (t, Contains-append_right turns (t ∷ []) t (search rules), call, reply), stands)
+left_stands accepted turns t c (inr (m, call, reply, stands)) =
+    inr (m, (t, Contains-append_right turns (t ∷ []) t (search rules), call, reply), stands)
 
 -- what chains and their copy hold, beside a store that is not stopped
 pub same_held : (chains opening : Kept) (stopped : Bool) → held_of opening ≡ held_of chains → stopped ≡ false → held_with chains stopped ≡ held_of opening
@@ -69,13 +72,14 @@ same_held chains opening stopped same goes = subst (λ (b : Bool). held_with cha
 
 -- a desk that was opened
 pub lawful_open : {D : Type 0} (keeps : D → Type 0) (view : D → View) (desk : DeskState D) → desk.held ≡ desk.opening → desk.opening.stopped ≡ false → desk.turns ≡ [] → AreSpelled desk.held.accepted
-    → (keeps desk.disk → (c : List ℕ) → Leaves (view desk.disk) c → StandsFor desk.held.accepted c) → IsLawful keeps view desk
-lawful_open keeps view desk same goes none spelled stands = record {
+    → IsReachable (unstopped desk.held) → (keeps desk.disk → (c : List ℕ) → Leaves (view desk.disk) c → StandsFor desk.held.accepted c) → IsLawful keeps view desk
+lawful_open keeps view desk same goes none spelled admitted stands = record {
   replays = subst (λ (ts : List Turn). Replays desk.opening ts desk.held) (sym none) same;
   goes = goes;
   few = omega (arith, ap length none);
+  admitted = admitted;
   spelled = spelled;
-  pending = λ r p. absurd (none_pending desk.turns r none p);
+  pending = λ m p. absurd (none_pending desk.turns m none p);
   running = λ _ here c left. stands here c left;
   left = λ here c left. inl (stands here c left);
 }
@@ -107,7 +111,7 @@ module _ {D : Type 0} (keeps : D → Type 0) (view : D → View) (desk : DeskSta
       (running : held.stopped ≡ false → keeps disk → (c : List ℕ) → Leaves (view disk) c → StandsFor held.accepted c)
       (left : desk.held.stopped ≡ false → keeps desk.disk → (c : List ℕ) → Leaves (view disk) c → MayBeLeftBy t.receipt.reply held.accepted t.call c)
       (stays : desk.held.stopped ≡ true → (disk ≡ desk.disk) × (held.accepted ≡ desk.held.accepted)) (spelled : AreSpelled desk.held.accepted → AreSpelled held.accepted)
-      (counted : desk.held.front ≡ length desk.held.accepted) (pends : (r : Report) → t.call ≡ calls.Report r → t.receipt.reply ≡ Fail Unknown → HasSpelling (calls.Report r)) where
+      (pends : (m : MarkedReport) → t.call ≡ calls.Report m → t.receipt.reply ≡ Fail Unknown → HasSpelling (calls.Report (unmarked m.report))) where
     left_cases : (b : Bool) → desk.held.stopped ≡ b → keeps disk → (c : List ℕ) → Leaves (view disk) c → MayStandFor held.accepted (desk.turns ++ t ∷ []) c
     left_cases true is here c leaves =
         let same = stays is in
@@ -115,24 +119,25 @@ module _ {D : Type 0} (keeps : D → Type 0) (view : D → View) (desk : DeskSta
         still_stands held.accepted desk.turns t c (subst (λ (a : List Report). MayStandFor a desk.turns c) (sym same.1) old)
     left_cases false is here c leaves = left_stands held.accepted desk.turns t c (left is (kept here) c leaves)
 
-    pends_now : (r : Report) → t.call ≡ calls.Report r → t.receipt.reply ≡ Fail Unknown → (held.stopped ≡ true) × MayFollow held.accepted r
-    pends_now r call says =
-        let found = unknown_follows desk.held.accepted desk.held.front desk.held.stopped held t.call t.receipt.reply r counted call says step in
-        (found.0, (pends r call says, subst (λ (a : List Report). Passes (counting a) r) (sym found.1) found.2))
+    pends_now : (m : MarkedReport) → t.call ≡ calls.Report m → t.receipt.reply ≡ Fail Unknown → (held.stopped ≡ true) × MayFollow held.accepted m
+    pends_now m call says =
+        let found = unknown_follows desk.held held t.call t.receipt.reply m lawful.admitted call says step in
+        (found.0, (pends m call says, subst (λ (a : List Report). Passes (counting a) m) (sym found.1) found.2))
 
-    pends_still : (r : Report) → IsPending desk.turns r → (held.stopped ≡ true) × MayFollow held.accepted r
-    pends_still r p =
-        let before = lawful.pending r p in
+    pends_still : (m : MarkedReport) → IsPending desk.turns m → (held.stopped ≡ true) × MayFollow held.accepted m
+    pends_still m p =
+        let before = lawful.pending m p in
         let same = stays_stopped desk.held held t.call t.receipt.reply before.0 step in
-        subst (λ (h : Held). (h.stopped ≡ true) × MayFollow h.accepted r) (sym same) before
+        subst (λ (h : Held). (h.stopped ≡ true) × MayFollow h.accepted m) (sym same) before
 
     pub lawful_more : IsLawful keeps view (record { held = held; opening = desk.opening; turns = desk.turns ++ t ∷ []; disk = disk })
     lawful_more = record {
       replays = replays_more 0 desk.opening desk.held held desk.turns t lawful.replays (omega (arith, number)) step;
       goes = lawful.goes;
       few = omega (arith, fewer, length-append desk.turns (t ∷ []));
+      admitted = still_admitted desk.held held t.call t.receipt.reply lawful.admitted step;
       spelled = spelled lawful.spelled;
-      pending = λ r p. elim (pending_in desk.turns t r p) [ inl old ↦ pends_still r old | inr new ↦ pends_now r new.0 new.1 ];
+      pending = λ m p. elim (pending_in desk.turns t m p) [ inl old ↦ pends_still m old | inr new ↦ pends_now m new.0 new.1 ];
       running = running;
       left = left_cases desk.held.stopped refl;
     }

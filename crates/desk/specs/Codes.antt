@@ -12,8 +12,9 @@ use Rattle.desk.specs.Desks.{DeskState}
 
 abbrev pub held_code : Coded Held
 held_code =
-    code_by (List Report × (ℕ × Bool)) (coded× (coded_list report_code) (coded× coded_ℕ coded_bool)) (λ h. (h.accepted, (h.front, h.stopped)))
-    (λ p. record { accepted = p.0; front = p.1.0; stopped = p.1.1 }) (λ _. refl)
+    code_by (List Report × (List ℕ × (ℕ × (ℕ × Bool)))) (coded× (coded_list report_code) (coded× (coded_list coded_ℕ) (coded× coded_ℕ (coded× coded_ℕ coded_bool))))
+    (λ h. (h.accepted, (h.epochs, (h.front, (h.epoch, h.stopped)))))
+    (λ p. record { accepted = p.0; epochs = p.1.0; front = p.1.1.0; epoch = p.1.1.1.0; stopped = p.1.1.1.1 }) (λ _. refl)
 
 abbrev pub turn_code : Coded Turn
 turn_code =

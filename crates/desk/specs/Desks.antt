@@ -4,7 +4,7 @@ use Rattle.chains.specs.Held.{Held}
 use Rattle.desk.specs.declared.turn.Turn.{Turn}
 
 pub record DeskState (D : Type 0) : Type 0 where
-  -- the accepted list, the front, and whether the store is stopped
+  -- the accepted list with its epochs, the front, the present epoch, and whether the store is stopped
   pub held : Held
   -- what was held when it was opened
   pub opening : Held

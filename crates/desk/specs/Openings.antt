@@ -3,10 +3,12 @@ use Rattle.std.specs.Prelude.{◌≡◌, ◌≢◌, ◌⊎◌, ℕ, ◌+◌, Lis
 use Rattle.line_disk.specs.Disk.{View, one_more}
 use Rattle.record_file.specs.File.{Said, Stands, IsForeign, IsDamaged}
 use Rattle.record_file.specs.Opening.{KeepsFile, IsSynced, IsUntouched}
+use Rattle.report_line.specs.Reports.{unmarked}
 use Rattle.report_line.specs.Replies.{code_number}
 use Rattle.report_line.specs.Spelling.{HasSpelling}
 use Rattle.report_line.specs.declared.code.Code.{Code}
 use Rattle.report_line.specs.declared.report.Report.{Report}
+use Rattle.report_line.specs.declared.marked.MarkedReport.{MarkedReport}
 use Rattle.report_line.specs.declared.call.Call.TheVariants as calls
 use Rattle.report_line.specs.declared.reply.Reply.TheVariants.{Old, No}
 use Rattle.chains.specs.Held.{counting}
@@ -23,21 +25,21 @@ pub record Reaches (said : List Said) (k : ℕ) (one : Said) : Type 0 where
   pub parts : said ≡ map said_of front ++ one ∷ rest
   pub number : k ≡ length front + 1
   pub spelled : AreSpelled front
-  pub admitted : IsReachable front
+  pub admitted : IsReachable (counting front)
 
--- no report has this line
+-- no report has this line, which bears no mark
 abbrev pub IsOfNoReport : List ℕ → Type 0
-IsOfNoReport line = (r : Report) → HasSpelling (calls.Report r) → line ≢ line_of r
+IsOfNoReport line = (r : Report) → HasSpelling (calls.Report (unmarked r)) → line ≢ line_of r
 
 -- a refusal by this number: 1 for a report that was accepted before
 abbrev pub IsRefusedBy : List Report → Report → ℕ → Type 0
 IsRefusedBy accepted r code =
-    ((code ≡ 1) × ((front : ℕ) × IsAdmission (counting accepted) r (Old front)))
-    ⊎ ((why : Code) × (name value : Option (List ℕ)) × (code ≡ code_number why) × IsAdmission (counting accepted) r (No why name value))
+    ((code ≡ 1) × ((front : ℕ) × IsAdmission (counting accepted) (unmarked r) (Old front)))
+    ⊎ ((why : Code) × (name value : Option (List ℕ)) × (code ≡ code_number why) × IsAdmission (counting accepted) (unmarked r) (No why name value))
 
 -- the line is that of a report that is refused with this number
 abbrev pub IsRefusedWith : List Report → List ℕ → ℕ → Type 0
-IsRefusedWith accepted line code = (r : Report) × HasSpelling (calls.Report r) × (line ≡ line_of r) × IsRefusedBy accepted r code
+IsRefusedWith accepted line code = (r : Report) × HasSpelling (calls.Report (unmarked r)) × (line ≡ line_of r) × IsRefusedBy accepted r code
 
 -- the number by which a record of another epoch is refused
 abbrev pub other_epoch : ℕ
@@ -75,7 +77,7 @@ IsNotOfTheFile _ = ⊥
 
 -- A desk that is opened again has this accepted list: the one before, or that and a report that was pending.
 abbrev pub IsReopened : List Report → List Turn → List Report → Type 0
-IsReopened accepted turns opening = (opening ≡ accepted) ⊎ ((r : Report) × IsPending turns r × (opening ≡ accepted ++ r ∷ []))
+IsReopened accepted turns opening = (opening ≡ accepted) ⊎ ((m : MarkedReport) × IsPending turns m × (opening ≡ accepted ++ m.report ∷ []))
 
 -- the device failed where the fault is the device's, and only there
 abbrev pub CountsDeskFault : DeskFault → ℕ → ℕ → Type 0

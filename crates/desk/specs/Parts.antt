@@ -1,20 +1,15 @@
 -- Working definitions: the parts of a turn.
-use Rattle.std.specs.Prelude.{◌≡◌, ◌⊎◌, ℕ, List, [], ◌∷◌, ◌++◌, Bool, Option, Some, None, codes}
+use Rattle.std.specs.Prelude.{◌≡◌, ◌⊎◌, ℕ, List, [], ◌∷◌, ◌++◌, Option, Some, None, codes}
 use Rattle.id_tree.specs.IdTree.{IdTree}
 use Rattle.id_tree.specs.Spelling as ids
 use Rattle.report_line.specs.declared.report.Report.{Report}
+use Rattle.report_line.specs.declared.marked.MarkedReport.{MarkedReport}
 use Rattle.report_line.specs.declared.call.Call.{Call}
 use Rattle.report_line.specs.declared.call.Call.TheVariants as calls
 use Rattle.report_line.specs.declared.reply.Outcome.TheVariants.{Unknown}
 use Rattle.report_line.specs.declared.reply.Reply.{Reply}
 use Rattle.report_line.specs.declared.reply.Reply.TheVariants.{Fail}
-use Rattle.chains.specs.Kept.{Kept}
-use Rattle.chains.specs.Held.{Held}
 use Rattle.desk.specs.Files.{StandsFor}
-
--- what chains hold beside a store that is stopped, or is not
-abbrev pub held_with : Kept → Bool → Held
-held_with k stopped = record { accepted = k.accepted; front = k.front; stopped = stopped }
 
 -- the text of a registered id, `0` for none
 abbrev pub id_text : Option IdTree → List ℕ
@@ -31,8 +26,8 @@ MayBeLeft reply accepted r file = StandsFor accepted file ⊎ ((reply ≡ Fail U
 
 -- what a crash leaves while the turn of a call is under way
 abbrev pub StandsBy : List Report → Call → List ℕ → Type 0
-StandsBy accepted call file = StandsFor accepted file ⊎ ((r : Report) × (call ≡ calls.Report r) × StandsFor (accepted ++ r ∷ []) file)
+StandsBy accepted call file = StandsFor accepted file ⊎ ((m : MarkedReport) × (call ≡ calls.Report m) × StandsFor (accepted ++ m.report ∷ []) file)
 
 -- what a crash leaves after a turn of a call
 abbrev pub MayBeLeftBy : Reply → List Report → Call → List ℕ → Type 0
-MayBeLeftBy reply accepted call file = StandsFor accepted file ⊎ ((r : Report) × (call ≡ calls.Report r) × (reply ≡ Fail Unknown) × StandsFor (accepted ++ r ∷ []) file)
+MayBeLeftBy reply accepted call file = StandsFor accepted file ⊎ ((m : MarkedReport) × (call ≡ calls.Report m) × (reply ≡ Fail Unknown) × StandsFor (accepted ++ m.report ∷ []) file)

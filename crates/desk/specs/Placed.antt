@@ -28,5 +28,5 @@ IsPlaced _ accepted r old new = ⊤
 
 -- the same, of the report of a call
 abbrev pub IsPlacedBy : Reply → List Report → Call → View → View → Type 0
-IsPlacedBy reply accepted (calls.Report r) old new = IsPlaced reply accepted r old new
+IsPlacedBy reply accepted (calls.Report m) old new = IsPlaced reply accepted m.report old new
 IsPlacedBy reply accepted _ old new = ⊤

@@ -3,16 +3,17 @@
 ghost use Rattle.std.specs.Prelude.{◌≡◌, ◌↔◌, ℕ, List, true, false, map, IfOk, IfErr};
 ghost use Rattle.line_disk.specs.Disk.{Leaves, LeavesAlways};
 ghost use Rattle.record_file.specs.Store.{disk_of, is_stopped, HasRecords};
+ghost use Rattle.report_line.specs.Reports.{unmarked};
 ghost use Rattle.report_line.specs.Spelling.{HasSpelling};
 ghost use Rattle.report_line.specs.declared.call.Call.TheVariants as calls;
-ghost use Rattle.report_line.specs.declared.report.Report.{Report as AnyReport};
+ghost use Rattle.report_line.specs.declared.marked.MarkedReport.{MarkedReport};
 ghost use Rattle.report_line.specs.declared.reply.Outcome.TheVariants.{Unknown};
 ghost use Rattle.report_line.specs.declared.reply.Reply.TheVariants.{Fail};
-ghost use Rattle.chains.specs.Held.{held_of};
+ghost use Rattle.chains.specs.Held.{held_of, held_with};
 ghost use Rattle.chains.specs.Processes.{IsKnown};
 ghost use Rattle.chains.specs.Turns.{fine, IsGarbageReply, IsLineReply, IsStateReply, IsQuestionTurn, IsTurn};
 ghost use Rattle.desk.specs.Files.{said_of, AreSpelled, IsShort, MayWantMemory, UsesDevice, CountsReply};
-ghost use Rattle.desk.specs.Parts.{held_with, StandsBy, MayBeLeftBy};
+ghost use Rattle.desk.specs.Parts.{StandsBy, MayBeLeftBy};
 ghost use Rattle.desk.specs.Placed.{IsPlacedBy};
 
 use crate::placing::report_placed;
@@ -67,7 +68,7 @@ pub(crate) fn answered<D: Disk>(
     requires rest { is_stopped store.old ≡ false → D.keeps (disk_of store.old) → HasRecords D.view store.old (map said_of chains.old.accepted) }
     ensures turn { IfOk result (λ reply. IsTurn (held_with chains.old (is_stopped store.old)) call.now reply (held_with chains.new (is_stopped store.new))) }
     ensures spelled { AreSpelled chains.old.accepted → AreSpelled chains.new.accepted }
-    ensures pending { IfOk result (λ reply. (r : AnyReport) → call.now ≡ calls.Report r → reply ≡ Fail Unknown → HasSpelling (calls.Report r)) }
+    ensures pending { IfOk result (λ reply. (m : MarkedReport) → call.now ≡ calls.Report m → reply ≡ Fail Unknown → HasSpelling (calls.Report (unmarked m.report))) }
     ensures err { IfErr result (λ fault. (fault ≡ TurnFault.Memory) × MayWantMemory (held_with chains.old (is_stopped store.old)) call.now × (held_of chains.new ≡ held_of chains.old) × (store.new ≡ store.old)) }
     ensures rest { is_stopped store.new ≡ false → D.keeps (disk_of store.old) → HasRecords D.view store.new (map said_of chains.new.accepted) }
     ensures left { is_stopped store.old ≡ false → D.keeps (disk_of store.old) → (c : List ℕ) → Leaves (D.view (disk_of store.new)) c
@@ -84,6 +85,8 @@ pub(crate) fn answered<D: Disk>(
         Call::Report(report) => Ok(report_placed(chains, store, report)),
         Call::Line(names) => Ok(line_asked(chains, store.stopped(), names.as_slice())),
         Call::Garbage => Ok(garbage_asked(chains, store.stopped())),
+        // A settlement is not built yet: its line counts as outside the grammar.
+        Call::Settle { .. } => Ok(bad(1)),
         Call::State(name) => state_asked(chains, store.stopped(), name),
         Call::Bye => Ok(bye()),
         Call::Bad(number) => Ok(bad(*number)),

@@ -6,6 +6,7 @@ ghost use Rattle.record_file.specs.Kept.{said_in};
 ghost use Rattle.report_line.specs.declared.reply.Outcome.TheVariants as outcomes;
 ghost use Rattle.report_line.specs.declared.reply.Reply.TheVariants.{Fail};
 ghost use Rattle.chains.specs.Held.{held_of};
+ghost use Rattle.chains.specs.Admission.{IsReachable};
 ghost use Rattle.desk.specs.Faults.{from_store};
 ghost use Rattle.desk.specs.Files.{said_of, AreSpelled};
 ghost use Rattle.desk.specs.Lawful.{turn_limit};
@@ -38,12 +39,11 @@ pub struct Desk<D: Disk> {
 impl<D: Disk> Model for Desk<D> {
     ghost use Rattle.std.specs.Prelude.{◌≡◌, ◌≤◌, false, map, vec_capacity};
     ghost use Rattle.record_file.specs.Store.{disk_of, is_stopped, HasRecords};
-    ghost use Rattle.chains.specs.Held.{held_of};
+    ghost use Rattle.chains.specs.Held.{held_of, held_with};
     ghost use Rattle.desk.specs.Codes.{desk_code};
     ghost use Rattle.desk.specs.Desks.{DeskState};
     ghost use Rattle.desk.specs.Files.{said_of};
     ghost use Rattle.desk.specs.Lawful.{IsLawful, turn_limit};
-    ghost use Rattle.desk.specs.Parts.{held_with};
 
     ghost Value = { DeskState D };
 
@@ -78,6 +78,7 @@ fn told<D>(refused: (OpenFault, D)) -> (DeskFault, D)
 fn chains_of(alloc: Global, records: &[(u32, Vec<u8>)]) -> Result<(Chains, Chains), DeskFault>
     ensures ok { IfOk result (λ both. said_in records.now ≡ map said_of both.0.accepted) }
     ensures spelled { IfOk result (λ both. AreSpelled both.0.accepted) }
+    ensures admitted { IfOk result (λ both. IsReachable (held_of both.0)) }
     ensures copy { IfOk result (λ both. held_of both.1 ≡ held_of both.0) }
     ensures err { IfErr result (RefusesRecords (said_in records.now)) }
 {
@@ -90,10 +91,10 @@ fn chains_of(alloc: Global, records: &[(u32, Vec<u8>)]) -> Result<(Chains, Chain
 
 impl<D: Disk> Desk<D> {
     ghost use Rattle.record_file.specs.Opening.{KeepsFile, IsSynced};
-    ghost use Rattle.chains.specs.Admission.{IsReached};
+    ghost use Rattle.chains.specs.Folded.{IsReached};
     ghost use Rattle.chains.specs.Turns.{IsTurn};
     ghost use Rattle.desk.specs.Files.{StandsFor, MayStandFor, StandsWhile, IsShort, MayWantMemory, UsesDevice, CountsReply};
-    ghost use Rattle.desk.specs.Lawful.{IsLawful};
+    ghost use Rattle.desk.specs.Lawful.{IsLawful, unstopped};
     ghost use Rattle.desk.specs.OfHistories.{IsTurnOfHistories, AreTurnsOfHistories};
     ghost use Rattle.desk.specs.Placed.{IsPlacedBy};
     ghost use Rattle.desk.specs.Openings.{RefusesFile, CountsDeskFault, LeavesFile, IsNotOfTheFile, IsReopened};
@@ -147,11 +148,12 @@ impl<D: Disk> Desk<D> {
     pub fn chains(&self) -> &Chains
         ensures accepted { result.now.accepted ≡ self.now.held.accepted }
         ensures front { result.now.front ≡ self.now.held.front }
+        ensures held { held_of result.now ≡ unstopped self.now.held }
     {
         &self.chains
     }
 
-    /// The number of accepted reports.
+    /// The number of accepted lines.
     pub fn front(&self) -> u32
         ensures { result ≡ self.now.held.front }
     {
@@ -176,6 +178,7 @@ impl<D: Disk> Desk<D> {
     pub fn snapshot(&self) -> Result<Chains, AllocError>
         ensures accepted { IfOk result (λ chains. chains.accepted ≡ self.now.held.accepted) }
         ensures front { IfOk result (λ chains. chains.front ≡ self.now.held.front) }
+        ensures held { IfOk result (λ chains. held_of chains ≡ unstopped self.now.held) }
     {
         self.chains.copy()
     }

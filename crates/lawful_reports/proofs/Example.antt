@@ -56,11 +56,11 @@ halved : (n x y : ℕ) → min x y ≡ 0 → (x == y) ≡ false → n + max x y 
 halved n x y least differs few = record { normal = (tt, tt, least, differs); shallow = omega arith; small = few }
 
 line : (p : Name) (n : ℕ) (i : IdTree) (e : EventTree) (x : Action) → IsTrue (is_name p) → IsCount n → IsId i → IsEvents e → IsAction x → HasLine (told p n i e x)
-line p n i e x name count id events action = record { name = name; count = count; stamped = record { id = id; events = events }; acted = action }
+line p n i e x name count id events action = (omega arith, record { name = name; count = count; stamped = record { id = id; events = events }; acted = action })
 
 lines : All HasLine its_reports
 lines = All-from_recursion HasLine its_reports (
-  name_a,
+  (refl, name_a),
   (
     line a 1 One (Leaf 1) (forked b) name_a (omega arith, omega arith) one (leaf 1 (omega arith)) (on_left, name_b, on_right),
     (

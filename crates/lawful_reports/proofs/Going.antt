@@ -5,7 +5,7 @@ use Rattle.report_line.specs.declared.report.Report.{Report}
 use Rattle.report_line.specs.declared.reply.Reply.{Reply}
 use Rattle.report_line.specs.declared.reply.Reply.TheVariants.{Accepted}
 use Rattle.report_line.specs.History.{Name, History}
-use Rattle.chains.specs.Held.{Held, with_report}
+use Rattle.chains.specs.Held.{Held, present, with_report}
 use Rattle.chains.specs.Admission.{FitsOrNot, held_after}
 use Rattle.chains.specs.Turns.{Fate, fine, memory, before, unknown, IsReportTurn, IsReported}
 use Rattle.lawful_reports.specs.HandedOver.{handed_over, IsReportable}
@@ -16,13 +16,13 @@ use Rattle.lawful_reports.proofs.Next.{only_room_is_tested}
 
 -- ---- one turn
 
-fits : (held after : Held) (r : Report) (reply : Reply) → FitsOrNot held r reply → after ≡ held_after held r reply → IsRoomTurn fine held r reply after
-fits held after r reply (inl w) is = inr (inl w.0, (_, w.1), is ∙ ap (held_after held r) w.1)
-fits held after r reply (inr (few, inl w)) is = inr (inr w.0, (_, w.1), is ∙ ap (held_after held r) w.1)
-fits held after r reply (inr (few, inr (free, w))) is = inl (elim [ inl full ↦ few full | inr full ↦ free full ], w, is ∙ ap (held_after held r) w)
+fits : (held after : Held) (r : Report) (reply : Reply) → FitsOrNot held r reply → after ≡ held_after held (present held r) reply → IsRoomTurn fine held r reply after
+fits held after r reply (inl w) is = inr (inl w.0, (_, w.1), is ∙ ap (held_after held (present held r)) w.1)
+fits held after r reply (inr (few, inl w)) is = inr (inr w.0, (_, w.1), is ∙ ap (held_after held (present held r)) w.1)
+fits held after r reply (inr (few, inr (free, w))) is = inl (elim [ inl full ↦ few full | inr full ↦ free full ], w, is ∙ ap (held_after held (present held r)) w)
 
 by_fate : (held after : Held) (r : Report) (reply : Reply) (fate : Fate)
-    → ((IsReportTurn fine held r reply after) → FitsOrNot held r reply) → IsReportTurn fate held r reply after → IsRoomTurn fate held r reply after
+    → ((IsReportTurn fine held (present held r) reply after) → FitsOrNot held r reply) → IsReportTurn fate held (present held r) reply after → IsRoomTurn fate held r reply after
 by_fate held after r reply fine tested turn = fits held after r reply (tested turn) turn.1
 by_fate held after r reply memory tested turn = (turn.3, turn.4)
 by_fate held after r reply before tested turn = (turn.1, turn.2)
@@ -31,12 +31,12 @@ by_fate held after r reply unknown tested turn = (turn.1, turn.2)
 pub turns_refuse_for_room_alone : TurnsRefuseForRoomAlone
 turns_refuse_for_room_alone root h held after r reply fate w following running turn =
     by_fate held after r reply fate (λ t. (only_room_is_tested root h held r reply w following).0 t.0)
-    (subst (λ (stopped : Bool). IsReported stopped fate held r reply after) running turn)
+    (subst (λ (stopped : Bool). IsReported stopped fate held (present held r) reply after) running turn)
 
 -- ---- one turn behind the other
 
 pub accepted_or_refused : (held between : Held) (r : Report) (reply : Reply) (fate : Fate) → IsRoomTurn fate held r reply between
-    → ((reply ≡ Accepted (held.front + 1)) × (between ≡ with_report held r)) ⊎ IsRefusalForRoom held r reply
+    → ((reply ≡ Accepted (held.front + 1)) × (between ≡ with_report held (present held r))) ⊎ IsRefusalForRoom held r reply
 accepted_or_refused held between r reply fine (inl w) = inl (w.1, w.2)
 accepted_or_refused held between r reply fine (inr w) = inr (inl (w.0, w.1))
 accepted_or_refused held between r reply memory w = inr (inr (inl w.0))
@@ -52,7 +52,7 @@ up_to_refusal root h held (r ∷ rs) rest (reply ∷ replies) after w running pa
     elim (accepted_or_refused held between r reply fate (turns_refuse_for_room_alone root h held between r reply fate w (rs ++ rest, parts) running turn)) [
       | inl accepted ↦ inl (
         accepted.0,
-        up_to_refusal root h (with_report held r) rs rest replies after w running (parts ∙ sym (append_assoc held.accepted (r ∷ []) (rs ++ rest)))
+        up_to_refusal root h (with_report held (present held r)) rs rest replies after w running (parts ∙ sym (append_assoc held.accepted (r ∷ []) (rs ++ rest)))
             (subst (λ (k : Held). AreTurns k rs replies after) accepted.1 turns),
       )
       | inr refused ↦ inr refused
@@ -84,7 +84,7 @@ all_accepted held [] [] after is taken = record {
 all_accepted held [] (reply ∷ replies) after is taken = absurd is
 all_accepted held (r ∷ rs) [] after is taken = absurd is
 all_accepted held (r ∷ rs) (reply ∷ replies) after (inl w) taken =
-    let more = all_accepted (with_report held r) rs replies after w.1 (All-tail IsTaken reply replies taken) in
+    let more = all_accepted (with_report held (present held r)) rs replies after w.1 (All-tail IsTaken reply replies taken) in
     record {
       accepted = more.accepted ∙ append_assoc held.accepted (r ∷ []) rs;
       front = (let same = more.front in omega arith);

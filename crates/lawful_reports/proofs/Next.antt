@@ -1,5 +1,5 @@
 -- The next report of what is handed over is that of a step over the reports before it, or BEGIN.
-use Rattle.std.proofs.Common.{◌≡◌, ◌↔◌, List, [], ◌∷◌, ◌++◌, Option, Some, None, All, refl, sym, ◌∙◌, ap, subst, append-nil}
+use Rattle.std.proofs.Common.{◌≡◌, ◌↔◌, inl, inr, List, [], ◌∷◌, ◌++◌, Option, Some, None, All, refl, sym, ◌∙◌, ap, subst, append-nil}
 use Rattle.std.specs.Prelude.{Contains, slice_get}
 use Rattle.std.specs.List.{cons_option}
 use Rattle.std.specs.Option.{option_map}
@@ -14,7 +14,7 @@ use Rattle.report_line.specs.Lawful.{IsAllowed, IsLawful, start, next}
 use Rattle.report_line.specs.StepReports.{report_of}
 use Rattle.chains.specs.Held.{Held}
 use Rattle.chains.specs.Processes.{known}
-use Rattle.chains.specs.Admission.{IsAdmission, IsBeginReply, FitsOrNot}
+use Rattle.chains.specs.Admission.{IsReportReply, IsBeginReply, FitsOrNot}
 use Rattle.histories.proofs.Rules.{last_step}
 use Rattle.lawful_reports.specs.HandedOver.{handed_over, IsTargetBorn, HasLine, IsReportable}
 use Rattle.lawful_reports.specs.Laws.{OnlyRoomIsTested}
@@ -71,7 +71,7 @@ tied_next root h s w tied None is =
     (silent_tied (handed_over root h) root h w.last s tied w.lives w.allowed (unreported s s.deed is)))
 tied_next root h s w tied (Some a) is =
     let made = report_is root h s s.deed ∙ ap (option_map (λ x. Numbered (report_with h s (reported_id root h s s.deed) x))) is in
-    with_option root h s _ made (reported_tied (handed_over root h) root h w.last s tied w.lives w.allowed a is (w.line _ made))
+    with_option root h s _ made (reported_tied (handed_over root h) root h w.last s tied w.lives w.allowed a is (w.line _ made).1)
 
 pub tied_all : (root : Name) (h : History) → IsReportable root h → AreTied (handed_over root h) root h
 tied_all root [] w = first_tied root
@@ -101,13 +101,17 @@ behind (x ∷ xs) o (y ∷ front) r rest is =
     ]
 
 -- BEGIN where nothing is accepted
-begins : (root : Name) (held : Held) (r : Report) (answer : Reply) → Begin root ≡ r → held.accepted ≡ [] → IsAdmission held r answer ↔ FitsOrNot held r answer
+begins : (root : Name) (held : Held) (r : Report) (answer : Reply) → Begin root ≡ r → held.accepted ≡ [] → IsReportReply held held.epoch r answer ↔ FitsOrNot held r answer
 begins root held r answer is none =
-    subst (λ (x : Report). IsAdmission held x answer ↔ FitsOrNot held x answer) is
+    subst (λ (x : Report). IsReportReply held held.epoch x answer ↔ FitsOrNot held x answer) is
     (by held.accepted none)
   where
-    by : (accepted : List Report) → accepted ≡ [] → IsBeginReply (slice_get (known accepted) 0) held root answer ↔ FitsOrNot held (Begin root) answer
-    by accepted e = subst (λ (xs : List Report). IsBeginReply (slice_get (known xs) 0) held root answer ↔ FitsOrNot held (Begin root) answer) (sym e) (λ x. x, λ x. x)
+    of_first : IsBeginReply None held held.epoch root answer → FitsOrNot held (Begin root) answer
+    of_first (inl h) = absurd (h.0 refl)
+    of_first (inr h) = h.1
+
+    by : (accepted : List Report) → accepted ≡ [] → IsBeginReply (slice_get (known accepted) 0) held held.epoch root answer ↔ FitsOrNot held (Begin root) answer
+    by accepted e = subst (λ (xs : List Report). IsBeginReply (slice_get (known xs) 0) held held.epoch root answer ↔ FitsOrNot held (Begin root) answer) (sym e) (of_first, λ x. inr (λ other. other refl, x))
 
 pub only_room_is_tested : OnlyRoomIsTested
 only_room_is_tested root [] held r answer w (rest, is) = (let one = one_left (Begin root) r held.accepted rest is in begins root held r answer one.0 one.1)

@@ -16,7 +16,7 @@ use Rattle.chains.specs.declared.refusal.Admitted.{Admitted}
 use Rattle.chains.specs.declared.refusal.Admitted.TheVariants as admitted
 use Rattle.chains.specs.declared.refusal.No.{No as Refusal}
 use Rattle.chains.specs.Answers.{reply_of}
-use Rattle.chains.specs.Held.{Held, held_of, counting}
+use Rattle.chains.specs.Held.{Held, present, held_of}
 use Rattle.chains.specs.Kept.{Kept}
 use Rattle.chains.specs.Turns.{Fate, fine, memory, before, unknown, IsDeviceFree, IsReportTurn, IsTurn}
 use Rattle.lawful_reports.specs.declared.handing.Refused.{Refused}
@@ -28,28 +28,29 @@ use Rattle.lawful_reports.proofs.Going.{turns_refuse_for_room_alone, up_to_refus
 -- ---- one report more
 
 turns_push : (held : Held) (xs : List Report) (replies : List Reply) (mid after : Held) (r : Report) (reply : Reply)
-    → AreTurns held xs replies mid → IsTurn mid (calls.Report r) reply after → AreTurns held (xs ++ r ∷ []) (replies ++ reply ∷ []) after
-turns_push held [] [] mid after r reply is turn = (after, subst (λ (k : Held). IsTurn k (calls.Report r) reply after) is turn, refl)
+    → AreTurns held xs replies mid → IsTurn mid (calls.Report (present mid r)) reply after → AreTurns held (xs ++ r ∷ []) (replies ++ reply ∷ []) after
+turns_push held [] [] mid after r reply is turn = (after, subst (λ (k : Held). IsTurn k (calls.Report (present k r)) reply after) is turn, refl)
 turns_push held [] (x ∷ replies) mid after r reply is turn = absurd is
 turns_push held (x ∷ xs) [] mid after r reply is turn = absurd is
 turns_push held (x ∷ xs) (y ∷ replies) mid after r reply (between, first, more) turn = (between, first, turns_push between xs replies mid after r reply more turn)
 
 taken_push : (held : Held) (xs : List Report) (mid after : Held) (r : Report) (reply : Reply)
-    → AreTaken held xs mid → IsTurn mid (calls.Report r) reply after → IsTaken reply → AreTaken held (xs ++ r ∷ []) after
+    → AreTaken held xs mid → IsTurn mid (calls.Report (present mid r)) reply after → IsTaken reply → AreTaken held (xs ++ r ∷ []) after
 taken_push held xs mid after r reply (replies, turns, all) turn taken =
     (replies ++ reply ∷ [], turns_push held xs replies mid after r reply turns turn, All-push IsTaken replies reply all taken)
 
 -- what admitting answers is a turn
-pub one_turn : (k j : Kept) (r : Report) (result : Result Admitted Refusal) → (fate : Fate) × IsDeviceFree fate × IsReportTurn fate (held_of k) r (reply_of result) (held_of j)
-    → IsTurn (held_of k) (calls.Report r) (reply_of result) (held_of j)
-one_turn k j r result (fate, free, turn) = (fate, turn)
+pub one_turn : (k j : Kept) (epoch : ℕ) (r : Report) (result : Result Admitted Refusal) → epoch ≡ k.epoch
+    → (fate : Fate) × IsDeviceFree fate × IsReportTurn fate (held_of k) (record { epoch = epoch; report = r }) (reply_of result) (held_of j)
+    → IsTurn (held_of k) (calls.Report (present (held_of k) r)) (reply_of result) (held_of j)
+one_turn k j epoch r result is (fate, free, turn) = subst (λ (n : ℕ). IsTurn (held_of k) (calls.Report (record { epoch = n; report = r })) (reply_of result) (held_of j)) is (fate, turn)
 
 is_taken : (x : Admitted) → IsTaken (reply_of (Ok x))
 is_taken (admitted.Accepted front) = tt
 is_taken (admitted.Old front) = tt
 
 pub taken_more : (held : Held) (reports : List Report) (i : ℕ) (mid : Kept) (after : Kept) (r : Report) (x : Admitted) → i < length reports → r ≡ get_or reports i r
-    → AreTaken held (take i reports) (held_of mid) → IsTurn (held_of mid) (calls.Report r) (reply_of (Ok x)) (held_of after) → AreTaken held (take (i + 1) reports) (held_of after)
+    → AreTaken held (take i reports) (held_of mid) → IsTurn (held_of mid) (calls.Report (present (held_of mid) r)) (reply_of (Ok x)) (held_of after) → AreTaken held (take (i + 1) reports) (held_of after)
 taken_more held reports i mid after r x within is taken turn =
     subst (λ (xs : List Report). AreTaken held xs (held_of after)) (sym (take_more reports i r within ∙ ap (λ (y : Report). take i reports ++ y ∷ []) (sym is)))
     (taken_push held (take i reports) (held_of mid) (held_of after) r (reply_of (Ok x)) taken turn (is_taken x))
@@ -61,7 +62,7 @@ pub all_taken : (held : Held) (reports : List Report) (i : ℕ) (after : Held) �
 all_taken held reports i after past taken = subst (λ (xs : List Report). AreTaken held xs after) (take_all i reports past) taken
 
 pub first_refused : (held : Held) (reports : List Report) (place : ℕ) (mid after : Kept) (r : Report) (why : Refusal) → place < length reports → r ≡ get_or reports place r
-    → AreTaken held (take place reports) (held_of mid) → IsTurn (held_of mid) (calls.Report r) (reply_of (Err why)) (held_of after)
+    → AreTaken held (take place reports) (held_of mid) → IsTurn (held_of mid) (calls.Report (present (held_of mid) r)) (reply_of (Err why)) (held_of after)
     → IsFirstRefusal held reports (record { place = place; why = why }) (held_of after)
 first_refused held reports place mid after r why within is taken turn =
     let same = refused_changes_nothing mid after r why turn in
@@ -69,10 +70,10 @@ first_refused held reports place mid after r why within is taken turn =
       report = r;
       there = slice_get-get_or reports place r within ∙ ap (λ (y : Report). Some y) (sym is);
       taken = subst (λ (k : Held). AreTaken held (take place reports) k) (sym same) taken;
-      refusal = subst (λ (k : Held). IsTurn k (calls.Report r) (reply_of (Err why)) (held_of after)) (sym same) turn;
+      refusal = subst (λ (k : Held). IsTurn k (calls.Report (present k r)) (reply_of (Err why)) (held_of after)) (sym same) turn;
     }
   where
-    refused_changes_nothing : (mid after : Kept) (r : Report) (why : Refusal) → IsTurn (held_of mid) (calls.Report r) (reply_of (Err why)) (held_of after) → held_of after ≡ held_of mid
+    refused_changes_nothing : (mid after : Kept) (r : Report) (why : Refusal) → IsTurn (held_of mid) (calls.Report (present (held_of mid) r)) (reply_of (Err why)) (held_of after) → held_of after ≡ held_of mid
     refused_changes_nothing mid after r why (fine, turn) = turn.1
     refused_changes_nothing mid after r why (memory, turn) = turn.4
     refused_changes_nothing mid after r why (before, turn) = absurd (cc)
@@ -94,48 +95,43 @@ not_accepted code name value front is = cc
 not_failed : (code : Code) (name : Option Name) (value : Option (List ℕ)) (outcome : Outcome) → No code name value ≢ Fail outcome
 not_failed code name value outcome is = cc
 
-why : (j : Kept) (r : Report) (refusal : Refusal) (fate : Fate) (after : Held) → j.front ≡ length j.accepted → IsRoomTurn fate (held_of j) r (No refusal.code refusal.name refusal.value) after
-    → ((refusal.code ≡ Full) × IsFull (counting j.accepted) r) ⊎ (refusal.code ≡ OutOfMemory)
-why j r refusal fine after counted (inl w) = absurd (not_accepted refusal.code refusal.name refusal.value _ w.1)
-why j r refusal fine after counted (inr w) = inl (
-  refused_code refusal.code Full refusal.name None refusal.value w.1.0 w.1.1,
-  subst (λ (n : ℕ). IsFull (record { accepted = j.accepted; front = n; stopped = false }) r) counted w.0,
-)
-why j r refusal memory after counted w = inr (refused_code refusal.code OutOfMemory refusal.name None refusal.value None w.0)
-why j r refusal before after counted w = absurd (not_failed refusal.code refusal.name refusal.value _ w.0)
-why j r refusal unknown after counted w = absurd (not_failed refusal.code refusal.name refusal.value _ w.0)
+why : (held : Held) (r : Report) (refusal : Refusal) (fate : Fate) (after : Held) → IsRoomTurn fate held r (No refusal.code refusal.name refusal.value) after
+    → ((refusal.code ≡ Full) × IsFull held r) ⊎ (refusal.code ≡ OutOfMemory)
+why held r refusal fine after (inl w) = absurd (not_accepted refusal.code refusal.name refusal.value _ w.1)
+why held r refusal fine after (inr w) = inl (refused_code refusal.code Full refusal.name None refusal.value w.1.0 w.1.1, w.0)
+why held r refusal memory after w = inr (refused_code refusal.code OutOfMemory refusal.name None refusal.value None w.0)
+why held r refusal before after w = absurd (not_failed refusal.code refusal.name refusal.value _ w.0)
+why held r refusal unknown after w = absurd (not_failed refusal.code refusal.name refusal.value _ w.0)
 
 behind : (xs ys zs : List Report) (r : Report) (rest more : List Report) → ys ≡ zs ++ r ∷ rest → xs ++ (ys ++ more) ≡ (xs ++ zs) ++ r ∷ (rest ++ more)
 behind xs ys zs r rest more is =
     ap (λ (l : List Report). xs ++ (l ++ more)) is
     ∙ (ap (λ (l : List Report). xs ++ l) (append_assoc zs (r ∷ rest) more) ∙ sym (append_assoc xs zs (r ∷ (rest ++ more))))
 
-module _ (k j : Kept) (counted : k.front ≡ length k.accepted) (root : Name) (h : History) (rest : List Report) (w : IsReportable root h) where
+module _ (k j : Kept) (root : Name) (h : History) (rest : List Report) (w : IsReportable root h) where
   taken_in_order : (rs more : List Report) → handed_over root h ≡ k.accepted ++ (rs ++ more) → AreTaken (held_of k) rs (held_of j) → HasAccepted (held_of k) rs (held_of j)
   taken_in_order rs more parts (replies, turns, all) =
       all_accepted (held_of k) rs replies (held_of j) (up_to_refusal root h (held_of k) rs more replies (held_of j) w refl parts turns) all
 
   refused_in_order : (reports : List Report) (refused : Refused) → handed_over root h ≡ k.accepted ++ (reports ++ rest) → IsFirstRefusal (held_of k) reports refused (held_of j)
-      → IsFirstRefusalForRoom k.accepted reports refused j.accepted
+      → IsFirstRefusalForRoom (held_of k) reports refused (held_of j)
   refused_in_order reports refused parts f =
       let place = split_at reports refused.place f.report f.there in
       let front = take refused.place reports in
       let whole : handed_over root h ≡ k.accepted ++ (front ++ (f.report ∷ (place.0 ++ rest))) =
       parts ∙ ap (λ (l : List Report). k.accepted ++ l) (ap (λ (l : List Report). l ++ rest) place.1 ∙ append_assoc front (f.report ∷ place.0) rest) in
       let all = taken_in_order front (f.report ∷ (place.0 ++ rest)) whole f.taken in
-      let long : length j.accepted ≡ length k.accepted + length front = ap (λ (l : List Report). length l) all.accepted ∙ length-append k.accepted front in
-      let more : j.front ≡ k.front + length front = all.front in
       let following : handed_over root h ≡ j.accepted ++ f.report ∷ (place.0 ++ rest) =
       whole ∙ (sym (append_assoc k.accepted front (f.report ∷ (place.0 ++ rest))) ∙ ap (λ (l : List Report). l ++ f.report ∷ (place.0 ++ rest)) (sym all.accepted)) in
       record {
         report = f.report;
         there = f.there;
         accepted_before = all.accepted;
-        why = why j f.report refused.why f.refusal.0 (held_of j) (omega arith)
+        why = why (held_of j) f.report refused.why f.refusal.0 (held_of j)
             (turns_refuse_for_room_alone root h (held_of j) (held_of j) f.report _ f.refusal.0 w (place.0 ++ rest, following) refl f.refusal.1);
       }
 
-pub accepted_in_order : (k j : Kept) (reports : List Report) (result : Result ⊤ Refused) → k.front ≡ length k.accepted → IsHandedOver (held_of k) reports result (held_of j)
-    → AreAcceptedInOrder k.accepted reports result j.accepted
-accepted_in_order k j reports (Ok done) counted handed root h rest w parts = (taken_in_order k j counted root h rest w reports rest parts handed).accepted
-accepted_in_order k j reports (Err refused) counted handed root h rest w parts = refused_in_order k j counted root h rest w reports refused parts handed
+pub accepted_in_order : (k j : Kept) (reports : List Report) (result : Result ⊤ Refused) → IsHandedOver (held_of k) reports result (held_of j)
+    → AreAcceptedInOrder (held_of k) reports result (held_of j)
+accepted_in_order k j reports (Ok done) handed root h rest w parts = (taken_in_order k j root h rest w reports rest parts handed).accepted
+accepted_in_order k j reports (Err refused) handed root h rest w parts = refused_in_order k j root h rest w reports refused parts handed

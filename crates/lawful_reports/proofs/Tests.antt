@@ -25,7 +25,7 @@ use Rattle.report_line.specs.Lawful.{IsSameId, IsAllowed}
 use Rattle.report_line.specs.StepReports.{reporting_steps, id_of, report_by}
 use Rattle.chains.specs.Held.{Held}
 use Rattle.chains.specs.Processes.{last_report, last_events, registered_id, expected_id, Waits}
-use Rattle.chains.specs.Admission.{Decides, IsAdmission, FitsOrNot, AreGrown, IsActionReply, IsStampReply, IsWaitingReply, IsStandingReply}
+use Rattle.chains.specs.Admission.{Decides, IsReportReply, FitsOrNot, AreGrown, IsActionReply, IsStampReply, IsWaitingReply, IsStandingReply}
 use Rattle.histories.proofs.Steps.{never_falls_by, rises_by}
 use Rattle.lawful_reports.specs.HandedOver.{IsTargetBorn, HasLine}
 use Rattle.lawful_reports.proofs.Actions.{fork_of, report_with}
@@ -78,7 +78,7 @@ module _ (root : Name) (h : History) (b : Event) (s : Step) (held : Held) (tied 
 
   -- all tests up to those of the action
   up_to_action : (id : IdTree) (a : Action) → id ≡ expected_id held.accepted s.process a → ((q : Name) → a ≡ acts.Absorb q → Waits held.accepted q s.process)
-      → IsAdmission held (Numbered (report_with h s id a)) answer ↔ IsActionReply held (report_with h s id a) a answer
+      → IsReportReply held held.epoch (Numbered (report_with h s id a)) answer ↔ IsActionReply held (report_with h s id a) a answer
   up_to_action id a expected waits =
       let r = report_with h s id a in
       let standing : IsStandingReply None held r answer ↔ IsActionReply held r a answer =
@@ -86,8 +86,9 @@ module _ (root : Name) (h : History) (b : Event) (s : Step) (held : Held) (tied 
       (chained (waiting held r a answer waits) (chained (untested (λ differs. differs expected)) (untested (λ fell. fell grown)))) in
       chained (untested tied.begun)
       (chained (untested (λ unknown. unknown (tied.known s.process (λ unborn. living_not_unborn b (sym lives ∙ unborn)))))
-      (chained (untested (not_old id a))
-      (subst (λ (o : Option Name). IsStandingReply o held r answer ↔ IsActionReply held r a answer) (sym (tied.living s.process b lives).0) standing)))
+      (chained (untested (λ old. not_old id a old.0))
+      (chained (untested (λ differs. differs refl))
+      (subst (λ (o : Option Name). IsStandingReply o held r answer ↔ IsActionReply held r a answer) (sym (tied.living s.process b lives).0) standing))))
 
   no_absorption : (a : Action) → ((q : Name) → a ≢ acts.Absorb q) → (q : Name) → a ≡ acts.Absorb q → Waits held.accepted q s.process
   no_absorption a never q is = absurd (never q is)
@@ -109,28 +110,28 @@ module _ (root : Name) (h : History) (b : Event) (s : Step) (held : Held) (tied 
 
   -- the two replies are the same
   abbrev IsUntested : Report → Type 0
-  IsUntested r = IsAdmission held r answer ↔ FitsOrNot held r answer
+  IsUntested r = IsReportReply held held.epoch r answer ↔ FitsOrNot held r answer
 
   pub fits_by : (d : Deed) → (r : Report) → report_by root h s d ≡ Some r → IsAllowed root h b s d → IsTargetBorn root h d → HasLine r → IsUntested r
   fits_by Work r is w target = absurd (none_report r is)
   fits_by (Send m) r is w target = absurd (none_report r is)
   fits_by (Receive m) r is w target = absurd (none_report r is)
   fits_by Check r is w target = subst (λ (x : Report). HasLine x → IsUntested x) (same_Some _ r is)
-      (λ line. up_to_action s.stamp.id acts.Check (is_registered s.stamp.id line.stamped.id.normal w.same_id) (no_absorption acts.Check (λ q e. cc)))
+      (λ line. up_to_action s.stamp.id acts.Check (is_registered s.stamp.id line.1.stamped.id.normal w.same_id) (no_absorption acts.Check (λ q e. cc)))
   fits_by Present r is w target = subst (λ (x : Report). HasLine x → IsUntested x) (same_Some _ r is)
-      (λ line. up_to_action s.stamp.id acts.Present (is_registered s.stamp.id line.stamped.id.normal w.same_id) (no_absorption acts.Present (λ q e. cc)))
+      (λ line. up_to_action s.stamp.id acts.Present (is_registered s.stamp.id line.1.stamped.id.normal w.same_id) (no_absorption acts.Present (λ q e. cc)))
   fits_by (Retire q) r is w target = subst (λ (x : Report). HasLine x → IsUntested x) (same_Some _ r is)
-      (λ line. chained (up_to_action s.stamp.id (acts.Retire q) (is_registered s.stamp.id line.stamped.id.normal w.0.same_id) (no_absorption (acts.Retire q) (λ x e. cc)))
+      (λ line. chained (up_to_action s.stamp.id (acts.Retire q) (is_registered s.stamp.id line.1.stamped.id.normal w.0.same_id) (no_absorption (acts.Retire q) (λ x e. cc)))
       (untested (elim [ inl itself ↦ w.1 itself | inr unknown ↦ unknown (tied.known q target) ])))
   fits_by (Fork c i) r is w target = subst (λ (x : Report). HasLine x → IsUntested x) (same_Some _ r is)
       (λ line. chained (up_to_action (id_of (status root h s.process)) (fork_of s c i)
-      (is_registered (id_of (status root h s.process)) line.stamped.id.normal (λ point. ap (λ (k : IdTree). owns k point) (ap id_of lives))) (no_absorption (fork_of s c i) (λ x e. cc)))
+      (is_registered (id_of (status root h s.process)) line.1.stamped.id.normal (λ point. ap (λ (k : IdTree). owns k point) (ap id_of lives))) (no_absorption (fork_of s c i) (λ x e. cc)))
       (chained (untested (λ known. tied.born c known w.new_name))
       (untested (λ wrong. wrong (split_of s.stamp.id i (record { left = w.not_empty; right = w.child_not_empty; disjoint = w.disjoint; together = w.together }))))))
   fits_by (Absorb q) r is w target = subst (λ (x : Report). HasLine x → IsUntested x) (same_Some _ r is)
       (λ line.
       (let other = tied.held q w.retirement (ap last_of w.into_this) in
-      chained (up_to_action s.stamp.id (acts.Absorb q) (absorbed_id q w.retirement w.into_this line.stamped.id.normal w.together)
+      chained (up_to_action s.stamp.id (acts.Absorb q) (absorbed_id q w.retirement w.into_this line.1.stamped.id.normal w.together)
       (λ x absorbs. subst (λ (y : Name). Waits held.accepted y s.process) (same_retired q x absorbs) (tied.retired q w.retirement s.process w.into_this)))
       (untested (λ below. below (then_below (last_events q held.accepted) w.retirement.values s.stamp.events other.below (right_below w.between w.retirement.values s.stamp.events w.joined))))))
     where

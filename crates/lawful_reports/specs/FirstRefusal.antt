@@ -6,7 +6,7 @@ use Rattle.report_line.specs.declared.call.Call.TheVariants as calls
 use Rattle.report_line.specs.declared.reply.Reply.{Reply}
 use Rattle.report_line.specs.declared.reply.Reply.TheVariants.{Accepted, Old, No}
 use Rattle.report_line.specs.History.{Name, History}
-use Rattle.chains.specs.Held.{Held, counting}
+use Rattle.chains.specs.Held.{Held, present}
 use Rattle.chains.specs.Turns.{IsTurn}
 use Rattle.lawful_reports.specs.declared.handing.Refused.{Refused}
 use Rattle.lawful_reports.specs.HandedOver.{handed_over, IsReportable}
@@ -28,21 +28,21 @@ pub record IsFirstRefusal (held : Held) (reports : List Report) (refused : Refus
   pub report : Report
   pub there : slice_get reports refused.place ≡ Some report
   pub taken : AreTaken held (take refused.place reports) after
-  pub refusal : IsTurn after (calls.Report report) (No refused.why.code refused.why.name refused.why.value) after
+  pub refusal : IsTurn after (calls.Report (present after report)) (No refused.why.code refused.why.name refused.why.value) after
 
 -- all reports are taken, or one is the first that is refused
 abbrev pub IsHandedOver : Held → List Report → Result ⊤ Refused → Held → Type 0
 IsHandedOver held reports result after = MatchResult result (λ _. AreTaken held reports after) (λ refused. IsFirstRefusal held reports refused after)
 
 -- the report at this place was refused for want of room or of memory
-pub record IsFirstRefusalForRoom (accepted reports : List Report) (refused : Refused) (after : List Report) : Type 0 where
+pub record IsFirstRefusalForRoom (held : Held) (reports : List Report) (refused : Refused) (after : Held) : Type 0 where
   pub report : Report
   pub there : slice_get reports refused.place ≡ Some report
-  pub accepted_before : after ≡ accepted ++ take refused.place reports
-  pub why : ((refused.why.code ≡ Full) × IsFull (counting after) report) ⊎ (refused.why.code ≡ OutOfMemory)
+  pub accepted_before : after.accepted ≡ held.accepted ++ take refused.place reports
+  pub why : ((refused.why.code ≡ Full) × IsFull after report) ⊎ (refused.why.code ≡ OutOfMemory)
 
 -- Where these reports of a lawful history come next behind the accepted ones, they are accepted, up to the first that is refused.
-abbrev pub AreAcceptedInOrder : List Report → List Report → Result ⊤ Refused → List Report → Type 0
-AreAcceptedInOrder accepted reports result after =
-    (root : Name) (h : History) (rest : List Report) → IsReportable root h → handed_over root h ≡ accepted ++ (reports ++ rest)
-    → MatchResult result (λ _. after ≡ accepted ++ reports) (λ refused. IsFirstRefusalForRoom accepted reports refused after)
+abbrev pub AreAcceptedInOrder : Held → List Report → Result ⊤ Refused → Held → Type 0
+AreAcceptedInOrder held reports result after =
+    (root : Name) (h : History) (rest : List Report) → IsReportable root h → handed_over root h ≡ held.accepted ++ (reports ++ rest)
+    → MatchResult result (λ _. after.accepted ≡ held.accepted ++ reports) (λ refused. IsFirstRefusalForRoom held reports refused after)

@@ -1,5 +1,6 @@
 -- The reports of a history, handed over in order.
 use Rattle.std.specs.Prelude.{◌≡◌, ◌≢◌, List, [], ◌∷◌, ◌++◌, All, ⊤}
+use Rattle.report_line.specs.Reports.{unmarked}
 use Rattle.report_line.specs.Spelling.{HasSpelling}
 use Rattle.report_line.specs.declared.call.Call.TheVariants as calls
 use Rattle.report_line.specs.declared.report.Report.{Report}
@@ -30,7 +31,7 @@ AreTargetsBorn root (s ∷ h) = AreTargetsBorn root h × IsTargetBorn root h s.d
 
 -- The report has a line: its names are names, its number is below 2 ^ 32, and its trees are in normal form and within the limits.
 abbrev pub HasLine : Report → Type 0
-HasLine r = HasSpelling (calls.Report r)
+HasLine r = HasSpelling (calls.Report (unmarked r))
 
 -- a lawful history in which each target is born before a retirement into it, and within the limits: all its reports have lines
 pub record IsReportable (root : Name) (h : History) : Type 0 where

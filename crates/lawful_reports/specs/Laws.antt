@@ -4,24 +4,24 @@ use Rattle.report_line.specs.declared.report.Report.{Report}
 use Rattle.report_line.specs.declared.call.Call.TheVariants as calls
 use Rattle.report_line.specs.declared.reply.Reply.{Reply}
 use Rattle.report_line.specs.History.{Name, History}
-use Rattle.chains.specs.Held.{Held}
+use Rattle.chains.specs.Held.{Held, present}
 use Rattle.chains.specs.Admission.{IsAdmission, FitsOrNot}
 use Rattle.chains.specs.Turns.{Fate, IsTurnWith}
 use Rattle.lawful_reports.specs.HandedOver.{handed_over, IsNext, IsReportable}
 use Rattle.lawful_reports.specs.Accepting.{IsRoomTurn, AreTurns, AreAcceptedUpToRefusal}
 
--- No test of admission but those for room applies to the next report over those before it.
+-- No test of admission but those for room applies to the next report over those before it, with the present epoch.
 abbrev pub OnlyRoomIsTested : Type 0
 OnlyRoomIsTested =
     (root : Name) (h : History) (held : Held) (r : Report) (answer : Reply) → IsReportable root h → IsNext root h held.accepted r
-    → IsAdmission held r answer ↔ FitsOrNot held r answer
+    → IsAdmission held (present held r) answer ↔ FitsOrNot held r answer
 
 -- So in a turn with any fate the next report is accepted, or there is no room or no memory for it, or the device fails.
 abbrev pub TurnsRefuseForRoomAlone : Type 0
 TurnsRefuseForRoomAlone =
     (root : Name) (h : History) (held after : Held) (r : Report) (reply : Reply) (fate : Fate)
     → IsReportable root h → IsNext root h held.accepted r → held.stopped ≡ false
-    → IsTurnWith fate held (calls.Report r) reply after → IsRoomTurn fate held r reply after
+    → IsTurnWith fate held (calls.Report (present held r)) reply after → IsRoomTurn fate held r reply after
 
 -- And so BEGIN and all reports, or those that come next behind the accepted ones, handed over one by one in order, are accepted up
 -- to the first refusal, which is for room.

@@ -13,13 +13,12 @@ pub struct Refused {
     pub why: No,
 }
 
-/// Admits the reports in order, up to the first that is refused. Where they come next of a lawful history behind the accepted
+/// Admits the reports in order, with the present epoch, up to the first that is refused. Where they come next of a lawful history behind the accepted
 /// ones, each is accepted, or one is refused for want of room or of memory and those before it are accepted.
 pub fn hand_over(chains: &mut Chains, reports: &[PackedReport]) -> Result<(), Refused>
     ensures handed { IsHandedOver (held_of chains.old) reports.now result (held_of chains.new) }
-    ensures lawful { AreAcceptedInOrder chains.old.accepted reports.now result chains.new.accepted }
+    ensures lawful { AreAcceptedInOrder (held_of chains.old) reports.now result (held_of chains.new) }
 {
-    chains.lawful();
     admit_each(chains, reports)
 }
 
@@ -28,7 +27,7 @@ fn admit_each(chains: &mut Chains, reports: &[PackedReport]) -> Result<(), Refus
     ensures { IsHandedOver (held_of chains.old) reports.now result (held_of chains.new) }
 {
     for (place, report) in reports.iter().enumerate() {
-        match chains.admit(report) {
+        match chains.admit(report, chains.epoch()) {
             Ok(_) => {}
             Err(why) => return Err(Refused { place, why }),
         }

@@ -80,7 +80,7 @@ fn chains_of(alloc: Global, lines: &[&[u8]]) -> Chains {
     let mut chains = Chains::new(alloc);
     for line in lines {
         if let Ok(Call::Report(report)) = read_line(alloc, line) {
-            let _ = chains.admit(&report);
+            let _ = chains.admit_shared(report);
         }
     }
     chains

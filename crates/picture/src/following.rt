@@ -42,7 +42,7 @@ fn stop_for(refused: No) -> Stop {
 
 /// Has the report accepted.
 fn admit(chains: &mut Chains, report: Report) -> Result<(), Stop> {
-    match chains.admit(&PackedReport::of(report)) {
+    match chains.admit(&PackedReport::of(report), chains.epoch()) {
         Ok(_) => Ok(()),
         Err(refused) => Err(stop_for(refused)),
     }

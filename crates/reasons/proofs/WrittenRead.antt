@@ -10,11 +10,10 @@ use Rattle.report_line.specs.Names.{is_name}
 use Rattle.chains.specs.declared.position.Position.{Position}
 use Rattle.chains.specs.declared.position.Position.TheVariants.{At, Retired}
 use Rattle.chains.specs.declared.position.Place.{Place}
-use Rattle.chains.specs.Admission.{IsReachable}
+use Rattle.chains.specs.Folded.{IsFolded}
 use Rattle.chains.specs.Processes.{Name, known}
 use Rattle.chains.specs.Elements.{name_of}
 use Rattle.chains.proofs.Distinct.{distinct_known}
-use Rattle.chains.proofs.Folding.{reached_folded}
 use Rattle.chains.proofs.Keeps.{named}
 use Rattle.chains.proofs.LookUps.{known_from}
 use Rattle.json.proofs.Printed.Utf8.{IsUtf8-are_ascii}
@@ -198,9 +197,9 @@ text_one text a b x y =
 
 -- ---- no other numbers have the names
 
-name_one : (accepted : List Report) → IsReachable accepted → (p q : ℕ) (name : Name) → name_of accepted p ≡ Some name → name_of accepted q ≡ Some name → p ≡ q
-name_one accepted reachable p q name a b =
-    distinct_known accepted (reached_folded accepted reachable) p q name (slice_get_within (known accepted) p name a) (slice_get_within (known accepted) q name b)
+name_one : (accepted : List Report) → IsFolded accepted → (p q : ℕ) (name : Name) → name_of accepted p ≡ Some name → name_of accepted q ≡ Some name → p ≡ q
+name_one accepted folded p q name a b =
+    distinct_known accepted folded p q name (slice_get_within (known accepted) p name a) (slice_get_within (known accepted) q name b)
     (get_or_from_slice_get (known accepted) p name name a ∙ sym (get_or_from_slice_get (known accepted) q name name b))
 
 maps_one : (U W T : Type 0) (f : U → W) (h : T → W) → ((u v : U) (t : T) → f u ≡ h t → f v ≡ h t → u ≡ v) → (us vs : List U) (ts : List T) → map f us ≡ map h ts → map f vs ≡ map h ts → us ≡ vs
@@ -221,7 +220,7 @@ named_parts : (o : Option Name) (k : Position) (t : NamedPlace) → option_map (
 named_parts None k t is = absurd cc
 named_parts (Some n) k t is = let same = some_one NamedPlace _ _ is in (ap Some (ap (λ (x : NamedPlace). x.name) same), ap (λ (x : NamedPlace). x.position) same)
 
-place_numbered_one : (accepted : List Report) → IsReachable accepted → (x y : Place) (t : NamedPlace) → place_named accepted x ≡ Some t → place_named accepted y ≡ Some t → x ≡ y
+place_numbered_one : (accepted : List Report) → IsFolded accepted → (x y : Place) (t : NamedPlace) → place_named accepted x ≡ Some t → place_named accepted y ≡ Some t → x ≡ y
 place_numbered_one accepted reachable x y t a b =
     let p = named_parts (name_of accepted x.process) x.position t a in
     let q = named_parts (name_of accepted y.process) y.position t b in
@@ -234,7 +233,7 @@ certificate_one : (f f' : List ℕ) (n n' : ℕ) (l l' : List Place) (r r' : Lis
     → numbered_by f n l r ≡ numbered_by f' n' l' r'
 certificate_one f f' n n' l l' r r' a b c d = rw (a, b, c, d)
 
-numbered_one : (accepted : List Report) → IsReachable accepted → (named : NamedCertificate) (c e : Certificate) → IsNumbered accepted named c → IsNumbered accepted named e → c ≡ e
+numbered_one : (accepted : List Report) → IsFolded accepted → (named : NamedCertificate) (c e : Certificate) → IsNumbered accepted named c → IsNumbered accepted named e → c ≡ e
 numbered_one accepted reachable named c e x y =
     certificate_one c.failed e.failed c.front e.front c.line e.line c.reasons e.reasons
     (maps_one ℕ (Option Name) Name (name_of accepted) Some (name_one accepted reachable) c.failed e.failed named.failed x.failed y.failed)
@@ -288,7 +287,7 @@ not_unknown : (accepted : List Report) (names : List Name) (text : Name) → All
 not_unknown accepted names text all first =
     first.unknown (rw (get_or-append_seam first.before text first.rest text) at (subst (λ (ns : List Name). All (IsNameKnown accepted) ns) first.parts all (length first.before) text (omega (arith, length-append first.before (text ∷ first.rest)))))
 
-pub read_only : (accepted : List Report) → AreNames accepted → IsReachable accepted → (c : Certificate) → HasKnownNumbers accepted c → (result : Result Certificate CertificateFault)
+pub read_only : (accepted : List Report) → AreNames accepted → IsFolded accepted → (c : Certificate) → HasKnownNumbers accepted c → (result : Result Certificate CertificateFault)
     → IsReadAs accepted (certificate_text accepted c) result → (result ≡ Ok c) ⊎ (result ≡ Err Memory)
 read_only accepted names reachable c k (Ok e) is =
     let same = text_one _ _ _ is.1 (is_its_text accepted names c k) in

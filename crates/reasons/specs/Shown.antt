@@ -29,7 +29,8 @@ IsLineShown held names reply shown = shown ≡ reply
 abbrev pub IsShown : Held → Call → Reply → Reply → Type 0
 IsShown held (calls.Line names) reply shown = IsLineShown held names reply shown
 IsShown held calls.Garbage reply shown = IsLineShown held (known held.accepted) reply shown
-IsShown held (calls.Report r) reply shown = shown ≡ reply
+IsShown held (calls.Report m) reply shown = shown ≡ reply
+IsShown held (calls.Settle front names) reply shown = shown ≡ reply
 IsShown held (calls.State p) reply shown = shown ≡ reply
 IsShown held calls.Bye reply shown = shown ≡ reply
 IsShown held (calls.Bad n) reply shown = shown ≡ reply

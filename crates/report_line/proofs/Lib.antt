@@ -3,6 +3,7 @@ pub mod Cutting
 pub mod Parting
 pub mod Parts
 pub mod Numerals
+pub mod Marks
 pub mod Plain
 pub mod Rows
 pub mod OneCall

@@ -11,14 +11,16 @@ use Rattle.stamp.specs.Stamps.{IsStamp, stamp_text, is_stamp_byte}
 use Rattle.stamp.proofs.Texts as stamps_texts
 use Rattle.report_line.specs.declared.report.Action.{Action}
 use Rattle.report_line.specs.declared.report.Action.TheVariants.{Check, Present, Fork, Retire, Absorb}
+use Rattle.report_line.specs.declared.report.Report.{Report}
 use Rattle.report_line.specs.declared.report.Report.TheVariants as reports
 use Rattle.report_line.specs.declared.call.Call.{Call}
 use Rattle.report_line.specs.declared.call.Call.TheVariants as calls
 use Rattle.report_line.specs.Names.{is_letter, is_name_byte, is_name}
 use Rattle.report_line.specs.Cuts.{Lacks}
-use Rattle.report_line.specs.Spelling.{AreNames, names_text, action_word, action_fields, words_of, IsAction, HasSpelling}
+use Rattle.report_line.specs.Spelling.{AreNames, names_text, mark_text, action_word, action_fields, report_words, words_of, IsAction, IsSpelledIn, HasSpelling}
 use Rattle.report_line.proofs.Cutting.{and_both, passes_other, Lacks-passing}
 use Rattle.report_line.proofs.Numerals.{Lacks-decimal}
+use Rattle.report_line.proofs.Marks.{Lacks-append, plain_mark}
 
 pub Lacks-name : (c : ℕ) (word : List ℕ) → is_name_byte c ≡ false → is_letter c ≡ false → IsTrue (is_name word) → Lacks c word
 unfolding is_name
@@ -80,10 +82,16 @@ plain_fields (Fork f) is = (plain_id f.kept, (plain_name f.child is.1, (plain_id
 plain_fields (Retire target) is = (plain_name target is, tt)
 plain_fields (Absorb retired) is = (plain_name retired is, tt)
 
+plain_report : (epoch : ℕ) (r : Report) → IsSpelledIn epoch r → ArePlain (report_words epoch r)
+plain_report epoch (reports.Begin p) h = ((refl, (refl, (refl, (refl, (refl, tt))))), (plain_name p h.1, tt))
+plain_report epoch (reports.Numbered r) h = (
+  Lacks-append 32 (action_word r.action) (mark_text epoch) (plain_kind r.action) (plain_mark epoch h.0),
+  (plain_name r.process h.1.name, (Lacks-decimal 32 r.number refl h.1.count.1, (plain_stamp r.stamp h.1.stamped, plain_fields r.action h.1.acted))),
+)
+
 pub plain_words : (c : Call) → HasSpelling c → ArePlain (words_of c)
-plain_words (calls.Report (reports.Begin p)) h = ((refl, (refl, (refl, (refl, (refl, tt))))), (plain_name p h, tt))
-plain_words (calls.Report (reports.Numbered r)) h =
-    (plain_kind r.action, (plain_name r.process h.name, (Lacks-decimal 32 r.number refl h.count.1, (plain_stamp r.stamp h.stamped, plain_fields r.action h.acted))))
+plain_words (calls.Report m) h = plain_report m.epoch m.report h
+plain_words (calls.Settle front ns) h = ((refl, (refl, (refl, (refl, (refl, (refl, tt)))))), (Lacks-decimal 32 front refl h.0.1, (plain_names ns h.1, tt)))
 plain_words (calls.Line ns) h = ((refl, (refl, (refl, (refl, tt)))), (plain_names ns h, tt))
 plain_words calls.Garbage h = ((refl, (refl, (refl, (refl, (refl, (refl, (refl, tt))))))), tt)
 plain_words (calls.State p) h = ((refl, (refl, (refl, (refl, (refl, tt))))), (plain_name p h, tt))

@@ -1,10 +1,14 @@
 -- What it means to read a line: a relation over the spelling of calls.
-use Rattle.std.specs.Prelude.{◌≡◌, ◌≢◌, ℕ, List, ◌∷◌, Result, Ok, Err, codes, ⊤}
+use Rattle.std.specs.Prelude.{◌≡◌, ◌≢◌, ℕ, ◌<◌, ◌^◌, List, ◌∷◌, ◌++◌, Result, Ok, Err, codes, ⊤}
+use Rattle.std.specs.Fmt.{decimal}
+use Rattle.stamp.specs.Stamps.{stamp_text}
 use Rattle.report_line.specs.declared.fault.LineFault.{LineFault}
 use Rattle.report_line.specs.declared.fault.LineFault.TheVariants.{Grammar, Memory}
 use Rattle.report_line.specs.declared.report.Action.{Action}
+use Rattle.report_line.specs.declared.report.NumberedReport.{NumberedReport}
 use Rattle.report_line.specs.declared.call.Call.{Call}
-use Rattle.report_line.specs.Spelling.{words_of, spelling, HasSpelling, action_word, action_fields, IsAction}
+use Rattle.report_line.specs.Cuts.{Lacks}
+use Rattle.report_line.specs.Spelling.{words_of, spelling, HasSpelling, AreFields, mark_text, action_word, action_fields, IsAction}
 
 -- One is found for which P holds; or, at `Grammar`, P holds for none. Memory may be wanting for either.
 abbrev pub Finds : {X : Type 0} → Result X LineFault → (X → Type 0) → Type 0
@@ -37,10 +41,19 @@ IsCallOf words c = HasSpelling c × (words ≡ words_of c)
 abbrev pub IsActionOf : List ℕ → List (List ℕ) → Action → Type 0
 IsActionOf kind fields a = IsAction a × (kind ≡ action_word a) × (fields ≡ action_fields a)
 
+-- the word is that of the report's action, and these are the words behind it
+abbrev pub IsNumberedOf : List ℕ → List (List ℕ) → NumberedReport → Type 0
+IsNumberedOf kind fields r = AreFields r × (kind ≡ action_word r.action) × (fields ≡ r.process ∷ decimal r.number ∷ stamp_text r.stamp ∷ action_fields r.action)
+
+-- the first word of a line as a word without `@` and the mark of an epoch
+abbrev pub IsMarkedWord : List ℕ → List ℕ → ℕ → Type 0
+IsMarkedWord kind word epoch = Lacks 64 word × (epoch < 2 ^ 32) × (kind ≡ word ++ mark_text epoch)
+
 -- the word of no call that is no report with a number
 pub record IsOtherKind (kind : List ℕ) : Type 0 where
   pub no_begin : kind ≢ codes "BEGIN"
   pub no_line : kind ≢ codes "LINE"
   pub no_garbage : kind ≢ codes "GARBAGE"
+  pub no_settle : kind ≢ codes "SETTLE"
   pub no_state : kind ≢ codes "STATE"
   pub no_bye : kind ≢ codes "BYE"

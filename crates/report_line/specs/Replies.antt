@@ -2,7 +2,7 @@
 use Rattle.std.specs.Prelude.{ℕ, Bool, true, false, List, [], ◌++◌, Option, Some, None, codes, ⊤}
 use Rattle.std.specs.Fmt.{decimal}
 use Rattle.report_line.specs.declared.code.Code.{Code}
-use Rattle.report_line.specs.declared.code.Code.TheVariants.{NothingBegun, OtherRoot, UnknownProcess, Ended, WrongNumber, NotWaiting, WrongId, NotGrown, NameTaken, WrongParts, WrongTarget, NotJoined, Full, OutOfMemory}
+use Rattle.report_line.specs.declared.code.Code.TheVariants.{NothingBegun, OtherRoot, UnknownProcess, Ended, WrongNumber, NotWaiting, WrongId, NotGrown, NameTaken, WrongParts, WrongTarget, NotJoined, Full, OutOfMemory, OtherFront, OtherEpoch}
 use Rattle.report_line.specs.declared.reply.Outcome.{Outcome}
 use Rattle.report_line.specs.declared.reply.Outcome.TheVariants.{Before, Unknown, Stopped}
 use Rattle.report_line.specs.declared.reply.Reply.{Reply}
@@ -24,6 +24,8 @@ code_number WrongTarget = 10
 code_number NotJoined = 12
 code_number Full = 15
 code_number OutOfMemory = 16
+code_number OtherFront = 18
+code_number OtherEpoch = 19
 
 -- the word for what became of a report whose writing failed
 abbrev pub outcome_word : Outcome → List ℕ
@@ -55,5 +57,6 @@ reply_text (replies.Bad number) = codes "BAD " ++ decimal number
 reply_text (replies.Fail outcome) = codes "FAIL " ++ outcome_word outcome
 reply_text (replies.Line text) = codes "LINE " ++ text
 reply_text (replies.State name reports elements live id) = codes "STATE " ++ name ++ codes " " ++ decimal reports ++ codes " " ++ decimal elements ++ codes " " ++ live_word live ++ codes " " ++ id
+reply_text (replies.Settled epoch front) = codes "SETTLED " ++ decimal epoch ++ codes " " ++ decimal front
 reply_text replies.Bye = codes "BYE"
 reply_text (replies.Taken front) = []

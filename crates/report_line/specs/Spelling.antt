@@ -1,5 +1,5 @@
 -- The one spelling of each call.
-use Rattle.std.specs.Prelude.{ℕ, ◌<◌, ◌^◌, List, [], ◌∷◌, IsTrue, codes, ⊤}
+use Rattle.std.specs.Prelude.{◌≡◌, ℕ, zero, suc, ◌<◌, ◌^◌, List, [], ◌∷◌, ◌++◌, IsTrue, codes, ⊤}
 use Rattle.std.specs.List.{join_with_byte, AllByRecursion}
 use Rattle.std.specs.Fmt.{decimal}
 use Rattle.id_tree.specs.NormalForm.{IsId}
@@ -8,6 +8,7 @@ use Rattle.stamp.specs.Stamps.{IsStamp, stamp_text}
 use Rattle.report_line.specs.declared.report.Action.{Action}
 use Rattle.report_line.specs.declared.report.Action.TheVariants.{Check, Present, Fork, Retire, Absorb}
 use Rattle.report_line.specs.declared.report.NumberedReport.{NumberedReport}
+use Rattle.report_line.specs.declared.report.Report.{Report}
 use Rattle.report_line.specs.declared.report.Report.TheVariants as reports
 use Rattle.report_line.specs.declared.call.Call.{Call}
 use Rattle.report_line.specs.declared.call.Call.TheVariants as calls
@@ -42,12 +43,22 @@ action_fields (Fork f) = ids.spelling f.kept ∷ f.child ∷ ids.spelling f.give
 action_fields (Retire target) = target ∷ []
 action_fields (Absorb retired) = retired ∷ []
 
+-- the mark of an epoch, which epoch 0 has none of
+abbrev pub mark_text : ℕ → List ℕ
+mark_text zero = []
+mark_text (suc k) = codes "@" ++ decimal (suc k)
+
+-- the words of a report of this epoch
+abbrev pub report_words : ℕ → Report → List (List ℕ)
+report_words epoch (reports.Begin p) = codes "BEGIN" ∷ p ∷ []
+report_words epoch (reports.Numbered r) = (action_word r.action ++ mark_text epoch) ∷ r.process ∷ decimal r.number ∷ stamp_text r.stamp ∷ action_fields r.action
+
 -- the words of a call
 abbrev pub words_of : Call → List (List ℕ)
-words_of (calls.Report (reports.Begin p)) = codes "BEGIN" ∷ p ∷ []
-words_of (calls.Report (reports.Numbered r)) = action_word r.action ∷ r.process ∷ decimal r.number ∷ stamp_text r.stamp ∷ action_fields r.action
+words_of (calls.Report m) = report_words m.epoch m.report
 words_of (calls.Line ns) = codes "LINE" ∷ names_text ns ∷ []
 words_of calls.Garbage = codes "GARBAGE" ∷ []
+words_of (calls.Settle front ns) = codes "SETTLE" ∷ decimal front ∷ names_text ns ∷ []
 words_of (calls.State p) = codes "STATE" ∷ p ∷ []
 words_of calls.Bye = codes "BYE" ∷ []
 words_of (calls.Bad n) = []
@@ -72,12 +83,17 @@ pub record AreFields (r : NumberedReport) : Type 0 where
   pub stamped : IsStamp r.stamp
   pub acted : IsAction r.action
 
+-- the reports that have a line in this epoch; BEGIN has no mark
+abbrev pub IsSpelledIn : ℕ → Report → Type 0
+IsSpelledIn epoch (reports.Begin p) = (epoch ≡ 0) × IsTrue (is_name p)
+IsSpelledIn epoch (reports.Numbered r) = (epoch < 2 ^ 32) × AreFields r
+
 -- the calls that have a line
 abbrev pub HasSpelling : Call → Type 0
-HasSpelling (calls.Report (reports.Begin p)) = IsTrue (is_name p)
-HasSpelling (calls.Report (reports.Numbered r)) = AreFields r
+HasSpelling (calls.Report m) = IsSpelledIn m.epoch m.report
 HasSpelling (calls.Line ns) = AreNames ns
 HasSpelling calls.Garbage = ⊤
+HasSpelling (calls.Settle front ns) = IsCount front × AreNames ns
 HasSpelling (calls.State p) = IsTrue (is_name p)
 HasSpelling calls.Bye = ⊤
 HasSpelling (calls.Bad n) = ⊥

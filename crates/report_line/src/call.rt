@@ -2,8 +2,8 @@
 
 ghost use Rattle.std.specs.Prelude.{◌≡◌, IfOk};
 
+use crate::marked::MarkedReport;
 use crate::name::{Name, Names};
-use crate::packed::PackedReport;
 use crate::shared::Shared;
 use std::alloc::{AllocError, Global};
 
@@ -11,11 +11,13 @@ use std::alloc::{AllocError, Global};
 #[derive(Drop)]
 pub enum Call {
     /// A process reports an event.
-    Report(Shared<PackedReport>),
+    Report(MarkedReport),
     /// Where do all processes recover from, once these have failed?
     Line(Names),
     /// Where would all processes recover from, had every one of them failed? Checkpoints before that are obsolete.
     Garbage,
+    /// Return to the line of this front, once these have failed: what is not at or before it is undone.
+    Settle { front: u32, names: Names },
     /// What is kept of this process?
     State(Shared<Name>),
     /// The client is done.
@@ -35,6 +37,10 @@ impl Call {
             Call::Report(report) => Ok(Call::Report(report.share()?)),
             Call::Line(names) => Ok(Call::Line(names.copy(alloc)?)),
             Call::Garbage => Ok(Call::Garbage),
+            Call::Settle { front, names } => Ok(Call::Settle {
+                front: *front,
+                names: names.copy(alloc)?,
+            }),
             Call::State(name) => Ok(Call::State(name.share()?)),
             Call::Bye => Ok(Call::Bye),
             Call::Bad(number) => Ok(Call::Bad(*number)),

@@ -34,6 +34,10 @@ pub enum Code {
     Full,
     /// Memory ran out.
     OutOfMemory,
+    /// The front is another one.
+    OtherFront,
+    /// The report is of another epoch.
+    OtherEpoch,
 }
 
 impl Code {
@@ -56,6 +60,8 @@ impl Code {
             Code::NotJoined => 12,
             Code::Full => 15,
             Code::OutOfMemory => 16,
+            Code::OtherFront => 18,
+            Code::OtherEpoch => 19,
         }
     }
 }

@@ -2,7 +2,7 @@
 
 ghost use Rattle.std.specs.Prelude.{◌≡◌, ◌≢◌, ◌↔◌, Some, IsTrue, IfOk};
 ghost use Rattle.report_line.specs.declared.call.Call.TheVariants as calls;
-ghost use Rattle.report_line.specs.Reports.{process_of, number_of};
+ghost use Rattle.report_line.specs.Reports.{process_of, number_of, unmarked};
 ghost use Rattle.report_line.specs.Spelling.{IsAction, HasSpelling};
 ghost use Rattle.report_line.specs.View.{Shows, action_of, numbered_of};
 
@@ -271,7 +271,7 @@ impl PackedReport {
 
     /// Tells a proof that the report has a line: of its fields only a number that is 0 is never written.
     pub fn known(&self)
-        ensures { number_of self.now ≢ Some 0 → HasSpelling (calls.Report self.now) }
+        ensures { number_of self.now ≢ Some 0 → HasSpelling (calls.Report (unmarked self.now)) }
     {
         match self.view() {
             ReportView::Begin { process } => {

@@ -1,18 +1,19 @@
 //! Lines as calls.
 
-ghost use Rattle.std.specs.Prelude.{◌≡◌, ◌≢◌, ◌∷◌, [], IsTrue, IfOk, MatchResult, codes};
+ghost use Rattle.std.specs.Prelude.{◌≡◌, ◌≢◌, ◌∷◌, ℕ, List, [], IsTrue, IfOk, MatchOption, MatchResult, codes};
 ghost use Rattle.std.specs.Fmt.{decimal};
 ghost use Rattle.id_tree.specs.NormalForm.{IsId};
 ghost use Rattle.id_tree.specs.Spelling as ids;
 ghost use Rattle.stamp.specs.Stamps.{IsStamp, stamp_text};
 ghost use Rattle.report_line.specs.Names.{is_name};
 ghost use Rattle.report_line.specs.Spelling.{IsCount, AreNames, names_text, spelling, HasSpelling};
-ghost use Rattle.report_line.specs.Reading.{Finds, Reads, Takes, IsCallOf, IsActionOf, IsOtherKind};
+ghost use Rattle.report_line.specs.Reading.{Finds, Reads, Takes, IsCallOf, IsActionOf, IsNumberedOf, IsMarkedWord, IsOtherKind};
 ghost use Rattle.report_line.specs.Cuts.{words_in};
 ghost use Rattle.report_line.specs.declared.call.Call.{Call as AnyCall};
 
 use crate::call::Call;
 use crate::fault::LineFault;
+use crate::marked::MarkedReport;
 use crate::name::{Name, Names};
 use crate::number::number_of;
 use crate::packed::PackedReport;
@@ -175,21 +176,51 @@ fn read_action(alloc: Global, kind: &[u8], words: &mut Words<'_>) -> Result<Acti
     }
 }
 
-fn read_numbered(alloc: Global, kind: &[u8], words: &mut Words<'_>) -> Result<Call, LineFault>
-    requires { IsOtherKind kind.now }
-    ensures { Finds result (IsCallOf (kind.now ∷ words.old)) }
+// The first word of a line without the mark of an epoch, and the epoch.
+#[inline(always)]
+fn cut_mark(kind: &[u8]) -> Option<(&[u8], u32)>
+    ensures { MatchOption result ((word : List ℕ) (epoch : ℕ) → ¬ IsMarkedWord kind.now word epoch) (λ m. IsMarkedWord kind.now m.0.now m.1) }
+{
+    let Some((word, digits)) = cut_once(b'@', kind) else {
+        return Some((kind, 0));
+    };
+    match number_of(digits) {
+        Some(epoch) => Some((word, epoch)),
+        None => None,
+    }
+}
+
+// The report of this word and of the words behind it.
+#[inline(always)]
+fn read_fields(
+    alloc: Global,
+    kind: &[u8],
+    words: &mut Words<'_>,
+) -> Result<NumberedReport, LineFault>
+    ensures { Finds result (IsNumberedOf kind.now words.old) }
 {
     let process = take_name(words)?;
     let number = take_number(words)?;
     let stamp = take_stamp(alloc, words)?;
     let action = read_action(alloc, kind, words)?;
-    let report = PackedReport::of(Report::Numbered(NumberedReport {
+    Ok(NumberedReport {
         process,
         number,
         stamp,
         action,
-    }));
-    Ok(Call::Report(Shared::new(alloc, report)?))
+    })
+}
+
+fn read_numbered(alloc: Global, kind: &[u8], words: &mut Words<'_>) -> Result<Call, LineFault>
+    requires { IsOtherKind kind.now }
+    ensures { Finds result (IsCallOf (kind.now ∷ words.old)) }
+{
+    let Some((word, epoch)) = cut_mark(kind) else {
+        return Err(LineFault::Grammar);
+    };
+    let fields = read_fields(alloc, word, words)?;
+    let report = Shared::new(alloc, PackedReport::of(Report::Numbered(fields)))?;
+    Ok(Call::Report(MarkedReport { epoch, report }))
 }
 
 fn read_begin(alloc: Global, words: &mut Words<'_>) -> Result<Call, LineFault>
@@ -197,7 +228,7 @@ fn read_begin(alloc: Global, words: &mut Words<'_>) -> Result<Call, LineFault>
 {
     let process = last_name(words)?;
     let report = PackedReport::of(Report::Begin { process });
-    Ok(Call::Report(Shared::new(alloc, report)?))
+    Ok(Call::Report(MarkedReport::unmarked(Shared::new(alloc, report)?)))
 }
 
 fn read_failed(alloc: Global, words: &mut Words<'_>) -> Result<Call, LineFault>
@@ -219,6 +250,21 @@ fn read_garbage(words: &Words<'_>) -> Result<Call, LineFault>
 {
     if words.is_empty() {
         Ok(Call::Garbage)
+    } else {
+        Err(LineFault::Grammar)
+    }
+}
+
+fn read_settle(alloc: Global, words: &mut Words<'_>) -> Result<Call, LineFault>
+    ensures { Finds result (IsCallOf (codes "SETTLE" ∷ words.old)) }
+{
+    let front = take_number(words)?;
+    let Some(word) = words.next() else {
+        return Err(LineFault::Grammar);
+    };
+    let names = read_names(alloc, word)?;
+    if words.is_empty() {
+        Ok(Call::Settle { front, names })
     } else {
         Err(LineFault::Grammar)
     }
@@ -258,6 +304,8 @@ fn read_call(alloc: Global, line: &[u8]) -> Result<Call, LineFault>
         read_state(alloc, &mut words)
     } else if kind == b"BYE".as_slice() {
         read_bye(&words)
+    } else if kind == b"SETTLE".as_slice() {
+        read_settle(alloc, &mut words)
     } else {
         read_numbered(alloc, kind, &mut words)
     }

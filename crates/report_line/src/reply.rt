@@ -46,6 +46,11 @@ pub enum Reply {
         live: bool,
         id: Text,
     },
+    /// All returned to the line: the number of settlements, and the front, which counts this one.
+    Settled {
+        epoch: u32,
+        front: u32,
+    },
     /// The client is done.
     Bye,
     /// A certificate was asked for at this front. What is shown is found later, so this reply is never written.
@@ -103,6 +108,10 @@ impl Reply {
                 elements: *elements,
                 live: *live,
                 id: id.copy(alloc)?,
+            }),
+            Reply::Settled { epoch, front } => Ok(Reply::Settled {
+                epoch: *epoch,
+                front: *front,
             }),
             Reply::Bye => Ok(Reply::Bye),
             Reply::Taken(front) => Ok(Reply::Taken(*front)),

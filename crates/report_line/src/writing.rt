@@ -3,7 +3,8 @@
 ghost use Rattle.std.specs.Prelude.{◌≡◌, ◌++◌, ◌∷◌, OnOk, IfOk};
 ghost use Rattle.std.specs.Fmt.{decimal};
 ghost use Rattle.stamp.specs.Stamps.{stamp_text};
-ghost use Rattle.report_line.specs.Spelling.{spelling, action_word, action_fields};
+ghost use Rattle.report_line.specs.Reports.{unmarked};
+ghost use Rattle.report_line.specs.Spelling.{spelling, mark_text, action_word, action_fields};
 ghost use Rattle.report_line.specs.View.{action_of, numbered_of};
 ghost use Rattle.report_line.specs.declared.call.Call.TheVariants as calls;
 ghost use Rattle.report_line.specs.Replies.{or_dash, outcome_word, live_word, reply_text, IsWritten};
@@ -32,6 +33,17 @@ fn push_kind(out: &mut Vec<u8>, action: ActionView<'_>) -> Result<(), AllocError
         ActionView::Retire { .. } => out.extend_from_slice(b"RETIRE"),
         ActionView::Absorb { .. } => out.extend_from_slice(b"ABSORB"),
     }
+}
+
+// The mark of an epoch, which epoch 0 has none of.
+fn push_mark(out: &mut Vec<u8>, alloc: Global, epoch: u32) -> Result<(), AllocError>
+    ensures { OnOk result (out.new.items ≡ out.old.items ++ mark_text epoch) }
+{
+    if epoch > 0 {
+        out.push(b'@')?;
+        push_number(out, alloc, epoch)?;
+    }
+    Ok(())
 }
 
 // The words that each report with a number has behind its kind, each with a space in front of it.
@@ -71,7 +83,15 @@ fn push_fields(out: &mut Vec<u8>, action: ActionView<'_>) -> Result<(), AllocErr
 /// The one spelling of a report.
 #[tactic(auto, using(crate::proofs::Parting::joined_spaced), unfolding(crate::specs::Spelling::spelling))]
 pub fn write_line(alloc: Global, report: &PackedReport) -> Result<Vec<u8>, AllocError>
-    ensures { IfOk result (λ v. v.items ≡ spelling (calls.Report report.now)) }
+    ensures { IfOk result (λ v. v.items ≡ spelling (calls.Report (unmarked report.now))) }
+{
+    write_marked(alloc, 0, report)
+}
+
+/// The one spelling of a report of this epoch.
+#[tactic(auto, using(crate::proofs::Parting::joined_spaced), unfolding(crate::specs::Spelling::spelling))]
+pub fn write_marked(alloc: Global, epoch: u32, report: &PackedReport) -> Result<Vec<u8>, AllocError>
+    ensures { IfOk result (λ v. v.items ≡ spelling (calls.Report (record { epoch = epoch; report = report.now }))) }
 {
     let mut out = Vec::new(alloc);
     match report.view() {
@@ -82,6 +102,7 @@ pub fn write_line(alloc: Global, report: &PackedReport) -> Result<Vec<u8>, Alloc
         }
         ReportView::Numbered(numbered) => {
             push_kind(&mut out, numbered.action)?;
+            push_mark(&mut out, alloc, epoch)?;
             push_head(&mut out, alloc, numbered)?;
             push_fields(&mut out, numbered.action)?;
             Ok(out)
@@ -176,6 +197,12 @@ pub fn write_reply(alloc: Global, reply: &Reply) -> Result<Vec<u8>, AllocError>
             out.extend_from_slice(live_word(*live))?;
             out.push(b' ')?;
             out.extend_from_slice(id.as_bytes())?;
+        }
+        Reply::Settled { epoch, front } => {
+            out.extend_from_slice(b"SETTLED ")?;
+            push_number(&mut out, alloc, *epoch)?;
+            out.push(b' ')?;
+            push_number(&mut out, alloc, *front)?;
         }
         Reply::Bye => out.extend_from_slice(b"BYE")?,
         Reply::Taken(_) => unreachable!(),

@@ -5,6 +5,7 @@ use Rattle.report_line.specs.declared.report.Report.{Report}
 use Rattle.report_line.specs.declared.report.Report.TheVariants.{Begin}
 use Rattle.report_line.specs.declared.call.Call.TheVariants as calls
 use Rattle.report_line.specs.Cutting.{ended, NoBreak}
+use Rattle.report_line.specs.Reports.{unmarked}
 use Rattle.report_line.specs.Spelling.{spelling}
 use Rattle.report_line.specs.StepReports.{reports}
 use Rattle.driver.specs.declared.step.Step.{Step}
@@ -36,7 +37,7 @@ reports_of (Some world) = Begin world.root ∷ reports world.root world.history
 
 -- the text that is printed: the line of each report
 abbrev pub printed : List Report → List ℕ
-printed rs = flat_map (λ r. ended (spelling (calls.Report r))) rs
+printed rs = flat_map (λ r. ended (spelling (calls.Report (unmarked r)))) rs
 
 -- The world refuses the line that comes next: it is no step, or this fault is the first that applies to its step. Want of
 -- memory may come in place of any fault, and of a beginning.

@@ -1,5 +1,5 @@
 -- The text that the rounds choose: there is one, and where it holds.
-use Rattle.std.proofs.Common.{◌≡◌, ◌<◌, ◌↔◌, ℕ, Bool, List, length, sym, ap, subst, ◌∙◌, inl, inr, arith}
+use Rattle.std.proofs.Common.{◌≡◌, ◌<◌, ◌↔◌, ℕ, List, length, sym, ap, subst, ◌∙◌, inl, inr, arith}
 use Rattle.std.specs.Prelude.{Contains}
 use Rattle.std.proofs.lemmas.Option.{slice_get_within, slice_get_cases}
 use Rattle.report_line.specs.declared.report.Report.{Report}
@@ -15,6 +15,7 @@ use Rattle.chains.proofs.Turning.{unchanged}
 use Rattle.reasons.specs.declared.certificate.Certificate.{Certificate}
 use Rattle.reasons.specs.Certificates.{IsForNames}
 use Rattle.reasons.specs.CertificateText.{certificate_text}
+use Rattle.desk.specs.Lawful.{unstopped}
 use Rattle.propagate.specs.Choice.{IsChosenCertificate}
 use Rattle.propagate.proofs.Once.{one_certificate}
 use Rattle.session.specs.ChosenText.{IsChosenText, IsChosenFor}
@@ -72,38 +73,35 @@ one_text held names text other a b =
 -- ---- over chains behind a turn
 
 -- whether a store is stopped is not asked
-over_list : (accepted : List Report) (front : ℕ) (stopped down : Bool) (names : List Name) (text : List ℕ) → IsChosenText (record { accepted = accepted; front = front; stopped = stopped }) names text
-    → IsChosenText (record { accepted = accepted; front = front; stopped = down }) names text
-over_list accepted front stopped down names text h = record {
+over_stopped : (held : Held) (names : List Name) (text : List ℕ) → IsChosenText (unstopped held) names text → IsChosenText held names text
+over_stopped held names text h = record {
   certificate = h.certificate;
   for_names = h.for_names;
   chosen = record { front = h.chosen.front; in_order = h.chosen.in_order; just_these = h.chosen.just_these; rounds = h.chosen.rounds; chosen = h.chosen.chosen };
   text_is = h.text_is;
 }
 
-over_held : (held after : Held) (k : Kept) (names : List Report → List Name) (text : List ℕ) → after ≡ held → k.accepted ≡ after.accepted → k.front ≡ after.front → IsChosenText (held_of k) (names k.accepted) text → IsChosenText held (names held.accepted) text
-over_held held after k names text same list front h =
-    let a = list ∙ ap (λ (x : Held). x.accepted) same in
-    let f = front ∙ ap (λ (x : Held). x.front) same in
-    let over = over_list k.accepted k.front (held_of k).stopped held.stopped (names k.accepted) text h in
-    let listed = subst (λ (l : List Report). IsChosenText (record { accepted = l; front = k.front; stopped = held.stopped }) (names l) text) a over in
-    subst (λ (n : ℕ). IsChosenText (record { accepted = held.accepted; front = n; stopped = held.stopped }) (names held.accepted) text) f listed
+over_held : (held after : Held) (k : Kept) (names : List Report → List Name) (text : List ℕ) → after ≡ held → held_of k ≡ unstopped after → IsChosenText (held_of k) (names k.accepted) text → IsChosenText held (names held.accepted) text
+over_held held after k names text same holds h =
+    over_stopped held (names held.accepted) text (subst (λ (x : Held). IsChosenText x (names x.accepted) text) (holds ∙ ap unstopped same) h)
 
 -- what is chosen over the chains behind a turn is chosen over what was held before it
-pub chosen_at : (held after : Held) (k : Kept) (call : Call) (reply : Reply) (text : List ℕ) → IsTurn held call reply after → k.accepted ≡ after.accepted → k.front ≡ after.front → IsChosenFor (held_of k) call text → IsChosenFor held call text
-chosen_at held after k (calls.Line names) reply text (fate, t) list front h = over_held held after k (λ l. names) text (unchanged held.stopped fate held _ reply after t) list front h
-chosen_at held after k calls.Garbage reply text (fate, t) list front h = over_held held after k known text (unchanged held.stopped fate held _ reply after t) list front h
-chosen_at held after k (calls.Report r) reply text t list front h = absurd h
-chosen_at held after k (calls.State p) reply text t list front h = absurd h
-chosen_at held after k calls.Bye reply text t list front h = absurd h
-chosen_at held after k (calls.Bad n) reply text t list front h = absurd h
-chosen_at held after k calls.Unread reply text t list front h = absurd h
+pub chosen_at : (held after : Held) (k : Kept) (call : Call) (reply : Reply) (text : List ℕ) → IsTurn held call reply after → held_of k ≡ unstopped after → IsChosenFor (held_of k) call text → IsChosenFor held call text
+chosen_at held after k (calls.Line names) reply text (fate, t) holds h = over_held held after k (λ l. names) text (unchanged held.stopped fate held _ reply after t) holds h
+chosen_at held after k calls.Garbage reply text (fate, t) holds h = over_held held after k known text (unchanged held.stopped fate held _ reply after t) holds h
+chosen_at held after k (calls.Settle n names) reply text t holds h = absurd h
+chosen_at held after k (calls.Report m) reply text t holds h = absurd h
+chosen_at held after k (calls.State p) reply text t holds h = absurd h
+chosen_at held after k calls.Bye reply text t holds h = absurd h
+chosen_at held after k (calls.Bad n) reply text t holds h = absurd h
+chosen_at held after k calls.Unread reply text t holds h = absurd h
 
 -- one text for each call
 pub one_for : (held : Held) (call : Call) (text other : List ℕ) → IsChosenFor held call text → IsChosenFor held call other → text ≡ other
 one_for held (calls.Line names) text other a b = one_text held names text other a b
 one_for held calls.Garbage text other a b = one_text held (known held.accepted) text other a b
-one_for held (calls.Report r) text other a b = absurd a
+one_for held (calls.Report m) text other a b = absurd a
+one_for held (calls.Settle front names) text other a b = absurd a
 one_for held (calls.State p) text other a b = absurd a
 one_for held calls.Bye text other a b = absurd a
 one_for held (calls.Bad n) text other a b = absurd a

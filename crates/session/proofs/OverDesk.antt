@@ -2,7 +2,7 @@
 use Rattle.std.proofs.Common.{◌≡◌, ℕ, ◌+◌, List, [], ◌∷◌, ◌++◌, length, Some, refl, sym, ap, subst, ◌∙◌, append_assoc, append-nil, arith}
 use Rattle.std.proofs.lemmas.List.{length-append}
 use Rattle.chains.specs.Held.{Held}
-use Rattle.chains.specs.Admission.{IsReached}
+use Rattle.chains.specs.Folded.{IsReached}
 use Rattle.desk.specs.Desks.{DeskState}
 use Rattle.desk.specs.Files.{MayWantMemory}
 use Rattle.desk.specs.Lawful.{turn_limit}
@@ -84,7 +84,8 @@ desk_lawful keeps =
 -- a call of which memory may be wanting asks for a state
 asks_state : (held : Held) (call : Call) → MayWantMemory held call → IsQuestion call
 asks_state held (calls.State p) may = tt
-asks_state held (calls.Report r) may = absurd may
+asks_state held (calls.Report m) may = absurd may
+asks_state held (calls.Settle front names) may = absurd may
 asks_state held (calls.Line names) may = absurd may
 asks_state held calls.Garbage may = absurd may
 asks_state held calls.Bye may = absurd may

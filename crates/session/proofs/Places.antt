@@ -4,16 +4,17 @@ use Rattle.report_line.specs.declared.call.Call.{Call}
 use Rattle.report_line.specs.declared.call.Call.TheVariants as calls
 use Rattle.report_line.specs.declared.reply.Reply.{Reply}
 use Rattle.chains.specs.Held.{Held}
-use Rattle.chains.specs.Admission.{IsReached}
+use Rattle.chains.specs.Folded.{IsReached}
 use Rattle.chains.specs.Turns.{IsTurn}
 use Rattle.chains.proofs.Turning.{unchanged, after_report_turn, turn_reached}
 use Rattle.session.specs.SessionText.{Exchange}
 use Rattle.session.specs.Turned.{IsExchange, Served, after_call, held_by}
 
 pub after_turn : (held after : Held) (call : Call) (reply : Reply) → IsTurn held call reply after → after ≡ after_call held call reply
-after_turn held after (calls.Report r) reply (fate, t) = after_report_turn held.stopped fate held r reply after t
+after_turn held after (calls.Report m) reply (fate, t) = after_report_turn held.stopped fate held m reply after t
 after_turn held after (calls.Line names) reply (fate, t) = unchanged held.stopped fate held _ reply after t
 after_turn held after calls.Garbage reply (fate, t) = unchanged held.stopped fate held _ reply after t
+after_turn held after (calls.Settle front names) reply (fate, t) = t.2
 after_turn held after (calls.State p) reply (fate, t) = unchanged held.stopped fate held _ reply after t
 after_turn held after calls.Bye reply (fate, t) = t.2
 after_turn held after (calls.Bad n) reply (fate, t) = t.2

@@ -6,9 +6,8 @@ use Rattle.report_line.specs.declared.reply.Reply.{Reply}
 use Rattle.report_line.specs.declared.reply.Reply.TheVariants as replies
 use Rattle.chains.specs.Processes.{Name, known}
 use Rattle.chains.specs.Held.{Held}
-use Rattle.chains.specs.Admission.{IsReached}
+use Rattle.chains.specs.Folded.{IsReached}
 use Rattle.chains.specs.Turns.{IsTurn}
-use Rattle.chains.proofs.Folding.{reached_folded}
 use Rattle.chains.proofs.Unfailing.{no_line}
 use Rattle.knows_row.proofs.Lawful.{lawful}
 use Rattle.reasons.specs.Certificates.{positions_of}
@@ -24,7 +23,7 @@ use Rattle.session.proofs.Places.{served_at, places_reached}
 -- the text of a certificate that certifies is right
 right_text : (held : Held) (names : List Name) (text : List ℕ) → IsReached held → IsLineText held names text → IsRightLine held names text
 right_text held names text reach t =
-    let folded = reached_folded held.accepted reach.reachable in
+    let folded = reach.folded in
     record {
       certificate = t.certificate;
       text_is = t.text_is;
@@ -49,7 +48,8 @@ right_shown : (held : Held) (call : Call) (reply : Reply) (text : List ℕ) (aft
     → (names : List Name) × AsksForLine held call names × IsRightLine held names text
 right_shown held (calls.Line names) reply text after reach turned shown = (names, refl, line_shown held (calls.Line names) names reply text after reach turned shown)
 right_shown held calls.Garbage reply text after reach turned shown = (known held.accepted, refl, line_shown held calls.Garbage (known held.accepted) reply text after reach turned shown)
-right_shown held (calls.Report r) reply text after reach turned shown = absurd (no_line held after (calls.Report r) text (subst (λ (x : Reply). IsTurn held (calls.Report r) x after) (sym shown) turned))
+right_shown held (calls.Report m) reply text after reach turned shown = absurd (no_line held after (calls.Report m) text (subst (λ (x : Reply). IsTurn held (calls.Report m) x after) (sym shown) turned))
+right_shown held (calls.Settle front names) reply text after reach turned shown = absurd (no_line held after (calls.Settle front names) text (subst (λ (x : Reply). IsTurn held (calls.Settle front names) x after) (sym shown) turned))
 right_shown held (calls.State p) reply text after reach turned shown = absurd (no_line held after (calls.State p) text (subst (λ (x : Reply). IsTurn held (calls.State p) x after) (sym shown) turned))
 right_shown held calls.Bye reply text after reach turned shown = absurd (no_line held after calls.Bye text (subst (λ (x : Reply). IsTurn held calls.Bye x after) (sym shown) turned))
 right_shown held (calls.Bad n) reply text after reach turned shown = absurd (no_line held after (calls.Bad n) text (subst (λ (x : Reply). IsTurn held (calls.Bad n) x after) (sym shown) turned))

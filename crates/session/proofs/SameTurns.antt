@@ -4,6 +4,7 @@ use Rattle.std.specs.Prelude.{◌⊎◌}
 use Rattle.std.proofs.lemmas.List.Elements.{All-head, All-tail}
 use Rattle.report_line.specs.declared.code.Code.TheVariants.{UnknownProcess}
 use Rattle.report_line.specs.declared.report.Report.{Report}
+use Rattle.report_line.specs.declared.marked.MarkedReport.{MarkedReport}
 use Rattle.report_line.specs.declared.call.Call.{Call}
 use Rattle.report_line.specs.declared.call.Call.TheVariants as calls
 use Rattle.report_line.specs.declared.reply.Outcome.{Outcome}
@@ -81,19 +82,20 @@ question_once : (stopped : Bool) (fate other : Fate) (held after then_held : Hel
 question_once true fate other held after then_held Answers x y once p t u = absurd (p.device Stopped t.1)
 question_once false fate other held after then_held Answers x y once p t u = once t.1 u.1
 
-report_once : (stopped : Bool) (fate other : Fate) (held after then_held : Held) (r : Report) (x y : Reply) → IsSettled x → IsSettled y
-    → IsReported stopped fate held r x after → IsReported stopped other held r y then_held → x ≡ y
-report_once true fate other held after then_held r x y p q t u = absurd (p.device Stopped t.1)
-report_once false fine fine held after then_held r x y p q t u = one_answer held x y r t.0 u.0
-report_once false fine memory held after then_held r x y p q t u = absurd (q.memory u.3)
-report_once false fine before held after then_held r x y p q t u = absurd (q.device Before u.1)
-report_once false fine unknown held after then_held r x y p q t u = absurd (q.device Unknown u.1)
-report_once false memory other held after then_held r x y p q t u = absurd (p.memory t.3)
-report_once false before other held after then_held r x y p q t u = absurd (p.device Before t.1)
-report_once false unknown other held after then_held r x y p q t u = absurd (p.device Unknown t.1)
+report_once : (stopped : Bool) (fate other : Fate) (held after then_held : Held) (m : MarkedReport) (x y : Reply) → IsSettled x → IsSettled y
+    → IsReported stopped fate held m x after → IsReported stopped other held m y then_held → x ≡ y
+report_once true fate other held after then_held m x y p q t u = absurd (p.device Stopped t.1)
+report_once false fine fine held after then_held m x y p q t u = one_answer held x y m.epoch m.report t.0 u.0
+report_once false fine memory held after then_held m x y p q t u = absurd (q.memory u.3)
+report_once false fine before held after then_held m x y p q t u = absurd (q.device Before u.1)
+report_once false fine unknown held after then_held m x y p q t u = absurd (q.device Unknown u.1)
+report_once false memory other held after then_held m x y p q t u = absurd (p.memory t.3)
+report_once false before other held after then_held m x y p q t u = absurd (p.device Before t.1)
+report_once false unknown other held after then_held m x y p q t u = absurd (p.device Unknown t.1)
 
 one_reply : (held after then_held : Held) (call : Call) (x y : Reply) → IsSettled x → IsSettled y → IsTurn held call x after → IsTurn held call y then_held → x ≡ y
-one_reply held after then_held (calls.Report r) x y p q (fate, t) (other, u) = report_once held.stopped fate other held after then_held r x y p q t u
+one_reply held after then_held (calls.Report m) x y p q (fate, t) (other, u) = report_once held.stopped fate other held after then_held m x y p q t u
+one_reply held after then_held (calls.Settle front names) x y p q (fate, t) (other, u) = t.1 ∙ sym u.1
 one_reply held after then_held (calls.Line names) x y p q (fate, t) (other, u) = question_once held.stopped fate other held after then_held (IsLineReply held names) x y (line_once held names x y) p t u
 one_reply held after then_held calls.Garbage x y p q (fate, t) (other, u) = question_once held.stopped fate other held after then_held (IsGarbageReply held) x y (garbage_once held x y) p t u
 one_reply held after then_held (calls.State p) x y s q (fate, t) (other, u) =
@@ -112,7 +114,8 @@ line_as held names reply shown is other = is
 shown_as : (held : Held) (call : Call) (reply shown : Reply) → IsShown held call reply shown → ((front : ℕ) → reply ≢ replies.Taken front) → shown ≡ reply
 shown_as held (calls.Line names) reply shown is other = line_as held names reply shown is other
 shown_as held calls.Garbage reply shown is other = line_as held (known held.accepted) reply shown is other
-shown_as held (calls.Report r) reply shown is other = is
+shown_as held (calls.Report m) reply shown is other = is
+shown_as held (calls.Settle front names) reply shown is other = is
 shown_as held (calls.State p) reply shown is other = is
 shown_as held calls.Bye reply shown is other = is
 shown_as held (calls.Bad n) reply shown is other = is
@@ -135,7 +138,8 @@ shown_same : (held : Held) (call : Call) (reply x y : Reply) → IsShown held ca
     → ((text other : List ℕ) → x ≡ replies.Line text → y ≡ replies.Line other → text ≡ other) → x ≡ y
 shown_same held (calls.Line names) reply x y a b p q once = line_same held names reply x y a b p q once
 shown_same held calls.Garbage reply x y a b p q once = line_same held (known held.accepted) reply x y a b p q once
-shown_same held (calls.Report r) reply x y a b p q once = a ∙ sym b
+shown_same held (calls.Report m) reply x y a b p q once = a ∙ sym b
+shown_same held (calls.Settle front names) reply x y a b p q once = a ∙ sym b
 shown_same held (calls.State n) reply x y a b p q once = a ∙ sym b
 shown_same held calls.Bye reply x y a b p q once = a ∙ sym b
 shown_same held (calls.Bad n) reply x y a b p q once = a ∙ sym b

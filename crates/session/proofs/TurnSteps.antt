@@ -20,7 +20,9 @@ use Rattle.chains.specs.Failures.{IsFailedSet}
 use Rattle.chains.specs.Turns.{Fate, IsQuestionTurn, IsTurn}
 use Rattle.desk.specs.Desks.{DeskState}
 use Rattle.desk.specs.Files.{IsShort}
+use Rattle.desk.specs.Lawful.{unstopped}
 use Rattle.desk.proofs.Short.{short_call}
+use Rattle.desk.proofs.Unsettled.{is_unstopped}
 use Rattle.desk.specs.declared.turn.Turn.{Turn}
 use Rattle.reasons.specs.Shown.{IsLineText, IsLineShown, IsShown}
 use Rattle.reasons.specs.declared.certificate.Certificate.{Certificate}
@@ -54,13 +56,15 @@ line_as_is held names (replies.Bad n) other = refl
 line_as_is held names (replies.Line text) other = refl
 line_as_is held names (replies.Fail outcome) other = refl
 line_as_is held names (replies.State name reports elements live id) other = refl
+line_as_is held names (replies.Settled epoch front) other = refl
 line_as_is held names replies.Bye other = refl
 
 -- a reply by which no line was taken is shown as it is
 pub as_it_is : (held : Held) (call : Call) (reply : Reply) → ((front : ℕ) → reply ≢ replies.Taken front) → IsShown held call reply reply
 as_it_is held (calls.Line names) reply other = line_as_is held names reply other
 as_it_is held calls.Garbage reply other = line_as_is held (known held.accepted) reply other
-as_it_is held (calls.Report r) reply other = refl
+as_it_is held (calls.Report m) reply other = refl
+as_it_is held (calls.Settle front names) reply other = refl
 as_it_is held (calls.State p) reply other = refl
 as_it_is held calls.Bye reply other = refl
 as_it_is held (calls.Bad n) reply other = refl
@@ -73,35 +77,34 @@ taken_runs : (stopped : Bool) (fate : Fate) (held after : Held) (Answers : Reply
 taken_runs true fate held after Answers front t = absurd (let e = t.1 in cc)
 taken_runs false fate held after Answers front t = (refl, t.2)
 
-same_held : (held after : Held) (k : Kept) → held.stopped ≡ false → after ≡ held → k.accepted ≡ after.accepted → k.front ≡ after.front → held_of k ≡ held
-same_held held after k runs same list front =
-    let a = list ∙ ap (λ (h : Held). h.accepted) same in
-    let f = front ∙ ap (λ (h : Held). h.front) same in
-    rw (a, f) (ap (λ (s : Bool). record { accepted = held.accepted; front = held.front; stopped = s }) (sym runs))
+same_held : (held after : Held) (k : Kept) → held.stopped ≡ false → after ≡ held → held_of k ≡ unstopped after → held_of k ≡ held
+same_held held after k runs same holds = holds ∙ ap unstopped same ∙ sym (is_unstopped held runs)
 
 line_fits : (stopped : Bool) (fate : Fate) (held after : Held) (Answers : Reply → Type 0) (k : Kept) (names : Held → List Name) (reply shown : Reply) → held.stopped ≡ stopped → IsQuestionTurn stopped fate held Answers reply after
-    → k.accepted ≡ after.accepted → k.front ≡ after.front → IsLineShown (held_of k) (names (held_of k)) reply shown → IsLineShown held (names held) reply shown
-line_fits stopped fate held after Answers k names (replies.Taken front) shown e t list n s =
+    → held_of k ≡ unstopped after → IsLineShown (held_of k) (names (held_of k)) reply shown → IsLineShown held (names held) reply shown
+line_fits stopped fate held after Answers k names (replies.Taken front) shown e t holds s =
     let runs = taken_runs stopped fate held after Answers front t in
-    subst (λ (h : Held). IsLineShown h (names h) (replies.Taken front) shown) (same_held held after k (e ∙ runs.0) runs.1 list n) s
-line_fits stopped fate held after Answers k names (replies.Accepted front) shown e t list n s = s
-line_fits stopped fate held after Answers k names (replies.Old front) shown e t list n s = s
-line_fits stopped fate held after Answers k names (replies.No code name value) shown e t list n s = s
-line_fits stopped fate held after Answers k names (replies.Bad m) shown e t list n s = s
-line_fits stopped fate held after Answers k names (replies.Line text) shown e t list n s = s
-line_fits stopped fate held after Answers k names (replies.Fail outcome) shown e t list n s = s
-line_fits stopped fate held after Answers k names (replies.State name reports elements live id) shown e t list n s = s
-line_fits stopped fate held after Answers k names replies.Bye shown e t list n s = s
+    subst (λ (h : Held). IsLineShown h (names h) (replies.Taken front) shown) (same_held held after k (e ∙ runs.0) runs.1 holds) s
+line_fits stopped fate held after Answers k names (replies.Accepted front) shown e t holds s = s
+line_fits stopped fate held after Answers k names (replies.Old front) shown e t holds s = s
+line_fits stopped fate held after Answers k names (replies.No code name value) shown e t holds s = s
+line_fits stopped fate held after Answers k names (replies.Bad m) shown e t holds s = s
+line_fits stopped fate held after Answers k names (replies.Line text) shown e t holds s = s
+line_fits stopped fate held after Answers k names (replies.Fail outcome) shown e t holds s = s
+line_fits stopped fate held after Answers k names (replies.State name reports elements live id) shown e t holds s = s
+line_fits stopped fate held after Answers k names (replies.Settled epoch front) shown e t holds s = s
+line_fits stopped fate held after Answers k names replies.Bye shown e t holds s = s
 
 -- what is shown over the chains behind a turn is shown over what was held before it
-fits_at : (held after : Held) (k : Kept) (call : Call) (reply shown : Reply) → IsTurn held call reply after → k.accepted ≡ after.accepted → k.front ≡ after.front → IsShown (held_of k) call reply shown → IsShown held call reply shown
-fits_at held after k (calls.Line names) reply shown (fate, t) list n s = line_fits held.stopped fate held after _ k (λ h. names) reply shown refl t list n s
-fits_at held after k calls.Garbage reply shown (fate, t) list n s = line_fits held.stopped fate held after _ k (λ h. known h.accepted) reply shown refl t list n s
-fits_at held after k (calls.Report r) reply shown t list n s = s
-fits_at held after k (calls.State p) reply shown t list n s = s
-fits_at held after k calls.Bye reply shown t list n s = s
-fits_at held after k (calls.Bad m) reply shown t list n s = s
-fits_at held after k calls.Unread reply shown t list n s = s
+fits_at : (held after : Held) (k : Kept) (call : Call) (reply shown : Reply) → IsTurn held call reply after → held_of k ≡ unstopped after → IsShown (held_of k) call reply shown → IsShown held call reply shown
+fits_at held after k (calls.Line names) reply shown (fate, t) holds s = line_fits held.stopped fate held after _ k (λ h. names) reply shown refl t holds s
+fits_at held after k calls.Garbage reply shown (fate, t) holds s = line_fits held.stopped fate held after _ k (λ h. known h.accepted) reply shown refl t holds s
+fits_at held after k (calls.Report m) reply shown t holds s = s
+fits_at held after k (calls.Settle front names) reply shown t holds s = s
+fits_at held after k (calls.State p) reply shown t holds s = s
+fits_at held after k calls.Bye reply shown t holds s = s
+fits_at held after k (calls.Bad m) reply shown t holds s = s
+fits_at held after k calls.Unread reply shown t holds s = s
 
 -- the last of the turns
 pub last_turn : (turns old : List Turn) (x y : Turn) → turns ≡ old ++ x ∷ [] → Some y ≡ slice_get turns (length turns - 1) → y ≡ x
@@ -112,12 +115,12 @@ last_turn turns old x y is at =
 -- a desk's turn, and what is shown for it
 pub makes_turn : {D : Type 0} (keeps : D → Type 0) (desk after : DeskState D) (k : Kept) (call : Call) (reply shown : Reply) (number : ℕ) → IsTurn desk.held call reply after.held
     → after.turns ≡ desk.turns ++ record { call = call; receipt = record { turn = number; reply = reply } } ∷ [] → number ≡ length desk.turns + 1 → after.opening ≡ desk.opening → (keeps after.disk ↔ keeps desk.disk)
-    → k.accepted ≡ after.held.accepted → k.front ≡ after.held.front → IsShown (held_of k) call reply shown → ((text : List ℕ) → reply ≢ replies.Line text → shown ≡ replies.Line text → IsChosenFor (held_of k) call text) → MakesTurns keeps desk (record { call = call; reply = reply; shown = shown } ∷ []) after
-makes_turn keeps desk after k call reply shown number turned turns is opening premise list n fits chose =
+    → held_of k ≡ unstopped after.held → IsShown (held_of k) call reply shown → ((text : List ℕ) → reply ≢ replies.Line text → shown ≡ replies.Line text → IsChosenFor (held_of k) call text) → MakesTurns keeps desk (record { call = call; reply = reply; shown = shown } ∷ []) after
+makes_turn keeps desk after k call reply shown number turned turns is opening premise holds fits chose =
     record {
-      served = (after.held, record { turned = turned; fits = fits_at desk.held after.held k call reply shown turned list n fits }, refl);
+      served = (after.held, record { turned = turned; fits = fits_at desk.held after.held k call reply shown turned holds fits }, refl);
       chosen = (
-        λ text e. chosen_at desk.held after.held k call reply text turned list n (chose text (λ line. no_line desk.held after.held call text (subst (λ (r : Reply). IsTurn desk.held call r after.held) line turned)) e),
+        λ text e. chosen_at desk.held after.held k call reply text turned holds (chose text (λ line. no_line desk.held after.held call text (subst (λ (r : Reply). IsTurn desk.held call r after.held) line turned)) e),
         tt,
       );
       turns = turns ∙ ap (λ (m : ℕ). desk.turns ++ record { call = call; receipt = record { turn = m; reply = reply } } ∷ []) is;

@@ -22,7 +22,8 @@ line_shown held names (Taken front) shown other (inr is) o e = cc
 line_shown held names reply shown other is o e = other o (sym is ∙ e)
 
 shown_for : (held : Held) (call : Call) (reply shown : Reply) → ((o : Outcome) → reply ≢ Fail o) → IsShown held call reply shown → (o : Outcome) → shown ≢ Fail o
-shown_for held (calls.Report r) reply shown other is o e = other o (sym is ∙ e)
+shown_for held (calls.Report m) reply shown other is o e = other o (sym is ∙ e)
+shown_for held (calls.Settle front names) reply shown other is o e = other o (sym is ∙ e)
 shown_for held (calls.Line names) reply shown other is o e = line_shown held names reply shown other is o e
 shown_for held calls.Garbage reply shown other is o e = line_shown held (known held.accepted) reply shown other is o e
 shown_for held (calls.State p) reply shown other is o e = other o (sym is ∙ e)

@@ -30,9 +30,10 @@ ShowsFailure exchange = (outcome : Outcome) × (exchange.shown ≡ Fail outcome)
 
 -- what is held behind a call with this reply: only a report changes it
 abbrev pub after_call : Held → Call → Reply → Held
-after_call held (calls.Report r) reply = held_after held r reply
+after_call held (calls.Report m) reply = held_after held m reply
 after_call held (calls.Line names) reply = held
 after_call held calls.Garbage reply = held
+after_call held (calls.Settle front names) reply = held
 after_call held (calls.State p) reply = held
 after_call held calls.Bye reply = held
 after_call held (calls.Bad n) reply = held

@@ -4,7 +4,7 @@ ghost use Rattle.std.specs.Prelude.{◌≡◌, ◌++◌, ℕ, List, false, map};
 ghost use Rattle.std.specs.List.{AllByRecursion};
 ghost use Rattle.chains.specs.Processes.{Name as AnyName};
 ghost use Rattle.chains.specs.Held.{Held};
-ghost use Rattle.chains.specs.Admission.{IsReached};
+ghost use Rattle.chains.specs.Folded.{IsReached};
 ghost use Rattle.session.specs.declared.kind.Kind.TheVariants as kinds;
 ghost use Rattle.session.specs.ChosenText.{IsChosenText};
 ghost use Rattle.session.specs.OneText.{IsUndisturbed};

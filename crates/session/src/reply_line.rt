@@ -130,6 +130,27 @@ fn put_state<K: Link>(
     )
 }
 
+/// That all return to a line, and an LF.
+#[tactic(auto, unfolding(report_line::specs::Replies::reply_text))]
+fn put_settled<K: Link>(link: &mut K, epoch: u32, front: u32) -> Result<(), LinkFault>
+    ensures { Puts (K.told link.old) (K.told link.new) result (ended (reply_text (Reply.Settled epoch front))) }
+{
+    let mut of_epoch = Buffer::new();
+    let mut of_front = Buffer::new();
+    let epoch = of_epoch.format(epoch).as_bytes();
+    let front = of_front.format(front).as_bytes();
+    put_all(
+        link,
+        &[
+            b"SETTLED ".as_slice(),
+            epoch,
+            b" ".as_slice(),
+            front,
+            b"\n".as_slice(),
+        ],
+    )
+}
+
 /// A reply and an LF, from its parts.
 #[tactic(auto, unfolding(report_line::specs::Replies::reply_text))]
 pub(crate) fn put_reply<K: Link>(link: &mut K, reply: &Reply) -> Result<(), LinkFault>
@@ -152,6 +173,7 @@ pub(crate) fn put_reply<K: Link>(link: &mut K, reply: &Reply) -> Result<(), Link
             live,
             id,
         } => put_state(link, name, *reports, *elements, *live, id),
+        Reply::Settled { epoch, front } => put_settled(link, *epoch, *front),
         Reply::Bye => put(link, b"BYE\n"),
         Reply::Taken(_) => put(link, b"\n"),
     }

@@ -92,9 +92,12 @@ fn shown_for(chains: &Chains, call: &Call, reply: Reply) -> Reply
         Reply::Taken(front) => match call {
             Call::Line(names) => line_of(chains, names.as_slice()),
             Call::Garbage => garbage_of(chains),
-            Call::Report(_) | Call::State(_) | Call::Bye | Call::Bad(_) | Call::Unread => {
-                Reply::Taken(front)
-            }
+            Call::Report(_)
+            | Call::Settle { .. }
+            | Call::State(_)
+            | Call::Bye
+            | Call::Bad(_)
+            | Call::Unread => Reply::Taken(front),
         },
         other => other,
     }

@@ -13,7 +13,7 @@ fn reports_of(alloc: Global, lines: &[&[u8]]) -> Result<Vec<PackedReport>, Alloc
         let Ok(Call::Report(report)) = read_line(alloc, line) else {
             return Ok(reports);
         };
-        let copy = report.copy(alloc)?;
+        let copy = report.report.copy(alloc)?;
         reports.push(copy)?;
     }
     Ok(reports)

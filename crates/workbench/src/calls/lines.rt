@@ -4,13 +4,13 @@ use super::answer::put_by;
 use client_link::Streams;
 use desk::Desk;
 use line_disk::MemoryDisk;
-use report_line::{Call, PackedReport, read_line, write_line};
+use report_line::{Call, MarkedReport, read_line, write_marked};
 use session::run;
 use std::alloc::{AllocError, Global};
 use std::io::BufWriter;
 
-fn put_report(report: &PackedReport, out: &mut Vec<u8>) -> Result<(), AllocError> {
-    let line = write_line(*out.allocator(), report)?;
+fn put_report(report: &MarkedReport, out: &mut Vec<u8>) -> Result<(), AllocError> {
+    let line = write_marked(*out.allocator(), report.epoch, &report.report)?;
     out.extend_from_slice(&line)
 }
 

@@ -20,7 +20,7 @@ const RUNS: u32 = 10;
 /// Admits the report of the line, if it is one that is accepted.
 fn admit(chains: &mut Chains, line: &[u8]) {
     if let Ok(Call::Report(report)) = read_line(chains.alloc(), line) {
-        let _ = chains.admit(&report);
+        let _ = chains.admit_shared(report);
     }
 }
 

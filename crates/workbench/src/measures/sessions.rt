@@ -5,7 +5,7 @@ use anyhow::Result;
 use client_link::Streams;
 use desk::Desk;
 use line_disk::NullDisk;
-use report_line::{Call, PackedReport, Shared, read_line};
+use report_line::{Call, MarkedReport, read_line};
 use session::run;
 use std::alloc::{AllocError, Global};
 use std::io::BufWriter;
@@ -32,7 +32,7 @@ fn lines(alloc: Global) -> Result<Vec<u8>, AllocError> {
 }
 
 /// Whether it is another report than the one before.
-fn is_new(last: &Option<Shared<PackedReport>>, report: &PackedReport) -> bool {
+fn is_new(last: &Option<MarkedReport>, report: &MarkedReport) -> bool {
     match last {
         None => true,
         Some(before) => !before.equal(report),
@@ -40,7 +40,7 @@ fn is_new(last: &Option<Shared<PackedReport>>, report: &PackedReport) -> bool {
 }
 
 /// Reads a line, and compares its report with the one before, in whose place it comes; whether it is a new one.
-fn read_next(alloc: Global, last: &mut Option<Shared<PackedReport>>, line: &[u8]) -> bool {
+fn read_next(alloc: Global, last: &mut Option<MarkedReport>, line: &[u8]) -> bool {
     let Ok(Call::Report(report)) = read_line(alloc, line) else {
         return false;
     };
@@ -52,7 +52,7 @@ fn read_next(alloc: Global, last: &mut Option<Shared<PackedReport>>, line: &[u8]
 /// Reads the lines and compares each report with the one before; how many were reports.
 fn plain_loop(alloc: Global, input: &[u8]) -> u64 {
     let mut reports = 0u64;
-    let mut last: Option<Shared<PackedReport>> = None;
+    let mut last: Option<MarkedReport> = None;
     for line in input.split(|b| *b == b'\n') {
         if read_next(alloc, &mut last, line) {
             reports = reports.wrapping_add(1);

@@ -8,7 +8,7 @@ use Rattle.desk.proofs.placing.append.Goals as goal
 
 pub append-requires-clause-some : goal.append-requires-clause-some
 append-requires-clause-some g c =
-    subst (λ (l : List ℕ). 1 ≤ length l) (sym (c.deref.ensures.value ∙ c.in-Ok.ensures ∙ ap line_of c.report-2.ensures)) (some_line c.args.ready.report)
+    subst (λ (l : List ℕ). 1 ≤ length l) (sym (c.deref.ensures.value ∙ c.in-Ok.ensures ∙ ap line_of c.report-2.ensures)) (some_line c.args.ready.report.report)
 
 pub returns-in-Done-clause-any_moment : goal.returns-in-Done-clause-any_moment
 returns-in-Done-clause-any_moment g c = λ keeps.
@@ -35,7 +35,7 @@ returns-in-Unknown-clause-left g c = λ keeps file left.
 pub returns-in-Done-clause-spelled : goal.returns-in-Done-clause-spelled
 returns-in-Done-clause-spelled g c = λ before.
     subst AreSpelled (sym (ap (λ (h : Held). h.accepted) c.commit.ensures.1))
-    (spelled_more _ c.args.ready.report (written (held_of c.args.chains.now) c.args.ready.report c.report.result.now c.report.ensures c.requires.ready.admitted c.known.ensures) before)
+    (spelled_more _ c.args.ready.report.report (written (held_of c.args.chains.now) c.args.ready.report c.report.result.now c.report.ensures c.requires.ready.admitted c.known.ensures) before)
 
 pub returns-in-Unknown-clause-pending : goal.returns-in-Unknown-clause-pending
 returns-in-Unknown-clause-pending g c = λ unknown.
@@ -48,7 +48,7 @@ returns-in-Done-clause-placed g c = λ keeps.
 
 pub returns-in-Before-clause-placed : goal.returns-in-Before-clause-placed
 returns-in-Before-clause-placed g c = λ keeps.
-    placed_before _ c.args.ready.report _ _ _ c.failed.ensures (c.in-Before.ensures.so_far _ keeps (c.requires.rest keeps))
+    placed_before _ c.args.ready.report.report _ _ _ c.failed.ensures (c.in-Before.ensures.so_far _ keeps (c.requires.rest keeps))
 
 pub returns-in-Unknown-clause-placed : goal.returns-in-Unknown-clause-placed
 returns-in-Unknown-clause-placed g c = λ keeps.

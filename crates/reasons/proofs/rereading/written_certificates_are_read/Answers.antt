@@ -5,4 +5,4 @@ pub returns-clause-read : goal.returns-clause-read
 returns-clause-read c = read_again c.args.chains.now.accepted c.known_names_are_names.ensures
 
 pub returns-clause-only : goal.returns-clause-only
-returns-clause-only c = read_only c.args.chains.now.accepted c.known_names_are_names.ensures c.lawful.ensures.reachable
+returns-clause-only c = read_only c.args.chains.now.accepted c.known_names_are_names.ensures c.lawful.ensures.folded

@@ -7,7 +7,7 @@ use Rattle.recline.proofs.checking.check_on.Goals as goal
 pub returns-in-Ok : goal.returns-in-Ok
 returns-in-Ok g c =
     let opened = c.in-Ok.ensures in
-    let held = held_by_chains c.chains.result.now c.in-Ok.desk.held c.chains.ensures.accepted c.chains.ensures.front opened.fresh.2 in
+    let held = held_by_chains c.chains.result.now c.in-Ok.desk.held c.chains.ensures.held opened.fresh.2 in
     inl (record {
       desk = c.in-Ok.desk;
       opened = record { records = opened.records; any_moment = opened.any_moment; fresh = opened.fresh; premise = opened.premise };

@@ -1,6 +1,7 @@
-use Rattle.std.proofs.Common.{map, ◌≡◌, ℕ, length, ap, ◌∙◌, subst, refl, arith}
+use Rattle.std.proofs.Common.{map, ◌≡◌, ℕ, ◌+◌, [], ◌∷◌, length, ap, ◌∙◌, subst, refl, arith}
+use Rattle.std.proofs.lemmas.List.{length-append}
 use Rattle.report_line.specs.declared.report.Report.{Report}
-use Rattle.chains.specs.Answers.{MayBeAccepted}
+use Rattle.chains.specs.Fitting.{MayBePut}
 use Rattle.chains.specs.Keeping.{view_of}
 use Rattle.chains.specs.Noting.{names_after, IsKeptBy}
 use Rattle.chains.specs.Inside.{kept_in}
@@ -11,21 +12,26 @@ use Rattle.chains.proofs.chains.Chains.accept.Goals as goal
 pub keep-requires-clause-fits : goal.keep-requires-clause-fits
 keep-requires-clause-fits c =
     let a = c.self.inside in
-    let ready : MayBeAccepted (kept_in a) (ready_in c.ready.inside) = rw (← c.self.view_is, ← c.ready.view_is) at c.requires in
-    rw c.deref.ensures (may_be_kept (kept_in a) a.names.keys a.processes.items c.ready.inside.report c.ready.inside.process c.self.invariant.fields refl ready.process ready.element_room)
+    let ready : MayBePut (kept_in a) (ready_in c.ready.inside) = rw (← c.self.view_is, ← c.ready.view_is) at c.requires in
+    rw c.deref.ensures (may_be_kept (kept_in a) a.names.keys a.processes.items c.ready.inside.report.report c.ready.inside.process c.self.invariant.fields refl ready.process ready.element_room)
 
 pub invariant_of-self : goal.invariant_of-self
 invariant_of-self c =
     let a = c.self.inside in
-    let r = c.ready.inside.report in
-    let ready : MayBeAccepted (kept_in a) (ready_in c.ready.inside) = rw (← c.self.view_is, ← c.ready.view_is) at c.requires in
-    let front : c.len-front.result ≡ length a.reports.items = omega (arith, c.len-front.ensures, a.reports.ok.0) in
+    let m = c.ready.inside.report in
+    let r = m.report in
+    let ready : MayBePut (kept_in a) (ready_in c.ready.inside) = rw (← c.self.view_is, ← c.ready.view_is) at c.requires in
+    let front : c.len-index.result ≡ length a.reports.items = omega (arith, c.len-index.ensures, a.reports.ok.0) in
     let kept = map view_of a.processes.items in
     let after = map view_of c.keep.new.processes.items in
     let views : IsKeptBy kept a.names.keys r c.ready.inside.process (length a.reports.items) after =
-    subst (λ (n : ℕ). IsKeptBy kept a.names.keys r c.ready.inside.process n after) front (subst (λ (x : Report). IsKeptBy kept a.names.keys x c.ready.inside.process c.len-front.result after) c.deref.ensures c.keep.ensures.views) in
+    subst (λ (n : ℕ). IsKeptBy kept a.names.keys r c.ready.inside.process n after) front (subst (λ (x : Report). IsKeptBy kept a.names.keys x c.ready.inside.process c.len-index.result after) c.deref.ensures c.keep.ensures.views) in
     record {
       fields = after_report a.reports.items c.push_reserved.new.self.items a.names.keys c.keep.new.names.keys a.processes.items c.keep.new.processes.items r c.ready.inside.process c.self.invariant.fields
-          ready.admitted ready.process c.push_reserved.ensures.items (c.keep.ensures.names ∙ ap (names_after a.names.keys) c.deref.ensures) views;
+          ready.fit (omega (arith, ready.few, c.self.invariant.counted)) ready.few_known
+          ready.process c.push_reserved.ensures.items (c.keep.ensures.names ∙ ap (names_after a.names.keys) c.deref.ensures) views;
+      marked = omega (arith, ap length c.push_reserved.ensures.items, ap length c.push_reserved-2.ensures.items, length-append a.reports.items (r ∷ []), length-append a.epochs.items (m.epoch ∷ []), c.self.invariant.marked);
+      counted = omega (arith, ap length c.push_reserved.ensures.items, length-append a.reports.items (r ∷ []), c.self.invariant.counted);
+      within = omega (arith, ready.few);
       first = c.self.invariant.first;
     }

@@ -1,27 +1,20 @@
-use Rattle.std.proofs.Common.{subst, Option, Err}
+use Rattle.std.proofs.Common.{◌≡◌, ◌≢◌, ℕ, Err, subst, sym, ◌∙◌}
+use Rattle.std.specs.Prelude.{IfOk}
+use Rattle.std.specs.Fmt.{decimal}
+use Rattle.report_line.specs.declared.code.Code.TheVariants.{OtherEpoch}
 use Rattle.report_line.specs.View.{numbered_of}
-use Rattle.chains.specs.Processes.{Name}
+use Rattle.chains.specs.Processes.{target_of}
 use Rattle.chains.specs.Held.{held_of}
 use Rattle.chains.specs.Admission.{IsStandingReply}
-use Rattle.chains.specs.Keeping.{Tests}
-use Rattle.chains.proofs.Tested.{not_last, refuses_ended}
+use Rattle.chains.proofs.Tested.{not_last, refuses}
 use Rattle.chains.proofs.chains.Chains.test_numbered.Goals as goal
 
-pub returns-in-Some : goal.returns-in-Some
-returns-in-Some c =
+pub returns-then-epoch : goal.returns-then-epoch
+returns-then-epoch c =
     let held = held_of c.args.self.now in
-    let front = held.front in
     let r = numbered_of c.args.fields in
     let refusal = c.refusal_with.result in
-    not_last held c.args.report.now r (Err refusal) c.is_last.result c.if-is_last.false (c.is_last.ensures r.process c.requires.place) c.requires.fields
-    (subst (λ (o : Option Name). Tests (IsStandingReply o held r) front (Err refusal)) (c.in-Some.ensures r.process c.requires.place)
-    (refuses_ended c.in-Some.target.now held r refusal c.name_text.result c.refusal_with.ensures c.name_text.ensures))
-
-pub returns-in-None : goal.returns-in-None
-returns-in-None c =
-    let held = held_of c.args.self.now in
-    let front = held.front in
-    let r = numbered_of c.args.fields in
-    let result = c.test_number.result in
-    not_last held c.args.report.now r result c.is_last.result c.if-is_last.false (c.is_last.ensures r.process c.requires.place) c.requires.fields
-    (subst (λ (o : Option Name). Tests (IsStandingReply o held r) front result) (c.in-None.ensures r.process c.requires.place) c.test_number.ensures)
+    let same : c.epoch-then-epoch.result ≡ held.epoch = c.epoch-then-epoch.ensures in
+    not_last held c.args.epoch c.args.report.now r (Err refusal) c.is_last.result c.if-is_last.false (c.is_last.ensures r.process c.requires.place) c.requires.fields
+    (refuses (c.args.epoch ≢ held.epoch) (IsStandingReply (target_of r.process held.accepted) held r) held.front refusal OtherEpoch r.process (decimal held.epoch) c.number_text.result c.refusal_with.ensures
+    (subst (λ (m : ℕ). IfOk c.number_text.result (λ t. t ≡ decimal m)) same c.number_text.ensures) (λ e. c.if-epoch.true (e ∙ sym c.epoch.ensures)))

@@ -9,7 +9,7 @@ returns-in-Ok-clause-ok g c =
     record {
       made = made;
       snapshot_is = (
-        c.in-Ok.ensures.accepted,
+        c.in-Ok.ensures.held,
         taken-front c.args.self.now.desk c.turn.new.self.desk c.args.pass.now c.args.call c.turn.new.pass made c.in-Some._front c.in-Some.ensures
             ∙ ap Taken (sym c.in-Ok.ensures.front),
       );

@@ -12,7 +12,7 @@ invariant_of-result g c =
     let same = sym c.records.ensures ∙ c.in-Ok-chains_of.ensures.ok in
     let ready = λ (keeps : _). subst (λ (ss : List Said). HasRecords g.D.Disk.view store ss) same (c.in-Ok-open.ensures.ready (c.in-Ok-open.ensures.premise.0 keeps)) in (
       lawful_open g.D.Disk.keeps g.D.Disk.view _ (same_held c.in-Ok-chains_of.chains c.in-Ok-chains_of.opening _ c.in-Ok-chains_of.ensures.copy c.in-Ok-open.ensures.goes) refl c.in-Ok.ensures.none
-          c.in-Ok-chains_of.ensures.spelled (λ keeps. at_rest_stands _ _ _ _ (ready keeps)),
+          c.in-Ok-chains_of.ensures.spelled c.in-Ok-chains_of.ensures.admitted (λ keeps. at_rest_stands _ _ _ _ (ready keeps)),
       (λ runs keeps. ready keeps),
       c.in-Ok.ensures.room,
     )

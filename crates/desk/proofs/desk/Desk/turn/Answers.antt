@@ -30,8 +30,8 @@ invariant_of-self-2 g c =
           c.answered.ensures.premise.0
           (λ runs keeps. at_rest_stands _ _ _ _ (c.answered.ensures.rest runs (c.answered.ensures.premise.0 keeps)))
           (λ runs keeps file left. subst (λ (x : Reply). MayBeLeftBy x c.answered.new.chains.accepted c.args.call file) same (c.in_ok-answered.ensures.left runs keeps file left))
-          (λ is. (ap (λ s. s.disk) (c.answered.ensures.stopped is).0, (c.answered.ensures.stopped is).1)) c.answered.ensures.spelled c.lawful.ensures.counted
-          (λ r call unknown. c.in_ok-answered.ensures.pending r call (same ∙ unknown))),
+          (λ is. (ap (λ s. s.disk) (c.answered.ensures.stopped is).0, (c.answered.ensures.stopped is).1)) c.answered.ensures.spelled
+          (λ m call unknown. c.in_ok-answered.ensures.pending m call (same ∙ unknown))),
       (λ runs keeps. c.answered.ensures.rest runs (c.answered.ensures.premise.0 keeps)),
       rw c.push_reserved.ensures.capacity c.self.invariant.2,
     )

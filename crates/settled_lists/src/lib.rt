@@ -14,13 +14,13 @@ ghost use Rattle.settled_lists.specs.Returned.{EachReturnsToItsPosition};
 ghost use Rattle.settled_lists.specs.Runs.{CurrentAgrees, HeadlineHolds, RunsAreLogs, SettlementIsPossible};
 ghost use Rattle.settled_lists.specs.TwoSettlements.{CheckpointsAreAccepted, CheckpointsAreCurrent, TwiceSettledIsObeyed};
 
-/// Each report of the settled list of a stamp-consistent cut is accepted in turn.
+/// What a stamp-consistent cut keeps of a folded list is folded.
 pub fn settled_is_folded()
     ensures { SettledIsFolded }
 {}
 
-/// The settled list of a greatest cut has, of each process, the elements up to its position, with their numbers; just those are
-/// known in it that the line does not leave unborn, and just those are retired that it leaves retired.
+/// What the greatest cut keeps has, of each process, the elements up to its position, with their numbers; just those are known
+/// in it that the line does not leave unborn, and just those are retired that it leaves retired.
 pub fn settled_elements()
     ensures elements { SettledElements }
     ensures known { SettledKnown }
@@ -57,7 +57,7 @@ pub fn a_run_is_a_log()
     ensures { RunsAreLogs }
 {}
 
-/// A run with two settlements keeps to what the laws of runs ask for, and what is current after it.
+/// A run with two settlements is as the laws of runs ask for; what is current after it is written out.
 pub fn two_settlements_written_out()
     ensures obeyed { TwiceSettledIsObeyed }
     ensures history { CheckpointsAreCurrent }

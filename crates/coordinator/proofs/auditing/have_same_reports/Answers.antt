@@ -7,7 +7,7 @@ pub returns : goal.returns
 returns c =
     let n = c.args.a.now.front in
     let same : (j : ℕ) → j < n → (slice_get c.args.a.now.accepted j ≡ slice_get c.args.b.now.accepted j) × (slice_get c.args.a.now.epochs j ≡ slice_get c.args.b.now.epochs j) =
-        λ j lt. c.loop-i.invariant j (omega (arith, lt, c.front-i-end.ensures)) in (
+    λ j lt. c.loop-i.invariant j (omega (arith, lt, c.front-i-end.ensures)) in (
       λ _. (
         same_by_get n c.args.a.now.accepted c.args.b.now.accepted c.lawful.ensures.counted (omega (arith, c.lawful-2.ensures.counted, c.requires)) (λ j lt. (same j lt).0),
         same_by_get n c.args.a.now.epochs c.args.b.now.epochs (omega (arith, c.lawful.ensures.counted, c.lawful.ensures.marked))

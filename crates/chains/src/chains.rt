@@ -46,7 +46,8 @@ use stamp::Stamp;
 use std::alloc::{AllocError, Global};
 use std::marker::Model;
 
-/// The accepted reports, seen as their list in order of acceptance, and how many more find room without memory.
+/// The accepted reports, seen as their list in order of acceptance, an epoch for each, the front, the present epoch, and how many more
+/// reports find room without memory.
 #[derive(Drop)]
 pub struct Chains {
     alloc: Global,

@@ -1,6 +1,6 @@
 //! The tests of a report that is folded again.
 
-ghost use Rattle.std.specs.Prelude.{◌≡◌, ◌↔◌, ◌≤◌, ◌<◌, ◌++◌, ◌∷◌, [], length, IsTrue, OnOk, Err, Some, None};
+ghost use Rattle.std.specs.Prelude.{◌≡◌, ◌↔◌, ◌≤◌, ◌<◌, ◌++◌, ◌∷◌, [], length, IsTrue, IfErr, OnOk, Err, Some, None};
 ghost use Rattle.id_tree.specs.Points.{AreDisjoint};
 ghost use Rattle.report_line.specs.declared.report.Action.TheVariants as actions;
 ghost use Rattle.chains.specs.Processes.{known, registered_id, target_of, Waits};
@@ -32,6 +32,7 @@ impl Chains {
         requires few_known { length (known (self.old.accepted ++ report.report ∷ [])) ≤ process_limit }
         ensures ok { OnOk result (IsFit self.old.accepted report.report × (held_of self.new ≡ with_report (held_of self.old) report)) }
         ensures unfit { result ≡ Err KeepFault.Unfit → ¬ IsFit self.old.accepted report.report }
+        ensures err { IfErr result (λ _. held_of self.new ≡ held_of self.old) }
     {
         let number = self.number_in(&report.report);
         if !self.fits(&report.report, number) {

@@ -38,7 +38,7 @@ pub fn makers_make_the_elements()
 
 /// From a folded list, whatever admission replies to a report, what is held then is folded; and so it is with each turn, whatever its
 /// call and its fate. The front never falls below the number of reports.
-pub fn replies_keep_lists_reachable()
+pub fn replies_keep_lists_folded()
     ensures report { (held : Held) (m : MarkedReport) (answer : Reply) → IsReached held → IsAdmission held m answer → IsReached (held_after held m answer) }
     ensures turn { (held after : Held) (call : Call) (reply : Reply) → IsReached held → IsTurn held call reply after → IsReached after }
 {}

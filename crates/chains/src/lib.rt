@@ -21,7 +21,7 @@ pub use elements::{Element, Elements};
 pub use failed::{Failed, FailedFault, first_unknown};
 pub use laws::{
     folded_lists_are_lawful, makers_make_the_elements, reachable_lists_are_folded,
-    replies_keep_lists_reachable,
+    replies_keep_lists_folded,
 };
 pub use places::{Line, Places};
 pub use position::{Place, Position};

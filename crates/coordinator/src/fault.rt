@@ -19,7 +19,7 @@ pub enum CallFault {
     /// The pass has seen a longer front than the desk has, or a later turn.
     #[error("the pass has seen front {seen} and turn {last}, the desk has {front} and {turns}")]
     Foreign {
-        /// The number of accepted reports.
+        /// The number of accepted lines.
         front: u32,
         /// The longest front that the pass has seen.
         seen: u32,
@@ -40,7 +40,7 @@ pub enum CallFault {
 #[derive(Clone, Copy, Debug, PartialEq, Eq, Error)]
 pub enum CloseFault {
     /// The pass of this number has an entry that does not stand at its turn, or stands at the turn of an earlier pass, or shows
-    /// a line that is not right. 0: the desk was opened with another list than the coordinator keeps. It comes before all others.
+    /// a line that is not right. 0: not the same was held when the desk was opened as the coordinator keeps. It comes before all others.
     #[error("pass {0} is of another coordinator")]
     Stranger(u32),
     /// All entries together are fewer than the turns.

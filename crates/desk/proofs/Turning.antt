@@ -1,5 +1,5 @@
 -- A desk after one turn more.
-use Rattle.std.proofs.Common.{◌≡◌, inl, inr, ℕ, ◌+◌, ◌<◌, List, [], ◌∷◌, ◌++◌, length, Bool, true, false, refl, sym, ap, subst, arith, rules, length-append}
+use Rattle.std.proofs.Common.{◌≡◌, inl, inr, ℕ, ◌+◌, ◌<◌, List, [], ◌∷◌, ◌++◌, length, Bool, true, false, refl, sym, ◌∙◌, ap, subst, arith, rules, length-append}
 use Rattle.std.specs.Prelude.{◌⊎◌, Contains}
 use Rattle.std.proofs.lemmas.List.Elements.{Contains-append_left, Contains-append_right, Contains-append_cases}
 use Rattle.line_disk.specs.Disk.{View, Leaves, LeavesAlways}
@@ -27,7 +27,7 @@ use Rattle.desk.specs.declared.turn.Turn.{Turn}
 use Rattle.chains.proofs.Unfailing.{stays_stopped}
 use Rattle.desk.proofs.Crashes.{always_weaker}
 use Rattle.desk.proofs.Deciding.{unknown_follows}
-use Rattle.desk.proofs.Unsettled.{still_admitted}
+use Rattle.desk.proofs.Unsettled.{is_unstopped, still_admitted}
 
 -- ---- one turn more
 
@@ -76,6 +76,7 @@ pub lawful_open : {D : Type 0} (keeps : D → Type 0) (view : D → View) (desk 
 lawful_open keeps view desk same goes none spelled admitted stands = record {
   replays = subst (λ (ts : List Turn). Replays desk.opening ts desk.held) (sym none) same;
   goes = goes;
+  opened = subst IsReachable (ap unstopped same ∙ sym (is_unstopped desk.opening goes)) admitted;
   few = omega (arith, ap length none);
   admitted = admitted;
   spelled = spelled;
@@ -134,6 +135,7 @@ module _ {D : Type 0} (keeps : D → Type 0) (view : D → View) (desk : DeskSta
     lawful_more = record {
       replays = replays_more 0 desk.opening desk.held held desk.turns t lawful.replays (omega (arith, number)) step;
       goes = lawful.goes;
+      opened = lawful.opened;
       few = omega (arith, fewer, length-append desk.turns (t ∷ []));
       admitted = still_admitted desk.held held t.call t.receipt.reply lawful.admitted step;
       spelled = spelled lawful.spelled;

@@ -16,11 +16,12 @@ turn_limit = 65536
 abbrev pub unstopped : Held → Held
 unstopped held = record { accepted = held.accepted; epochs = held.epochs; front = held.front; epoch = held.epoch; stopped = false }
 
--- The turns replay from what was held at the opening to what is held, which admission reaches from nothing. A crash leaves a file of the accepted list, or after
--- FAIL unknown of that or of that and the report that is pending, which the tests let pass behind it.
+-- The turns replay from what was held at the opening to what is held; admission reaches both from nothing. A crash leaves a file of the
+-- accepted list, or after FAIL unknown of that or of that and the report that is pending, which the tests let pass behind it.
 pub record IsLawful {D : Type 0} (keeps : D → Type 0) (view : D → View) (desk : DeskState D) : Type 0 where
   pub replays : Replays desk.opening desk.turns desk.held
   pub goes : desk.opening.stopped ≡ false
+  pub opened : IsReachable desk.opening
   pub few : length desk.turns ≤ turn_limit
   pub admitted : IsReachable (unstopped desk.held)
   pub spelled : AreSpelled desk.held.accepted

@@ -27,7 +27,7 @@ pub record Reaches (said : List Said) (k : ℕ) (one : Said) : Type 0 where
   pub spelled : AreSpelled front
   pub admitted : IsReachable (counting front)
 
--- no report has this line, which bears no mark
+-- no report has this line for its own without a mark
 abbrev pub IsOfNoReport : List ℕ → Type 0
 IsOfNoReport line = (r : Report) → HasSpelling (calls.Report (unmarked r)) → line ≢ line_of r
 

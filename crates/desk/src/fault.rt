@@ -14,7 +14,7 @@ pub enum DeskFault {
     /// Behind the open gate of this record no whole record lies in the file. It is as it was.
     #[error("damaged {0}")]
     Damaged(usize),
-    /// This record is not the line of a report.
+    /// This record is not the line of a report, or bears a mark.
     #[error("line {0}")]
     Line(usize),
     /// This record is refused by this number: that of the test which its report fails, 1 where that was accepted before, and 19 where

@@ -7,7 +7,8 @@ use crate::packed::PackedReport;
 use crate::shared::Shared;
 use std::alloc::AllocError;
 
-/// A report and its epoch: how many settlements its process had returned from. What was undone is told apart by it.
+/// A report and its epoch: the number of the newest settlement to whose line its process had returned when it made the step, 0 before
+/// any. What was undone is told apart by it.
 #[derive(Drop)]
 pub struct MarkedReport {
     /// The epoch, which a line spells behind its first word where it is not 0.

@@ -4,7 +4,9 @@ ghost use Rattle.std.specs.Prelude.{◌≡◌, ◌++◌, ℕ, List, false, map};
 ghost use Rattle.std.specs.List.{AllByRecursion};
 ghost use Rattle.chains.specs.Processes.{Name as AnyName};
 ghost use Rattle.chains.specs.Held.{Held};
+ghost use Rattle.chains.specs.Admission.{IsReachable};
 ghost use Rattle.chains.specs.Folded.{IsReached};
+ghost use Rattle.desk.specs.Lawful.{unstopped};
 ghost use Rattle.session.specs.declared.kind.Kind.TheVariants as kinds;
 ghost use Rattle.session.specs.ChosenText.{IsChosenText};
 ghost use Rattle.session.specs.OneText.{IsUndisturbed};
@@ -16,9 +18,11 @@ pub fn exchanges_tell_what_is_accepted()
     ensures { (held after : Held) (exchanges : List Exchange) → Served held exchanges after → after ≡ held_by held exchanges }
 {}
 
-/// From a list that admission reaches it reaches what is accepted behind each of the exchanges that took turns.
-pub fn exchanges_keep_lists_reachable()
-    ensures { (held after : Held) (exchanges before later : List Exchange) → IsReached held → Served held exchanges after → exchanges ≡ before ++ later → IsReached (held_by held before) }
+/// From a folded list, with an epoch for each report and a front that counts them, such a list is held behind each of the exchanges that
+/// took turns; and from what admission reaches from nothing, what it reaches so.
+pub fn exchanges_keep_lists()
+    ensures folded { (held after : Held) (exchanges before later : List Exchange) → IsReached held → Served held exchanges after → exchanges ≡ before ++ later → IsReached (held_by held before) }
+    ensures reachable { (held after : Held) (exchanges before later : List Exchange) → IsReachable (unstopped held) → Served held exchanges after → exchanges ≡ before ++ later → IsReachable (unstopped (held_by held before)) }
 {}
 
 /// Where the store is stopped neither before the exchanges nor behind them, no device failed in between.

@@ -18,7 +18,7 @@ mod turns;
 
 pub use kind::{Kind, SessionEnd};
 pub use laws::{
-    a_question_has_one_text, exchanges_keep_lists_reachable, exchanges_tell_what_is_accepted,
+    a_question_has_one_text, exchanges_keep_lists, exchanges_tell_what_is_accepted,
     same_lines_have_one_text, served_without_a_device,
 };
 pub use over_coordinator::serve_link;

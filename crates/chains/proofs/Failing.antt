@@ -29,7 +29,7 @@ all_listed flags i numbers e h = record { in_order = h.in_order; just_set = λ p
 
 -- ---- flags of named processes
 
-same_number : (accepted : List Report) (i j : ℕ) (p : Name) → AreDistinctNames (known accepted) → name_of accepted i ≡ Some p → name_of accepted j ≡ Some p → i ≡ j
+pub same_number : (accepted : List Report) (i j : ℕ) (p : Name) → AreDistinctNames (known accepted) → name_of accepted i ≡ Some p → name_of accepted j ≡ Some p → i ≡ j
 same_number accepted i j p distinct a b =
     distinct i j p (slice_get_within (known accepted) i p a) (slice_get_within (known accepted) j p b)
     (get_or_from_slice_get (known accepted) i p p a ∙ sym (get_or_from_slice_get (known accepted) j p p b))

@@ -1,15 +1,17 @@
 -- What admission reaches is folded, with an epoch beside each report.
-use Rattle.std.proofs.Common.{◌≡◌, ◌≢◌, ℕ, ◌+◌, List, [], ◌∷◌, ◌++◌, length, refl, sym, ap, ◌∙◌, arith}
+use Rattle.std.proofs.Common.{◌≡◌, ◌≢◌, ℕ, ◌+◌, ◌≤◌, List, [], ◌∷◌, ◌++◌, length, refl, sym, ap, ◌∙◌, arith}
 use Rattle.report_line.specs.declared.report.Report.{Report}
 use Rattle.report_line.specs.declared.report.Report.TheVariants.{Begin, Numbered}
 use Rattle.report_line.specs.declared.reply.Reply.TheVariants.{Accepted}
 use Rattle.chains.specs.Processes.{Name, known}
 use Rattle.std.proofs.lemmas.List.{length-append}
+use Rattle.std.proofs.lemmas.List.Elements.{All-nil, All-push}
 use Rattle.report_line.specs.declared.marked.MarkedReport.{MarkedReport}
 use Rattle.chains.specs.Held.{Held, with_report}
-use Rattle.chains.specs.Admission.{IsReachable, nothing_accepted, one_more, IsReportReply, IsAdmission}
+use Rattle.chains.specs.Admission.{IsReportReply, IsAdmission}
+use Rattle.chains.specs.Reachable.{IsReachable, nothing_accepted, one_more, all_returned}
 use Rattle.chains.specs.Folded.{IsFit, IsFolded, nothing_folded, one_folded, IsReached}
-use Rattle.chains.proofs.Passed.{passed_tests, begins}
+use Rattle.chains.proofs.Passed.{passed_tests, begins, present_epoch}
 use Rattle.chains.proofs.Stepping.{known-push, still_known}
 
 no_push : {X : Type 0} (xs : List X) (x : X) → xs ++ x ∷ [] ≢ []
@@ -37,9 +39,11 @@ pub push_reached : (held : Held) (m : MarkedReport) (front : ℕ) → IsReached 
 push_reached held m front at admitted = record {
   folded = one_folded held.accepted m.report at.folded (fit_of held m.epoch m.report front at.folded admitted);
   marked = omega (arith, length-append held.epochs (m.epoch ∷ []), length-append held.accepted (m.report ∷ []), at.marked);
+  past = All-push (λ e. e ≤ held.epoch) held.epochs m.epoch at.past (omega (arith, present_epoch held m.epoch m.report front admitted));
   counted = omega (arith, length-append held.accepted (m.report ∷ []), at.counted);
 }
 
 pub reached_folded : (held : Held) → IsReachable held → IsReached held
-reached_folded _ nothing_accepted = record { folded = nothing_folded; marked = refl; counted = omega arith }
+reached_folded _ nothing_accepted = record { folded = nothing_folded; marked = refl; past = All-nil (λ e. e ≤ 0); counted = omega arith }
 reached_folded _ (one_more before m reach admitted) = push_reached before m (before.front + 1) (reached_folded before reach) admitted
+reached_folded _ (all_returned held after front names reach passes settled) = settled.2.reached

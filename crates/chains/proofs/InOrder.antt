@@ -133,7 +133,7 @@ nothing_by q r Check b e = some_if (bytes_eq q r.process) r.stamp ∙ e
 nothing_by q r (Fork f) b e = some_if (bytes_eq q f.child) _ ∙ b
 nothing_by q r _ b e = refl
 
-nothing_made : (q : Name) (r : Report) → is_birth_of q r ≡ false → is_numbered_of q r ≡ false → is_some (lasting_made q r) ≡ false
+pub nothing_made : (q : Name) (r : Report) → is_birth_of q r ≡ false → is_numbered_of q r ≡ false → is_some (lasting_made q r) ≡ false
 nothing_made q (Begin p) b n = some_if (bytes_eq q p) _ ∙ b
 nothing_made q (Numbered r) b e = nothing_by q r r.action b e
 

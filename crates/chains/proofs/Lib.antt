@@ -28,3 +28,9 @@ pub mod Showing
 pub mod Making
 pub mod Copying
 pub mod Putting
+pub mod Refusing
+pub mod FirstUnknown
+pub mod LineLimits
+pub mod LineReports
+pub mod LineElements
+pub mod LineKept

@@ -21,7 +21,7 @@ use Rattle.report_line.specs.declared.reply.Reply.TheVariants as replies
 use Rattle.chains.specs.declared.tests.Verdict.{Verdict}
 use Rattle.chains.specs.declared.tests.Verdict.TheVariants.{Old, Fits}
 use Rattle.chains.specs.declared.refusal.No.{No}
-use Rattle.chains.specs.Processes.{Name, last_report, last_epoch, target_of, registered_id, expected_id}
+use Rattle.chains.specs.Processes.{Name, last_report, last_epoch, registered_id, expected_id}
 use Rattle.chains.specs.Held.{Held}
 use Rattle.chains.specs.Admission.{Decides, TakesMemory, IsStampReply, IsWaitingReply, IsStandingReply, IsEpochReply, IsNumberedReply, IsRepeated, IsReportReply}
 use Rattle.chains.specs.Keeping.{Tests}

@@ -4,7 +4,7 @@ use Rattle.report_line.specs.declared.marked.MarkedReport.{MarkedReport}
 use Rattle.report_line.specs.declared.call.Call.{Call}
 use Rattle.report_line.specs.declared.call.Call.TheVariants as calls
 use Rattle.report_line.specs.declared.reply.Reply.{Reply}
-use Rattle.report_line.specs.declared.reply.Reply.TheVariants.{Accepted, Fail}
+use Rattle.report_line.specs.declared.reply.Reply.TheVariants.{Accepted, Settled, Fail}
 use Rattle.report_line.specs.declared.reply.Reply.TheVariants.{No as Refused}
 use Rattle.chains.specs.declared.refusal.No.{No}
 use Rattle.chains.specs.Answers.{IsRefusal}
@@ -13,7 +13,7 @@ use Rattle.chains.specs.Processes.{Name}
 use Rattle.chains.specs.Held.{Held, with_stop}
 use Rattle.chains.specs.Admission.{IsAdmission, held_after}
 use Rattle.chains.specs.Folded.{IsReached}
-use Rattle.chains.specs.Turns.{Fate, fine, memory, before, unknown, IsDeviceFree, IsQuestionTurn, IsReportTurn, IsReported, IsTurn}
+use Rattle.chains.specs.Turns.{Fate, fine, memory, before, unknown, IsDeviceFree, IsQuestionTurn, IsReportTurn, IsReported, LeavesSettled, IsSettleAnswered, IsTurn}
 use Rattle.chains.proofs.Folding.{push_reached}
 
 -- ---- what is left
@@ -42,7 +42,7 @@ refused_turn held after m refusal (inr (answer, h, t, code, name, value)) same =
 -- ---- what is reached
 
 stop_reached : (held : Held) → IsReached held → IsReached (with_stop held)
-stop_reached held at = record { folded = at.folded; marked = at.marked; counted = at.counted }
+stop_reached held at = record { folded = at.folded; marked = at.marked; past = at.past; counted = at.counted }
 
 pub still_reached : (held : Held) (m : MarkedReport) (answer : Reply) → IsReached held → IsAdmission held m answer → IsReached (held_after held m answer)
 still_reached held m (Accepted front) at admitted = push_reached held m front at admitted
@@ -57,11 +57,22 @@ report_reached false memory held m reply after at t = subst IsReached (sym t.4) 
 report_reached false before held m reply after at t = subst IsReached (sym t.2) (stop_reached held at)
 report_reached false unknown held m reply after at t = subst IsReached (sym t.2) (stop_reached held at)
 
+left_reached : (held : Held) (names : List Name) (reply : Reply) (after : Held) → IsReached held → LeavesSettled reply held names after → IsReached after
+left_reached held names (Settled epoch front) after at left = left.2.reached
+left_reached held names _ after at left = subst IsReached (sym left) at
+
+settlement_reached : (stopped : Bool) (fate : Fate) (held : Held) (front : ℕ) (names : List Name) (reply : Reply) (after : Held) → IsReached held → IsSettleAnswered stopped fate held front names reply after → IsReached after
+settlement_reached true fate held front names reply after at t = subst IsReached (sym t.2) at
+settlement_reached false fine held front names reply after at t = left_reached held names reply after at t.1
+settlement_reached false memory held front names reply after at t = subst IsReached (sym t.4) at
+settlement_reached false before held front names reply after at t = subst IsReached (sym t.2) (stop_reached held at)
+settlement_reached false unknown held front names reply after at t = subst IsReached (sym t.2) (stop_reached held at)
+
 pub turn_reached : (held after : Held) (call : Call) (reply : Reply) → IsReached held → IsTurn held call reply after → IsReached after
 turn_reached held after (calls.Report m) reply reach (fate, t) = report_reached held.stopped fate held m reply after reach t
 turn_reached held after (calls.Line names) reply reach (fate, t) = subst IsReached (sym (unchanged held.stopped fate held _ reply after t)) reach
 turn_reached held after calls.Garbage reply reach (fate, t) = subst IsReached (sym (unchanged held.stopped fate held _ reply after t)) reach
-turn_reached held after (calls.Settle front names) reply reach (fate, t) = subst IsReached (sym t.2) reach
+turn_reached held after (calls.Settle front names) reply reach (fate, t) = settlement_reached held.stopped fate held front names reply after reach t
 turn_reached held after (calls.State p) reply reach (fate, t) = subst IsReached (sym (unchanged held.stopped fate held _ reply after t)) reach
 turn_reached held after calls.Bye reply reach (fate, t) = subst IsReached (sym t.2) reach
 turn_reached held after (calls.Bad n) reply reach (fate, t) = subst IsReached (sym t.2) reach

@@ -1,5 +1,5 @@
 -- Replies that no turn gives: of a device that failed, where the store is not stopped behind it; and a line, which is only shown.
-use Rattle.std.proofs.Common.{◌≡◌, ◌≢◌, ℕ, ◌+◌, Bool, true, false, List, Option, Some, None, inl, inr, sym, ap, ◌∙◌}
+use Rattle.std.proofs.Common.{◌≡◌, ◌≢◌, ℕ, Bool, true, false, List, Option, Some, None, inl, inr, sym, ap, ◌∙◌}
 use Rattle.std.specs.Prelude.{slice_get}
 use Rattle.std.proofs.lemmas.Bool.{true≢false}
 use Rattle.report_line.specs.declared.code.Code.{Code}
@@ -13,26 +13,27 @@ use Rattle.report_line.specs.declared.call.Call.{Call}
 use Rattle.report_line.specs.declared.call.Call.TheVariants as calls
 use Rattle.report_line.specs.declared.reply.Outcome.{Outcome}
 use Rattle.report_line.specs.declared.reply.Reply.{Reply}
-use Rattle.report_line.specs.declared.reply.Reply.TheVariants.{Accepted, Old, No, Line, State, Taken, Fail}
+use Rattle.report_line.specs.declared.reply.Reply.TheVariants.{Accepted, Old, No, Line, State, Taken, Settled, Fail}
 use Rattle.chains.specs.Processes.{Name, known, target_of}
 use Rattle.chains.specs.Held.{Held}
 use Rattle.chains.specs.Admission.{Decides, FitsOrNot, IsBeginReply, IsActionReply, IsStampReply, IsWaitingReply, IsStandingReply, IsReportReply, IsAdmission}
-use Rattle.chains.specs.Turns.{Fate, fine, memory, before, unknown, IsLineReply, IsGarbageReply, state_by, IsStateReply, IsQuestionTurn, IsReported, IsTurn}
+use Rattle.chains.specs.Turns.{Fate, fine, memory, before, unknown, IsLineReply, IsGarbageReply, state_by, IsStateReply, IsQuestionTurn, IsReported, IsSettling, IsSettleAnswered, IsTurn}
 use Rattle.chains.proofs.Turning.{unchanged}
 
--- a reply that no test of a report or of a question gives
+-- a reply that no test of a report, of a question or of a settlement gives
 pub record IsOther (answer : Reply) : Type 0 where
   pub no_refusal : (code : Code) (name : Option Name) (value : Option (List ℕ)) → answer ≢ No code name value
   pub no_old : (front : ℕ) → answer ≢ Old front
   pub no_accepted : (front : ℕ) → answer ≢ Accepted front
   pub no_taken : (front : ℕ) → answer ≢ Taken front
+  pub no_settled : (epoch front : ℕ) → answer ≢ Settled epoch front
   pub no_state : (p : Name) (reports elements : ℕ) (live : Bool) (id : List ℕ) → answer ≢ State p reports elements live id
 
 pub failure_is_other : (o : Outcome) → IsOther (Fail o)
-failure_is_other o = record { no_refusal = λ code name value e. cc; no_old = λ front e. cc; no_accepted = λ front e. cc; no_taken = λ front e. cc; no_state = λ p reports elements live id e. cc }
+failure_is_other o = record { no_refusal = λ code name value e. cc; no_old = λ front e. cc; no_accepted = λ front e. cc; no_taken = λ front e. cc; no_settled = λ epoch front e. cc; no_state = λ p reports elements live id e. cc }
 
 line_is_other : (text : List ℕ) → IsOther (Line text)
-line_is_other text = record { no_refusal = λ code name value e. cc; no_old = λ front e. cc; no_accepted = λ front e. cc; no_taken = λ front e. cc; no_state = λ p reports elements live id e. cc }
+line_is_other text = record { no_refusal = λ code name value e. cc; no_old = λ front e. cc; no_accepted = λ front e. cc; no_taken = λ front e. cc; no_settled = λ epoch front e. cc; no_state = λ p reports elements live id e. cc }
 
 -- a test with another reply did not decide
 behind : {F L : Type 0} {answer reply : Reply} → Decides F reply answer L → answer ≢ reply → L
@@ -92,6 +93,14 @@ module _ (answer : Reply) (other : IsOther answer) where
   of_state : (accepted : List Report) (p : Name) → ¬ IsStateReply accepted p answer
   of_state accepted p h = of_target (target_of p accepted) accepted p (behind (behind h (other.no_refusal _ _ _)) (other.no_refusal _ _ _))
 
+  -- ---- settlements
+
+  pub of_settling : (held : Held) (front : ℕ) (names : List Name) → ¬ IsSettling held front names answer
+  of_settling held front names h = elim (behind h (other.no_refusal _ _ _)) [
+    | inl first ↦ other.no_refusal _ _ _ first.2
+    | inr all ↦ other.no_settled _ _ (behind (behind all.1 (other.no_refusal _ _ _)) (other.no_refusal _ _ _))
+  ]
+
 -- ---- turns that tell of no device that failed
 
 of_report : (stopped : Bool) (fate : Fate) (held : Held) (r : MarkedReport) (o : Outcome) (after : Held) → stopped ≡ false → after.stopped ≡ false → ¬ IsReported stopped fate held r (Fail o) after
@@ -105,11 +114,18 @@ of_question : (stopped : Bool) (fate : Fate) (held : Held) (Answers : Reply → 
 of_question true fate held Answers o after up other t = true≢false up
 of_question false fate held Answers o after up other t = other t.1
 
+of_settlement : (stopped : Bool) (fate : Fate) (held : Held) (front : ℕ) (names : List Name) (o : Outcome) (after : Held) → stopped ≡ false → after.stopped ≡ false → ¬ IsSettleAnswered stopped fate held front names (Fail o) after
+of_settlement true fate held front names o after up still t = true≢false up
+of_settlement false fine held front names o after up still t = of_settling (Fail o) (failure_is_other o) held front names t.0
+of_settlement false memory held front names o after up still t = let e = t.3 in cc
+of_settlement false before held front names o after up still t = true≢false (sym (ap (λ (h : Held). h.stopped) t.2) ∙ still)
+of_settlement false unknown held front names o after up still t = true≢false (sym (ap (λ (h : Held). h.stopped) t.2) ∙ still)
+
 pub no_failure : (held after : Held) (call : Call) (o : Outcome) → held.stopped ≡ false → after.stopped ≡ false → ¬ IsTurn held call (Fail o) after
 no_failure held after (calls.Report r) o up still (fate, t) = of_report held.stopped fate held r o after up still t
 no_failure held after (calls.Line names) o up still (fate, t) = of_question held.stopped fate held (IsLineReply held names) o after up (of_line (Fail o) (failure_is_other o) held names) t
 no_failure held after calls.Garbage o up still (fate, t) = of_question held.stopped fate held (IsGarbageReply held) o after up (of_garbage (Fail o) (failure_is_other o) held) t
-no_failure held after (calls.Settle front names) o up still (fate, t) = let e = t.1 in cc
+no_failure held after (calls.Settle front names) o up still (fate, t) = of_settlement held.stopped fate held front names o after up still t
 no_failure held after (calls.State p) o up still (fate, t) =
     of_question held.stopped fate held (IsStateReply held.accepted p) o after up (of_state (Fail o) (failure_is_other o) held.accepted p) t
 no_failure held after calls.Bye o up still (fate, t) = let e = t.1 in cc
@@ -129,11 +145,18 @@ line_of_question : (stopped : Bool) (fate : Fate) (held : Held) (Answers : Reply
 line_of_question true fate held Answers text after other t = let e = t.1 in cc
 line_of_question false fate held Answers text after other t = other t.1
 
+line_of_settlement : (stopped : Bool) (fate : Fate) (held : Held) (front : ℕ) (names : List Name) (text : List ℕ) (after : Held) → ¬ IsSettleAnswered stopped fate held front names (Line text) after
+line_of_settlement true fate held front names text after t = let e = t.1 in cc
+line_of_settlement false fine held front names text after t = of_settling (Line text) (line_is_other text) held front names t.0
+line_of_settlement false memory held front names text after t = let e = t.3 in cc
+line_of_settlement false before held front names text after t = let e = t.1 in cc
+line_of_settlement false unknown held front names text after t = let e = t.1 in cc
+
 pub no_line : (held after : Held) (call : Call) (text : List ℕ) → ¬ IsTurn held call (Line text) after
 no_line held after (calls.Report r) text (fate, t) = line_of_report held.stopped fate held r text after t
 no_line held after (calls.Line names) text (fate, t) = line_of_question held.stopped fate held (IsLineReply held names) text after (of_line (Line text) (line_is_other text) held names) t
 no_line held after calls.Garbage text (fate, t) = line_of_question held.stopped fate held (IsGarbageReply held) text after (of_garbage (Line text) (line_is_other text) held) t
-no_line held after (calls.Settle front names) text (fate, t) = let e = t.1 in cc
+no_line held after (calls.Settle front names) text (fate, t) = line_of_settlement held.stopped fate held front names text after t
 no_line held after (calls.State p) text (fate, t) = line_of_question held.stopped fate held (IsStateReply held.accepted p) text after (of_state (Line text) (line_is_other text) held.accepted p) t
 no_line held after calls.Bye text (fate, t) = let e = t.1 in cc
 no_line held after (calls.Bad n) text (fate, t) = let e = t.1 in cc
@@ -143,12 +166,16 @@ report_when_stopped : (stopped : Bool) (fate : Fate) (held : Held) (r : MarkedRe
 report_when_stopped true fate held r reply after down t = t.2
 report_when_stopped false fate held r reply after down t = absurd (true≢false (sym down))
 
+settlement_when_stopped : (stopped : Bool) (fate : Fate) (held : Held) (front : ℕ) (names : List Name) (reply : Reply) (after : Held) → stopped ≡ true → IsSettleAnswered stopped fate held front names reply after → after ≡ held
+settlement_when_stopped true fate held front names reply after down t = t.2
+settlement_when_stopped false fate held front names reply after down t = absurd (true≢false (sym down))
+
 -- a stopped store stays as it is
 pub stays_stopped : (held after : Held) (call : Call) (reply : Reply) → held.stopped ≡ true → IsTurn held call reply after → after ≡ held
 stays_stopped held after (calls.Report r) reply down (fate, t) = report_when_stopped held.stopped fate held r reply after down t
 stays_stopped held after (calls.Line names) reply down (fate, t) = unchanged held.stopped fate held _ reply after t
 stays_stopped held after calls.Garbage reply down (fate, t) = unchanged held.stopped fate held _ reply after t
-stays_stopped held after (calls.Settle front names) reply down (fate, t) = t.2
+stays_stopped held after (calls.Settle front names) reply down (fate, t) = settlement_when_stopped held.stopped fate held front names reply after down t
 stays_stopped held after (calls.State p) reply down (fate, t) = unchanged held.stopped fate held _ reply after t
 stays_stopped held after calls.Bye reply down (fate, t) = t.2
 stays_stopped held after (calls.Bad n) reply down (fate, t) = t.2

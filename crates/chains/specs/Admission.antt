@@ -1,5 +1,5 @@
 -- The reply to a report over what is held, where memory suffices.
-use Rattle.std.specs.Prelude.{◌≡◌, ◌≢◌, ◌⊎◌, ℕ, ◌+◌, ◌≤◌, List, [], ◌∷◌, ◌++◌, Option, Some, None, length, slice_get, ⊤}
+use Rattle.std.specs.Prelude.{◌≡◌, ◌≢◌, ◌⊎◌, ℕ, ◌+◌, ◌≤◌, [], Option, Some, None, length, slice_get, ⊤}
 use Rattle.std.specs.Fmt.{decimal}
 use Rattle.id_tree.specs.IdTree.{IdTree}
 use Rattle.id_tree.specs.Split.{IsSplit}
@@ -14,10 +14,10 @@ use Rattle.report_line.specs.declared.report.Report.{Report}
 use Rattle.report_line.specs.declared.report.Report.TheVariants.{Begin, Numbered}
 use Rattle.report_line.specs.declared.marked.MarkedReport.{MarkedReport}
 use Rattle.report_line.specs.declared.reply.Reply.{Reply}
-use Rattle.report_line.specs.declared.reply.Reply.TheVariants.{Accepted, Old, No, Fail}
+use Rattle.report_line.specs.declared.reply.Reply.TheVariants.{Accepted, Old, No, Fail, Settled}
 use Rattle.report_line.specs.declared.reply.Outcome.TheVariants.{Before, Unknown}
 use Rattle.chains.specs.Processes.{Name, newborn, known, IsKnown, last_report, last_epoch, next_number, last_events, registered_id, expected_id, target_of, Waits}
-use Rattle.chains.specs.Held.{Held, counting, with_report, with_stop}
+use Rattle.chains.specs.Held.{Held, with_report, with_stop}
 
 -- how many lines are accepted at most
 abbrev pub report_limit : ℕ
@@ -125,13 +125,9 @@ held_after held m (Fail Before) = with_stop held
 held_after held m (Fail Unknown) = with_stop held
 held_after held m _ = held
 
--- the answers that take memory: to keep the report, or to make the value of a refusal
+-- the answers that take memory: to keep the report, to fold what a line keeps, or to make the value of a refusal
 abbrev pub TakesMemory : Reply → Type 0
 TakesMemory (Accepted front) = ⊤
+TakesMemory (Settled epoch front) = ⊤
 TakesMemory (No code name (Some value)) = ⊤
 TakesMemory _ = ⊥
-
--- what admission reaches from nothing
-pub data IsReachable : Held → Type 0 where
-  nothing_accepted : IsReachable (counting [])
-  one_more : (held : Held) (m : MarkedReport) → IsReachable held → Passes held m → IsReachable (with_report held m)

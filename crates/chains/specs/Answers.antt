@@ -16,6 +16,8 @@ use Rattle.chains.specs.Kept.{Kept, HasRoomFor}
 use Rattle.chains.specs.Ready.{ReadyReport}
 use Rattle.chains.specs.Held.{Held, held_of, with_report}
 use Rattle.chains.specs.Admission.{IsAdmission, Passes, TakesMemory}
+use Rattle.chains.specs.Processes.{Name}
+use Rattle.chains.specs.Turns.{IsSettling}
 
 abbrev pub reply_of : Result Admitted No → Reply
 reply_of (Ok (Accepted front)) = replies.Accepted front
@@ -27,6 +29,13 @@ abbrev pub IsRefusal : Held → MarkedReport → No → Type 0
 IsRefusal held r refusal =
     IsAdmission held r (replies.No refusal.code refusal.name refusal.value)
     ⊎ ((answer : Reply) × IsAdmission held r answer × TakesMemory answer
+    × (refusal.code ≡ OutOfMemory) × (refusal.name ≡ None) × (refusal.value ≡ None))
+
+-- the same of a settlement
+abbrev pub IsSettleRefusal : Held → ℕ → List Name → No → Type 0
+IsSettleRefusal held front names refusal =
+    IsSettling held front names (replies.No refusal.code refusal.name refusal.value)
+    ⊎ ((answer : Reply) × IsSettling held front names answer × TakesMemory answer
     × (refusal.code ≡ OutOfMemory) × (refusal.name ≡ None) × (refusal.value ≡ None))
 
 -- the number is that of the process that reports; the root of a BEGIN has none yet

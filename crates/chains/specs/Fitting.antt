@@ -20,9 +20,10 @@ abbrev pub HasOwnStamp : List Report → NumberedReport → Type 0
 HasOwnStamp accepted r =
     (r.stamp.id ≡ registered_id r.process accepted) × AreGrown (last_events r.process accepted) (registered_id r.process accepted) r.stamp.events
 
--- the report may be put behind the accepted ones: it is fit, within the limits, and there is room
+-- the report may be put behind the accepted ones: it is fit, of no later epoch than the present one, within the limits, and there is room
 pub record MayBePut (k : Kept) (ready : ReadyReport) : Type 0 where
   pub fit : IsFit k.accepted ready.report.report
+  pub past : ready.report.epoch ≤ k.epoch
   pub few : k.front < report_limit
   pub few_known : length (known (k.accepted ++ ready.report.report ∷ [])) ≤ process_limit
   pub process : IsNumberOf k.accepted ready.report.report ready.process

@@ -1,6 +1,6 @@
 -- The accepted lists that admission's tests fold without those of a retirement's target and of room: those that admission
 -- reaches, and others, on which the laws hold as well.
-use Rattle.std.specs.Prelude.{◌≡◌, ◌≢◌, ◌≤◌, List, [], ◌∷◌, ◌++◌, length, None, ⊤}
+use Rattle.std.specs.Prelude.{◌≡◌, ◌≢◌, ◌+◌, ◌≤◌, List, [], ◌∷◌, ◌++◌, length, All, None, ⊤}
 use Rattle.id_tree.specs.Split.{IsSplit}
 use Rattle.event_tree.specs.Values.{IsAtOrBelow}
 use Rattle.report_line.specs.declared.report.Action.{Action}
@@ -40,8 +40,10 @@ pub data IsFolded : List Report → Type 0 where
   nothing_folded : IsFolded []
   one_folded : (accepted : List Report) (r : Report) → IsFolded accepted → IsFit accepted r → IsFolded (accepted ++ r ∷ [])
 
--- What is held is a folded list with an epoch beside each report, and the front counts its reports and may count more lines.
+-- What is held is a folded list with an epoch beside each report, none above the present one; and the front counts its reports and the
+-- settlements, and may count more lines.
 pub record IsReached (held : Held) : Type 0 where
   pub folded : IsFolded held.accepted
   pub marked : length held.epochs ≡ length held.accepted
-  pub counted : length held.accepted ≤ held.front
+  pub past : All (λ e. e ≤ held.epoch) held.epochs
+  pub counted : length held.accepted + held.epoch ≤ held.front

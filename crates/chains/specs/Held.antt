@@ -39,6 +39,10 @@ with_report held m = record {
   stopped = held.stopped;
 }
 
+-- with one more line accepted, which is a settlement
+abbrev pub with_settlement : Held → Held
+with_settlement held = record { accepted = held.accepted; epochs = held.epochs; front = held.front + 1; epoch = held.epoch + 1; stopped = held.stopped }
+
 -- with the store stopped
 abbrev pub with_stop : Held → Held
 with_stop held = record { accepted = held.accepted; epochs = held.epochs; front = held.front; epoch = held.epoch; stopped = true }

@@ -1,5 +1,5 @@
 -- Working definitions: what the fields of chains are kept as.
-use Rattle.std.specs.Prelude.{◌≡◌, ℕ, ◌-◌, ◌≤◌, ◌<◌, min, List, length, map, slice_index_or, vec_len, vec_capacity}
+use Rattle.std.specs.Prelude.{◌≡◌, ℕ, ◌+◌, ◌-◌, ◌≤◌, ◌<◌, min, List, All, length, map, slice_index_or, vec_len, vec_capacity}
 use Rattle.indexmap.specs.IndexSet.{spare}
 use Rattle.id_tree.specs.IdTree.{One}
 use Rattle.event_tree.specs.EventTree.{Leaf}
@@ -45,6 +45,7 @@ first_stamp = record { id = One; events = Leaf 0 }
 pub record IsInOrder (a : Inside) : Type 0 where
   pub fields : AreInOrder a.reports.items a.names.keys a.processes.items
   pub marked : length a.epochs.items ≡ length a.reports.items
-  pub counted : length a.reports.items ≤ a.front
+  pub past : All (λ e. e ≤ a.epoch) a.epochs.items
+  pub counted : length a.reports.items + a.epoch ≤ a.front
   pub within : a.front ≤ report_limit
   pub first : a.first ≡ first_stamp

@@ -1,5 +1,5 @@
 -- Working definitions: what is kept of each process beside the accepted list, and the tests of a report.
-use Rattle.std.specs.Prelude.{◌≡◌, ◌⊎◌, ℕ, suc, ◌+◌, Bool, List, [], ◌∷◌, ◌++◌, Option, Some, None, Result, Ok, Err, if◌then◌else◌}
+use Rattle.std.specs.Prelude.{◌≡◌, ◌⊎◌, ℕ, suc, ◌+◌, Bool, List, [], ◌∷◌, ◌++◌, Option, None, Result, Ok, Err, if◌then◌else◌}
 use Rattle.std.specs.Option.{unwrap_or, is_some}
 use Rattle.report_line.specs.declared.code.Code.TheVariants.{OutOfMemory}
 use Rattle.report_line.specs.declared.report.Report.{Report}

@@ -6,6 +6,7 @@ pub mod Elements
 pub mod Positions
 pub mod Knowledge
 pub mod Turns
+pub mod Reachable
 pub mod Answers
 pub mod Failures
 pub mod Codes
@@ -22,4 +23,6 @@ pub mod Room
 pub mod Stamps
 pub mod Agrees
 pub mod Greatest
+pub mod Settled
+pub mod Settling
 pub mod Fitting

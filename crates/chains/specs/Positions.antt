@@ -1,6 +1,6 @@
 -- Positions of processes, and cuts. Processes go by their numbers, counted from 0 in order of birth. A position is At 0
 -- (unborn), At an element's number, or Retired; a place is a position of a process.
-use Rattle.std.specs.Prelude.{◌≡◌, ◌⊎◌, ℕ, ◌+◌, ◌≤◌, ◌<◌, Bool, true, false, List, length, Contains, slice_index_or, nat_lt, if◌then◌else◌}
+use Rattle.std.specs.Prelude.{◌≡◌, ◌⊎◌, ℕ, ◌+◌, ◌≤◌, ◌<◌, Bool, true, false, List, length, map, Contains, slice_index_or, nat_lt, if◌then◌else◌}
 use Rattle.std.specs.Option.{option_map_or, is_some}
 use Rattle.report_line.specs.declared.report.Report.{Report}
 use Rattle.chains.specs.declared.position.Place.{Place}
@@ -39,6 +39,10 @@ last_rank accepted p = if is_retired accepted p then length (elements accepted p
 pub record IsLastSurviving (accepted : List Report) (failed : List ℕ) (p : ℕ) (last : Position) : Type 0 where
   pub surviving : IsSurviving accepted failed p last
   pub greatest : (k : Position) → IsSurviving accepted failed p k → rank accepted p k ≤ rank accepted p last
+
+-- the positions of a line, which lists a place of each process
+abbrev pub positions_of : List Place → List Position
+positions_of line = map (λ x. x.position) line
 
 -- the position of a process in a cut, which lists one of each known process in order of birth
 abbrev pub position_in : List Position → ℕ → Position

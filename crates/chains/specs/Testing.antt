@@ -33,6 +33,10 @@ abbrev pub RefusesWith : {E : Type 0} → No → Code → Name → Result (List 
 RefusesWith refusal code name (Ok value) = refusal ≡ record { code = code; name = Some name; value = Some value }
 RefusesWith refusal code name (Err e) = refusal ≡ no_memory
 
+-- a refusal with this number, if it was made
+abbrev pub IsRefusalWith : No → Code → ℕ → Type 0
+IsRefusalWith refusal code n = (refusal ≡ record { code = code; name = None; value = Some (decimal n) }) ⊎ (refusal ≡ no_memory)
+
 -- a refusal by this limit
 abbrev pub IsFull : No → ℕ → Type 0
-IsFull refusal limit = (refusal ≡ record { code = Full; name = None; value = Some (decimal limit) }) ⊎ (refusal ≡ no_memory)
+IsFull refusal limit = IsRefusalWith refusal Full limit

@@ -1,6 +1,6 @@
 //! The accepted reports, and what they say of processes.
 
-ghost use Rattle.std.specs.Prelude.{◌≡◌, ◌≢◌, ◌≤◌, ◌<◌, ◌+◌, ◌∷◌, ◌++◌, ℕ, [], ⊤, IfOk, MatchResult, MatchOption, IsTrue, ◌↔◌, OnOk, List, Contains, filter, length, slice_get, option_copied, Some, None, true, map, min, vec_len, vec_capacity, ◌-◌, ◌^◌, nat_eq, slice_index_or, slice_set};
+ghost use Rattle.std.specs.Prelude.{◌≡◌, ◌≢◌, ◌≤◌, ◌<◌, ◌+◌, ◌∷◌, ◌++◌, All, ℕ, [], ⊤, IfOk, MatchResult, MatchOption, IsTrue, ◌↔◌, OnOk, List, Contains, filter, length, slice_get, option_copied, Some, None, true, map, min, vec_len, vec_capacity, ◌-◌, ◌^◌, nat_eq, slice_index_or, slice_set};
 ghost use Rattle.std.specs.Option.{option_map};
 ghost use Rattle.report_line.specs.View.{action_of};
 ghost use Rattle.id_tree.specs.IdTree.{One};
@@ -57,9 +57,9 @@ pub struct Chains {
     /// The epoch of each of them.
     epochs: Vec<u32>,
     /// How many lines were accepted, settlements and what they undid included.
-    front: u32,
+    pub(crate) front: u32,
     /// How many settlements were accepted.
-    epoch: u32,
+    pub(crate) epoch: u32,
     /// The known processes, in order of birth.
     names: IndexSet<Name>,
     /// What is kept of each of them.
@@ -132,8 +132,10 @@ impl Chains {
         ensures folded { IsFolded self.now.accepted }
         // Each accepted report has its epoch.
         ensures marked { length self.now.epochs ≡ length self.now.accepted }
-        // The front counts the accepted reports, and may count more lines.
-        ensures counted { length self.now.accepted ≤ self.now.front }
+        // None is above the present one.
+        ensures past { All (λ e. e ≤ self.now.epoch) self.now.epochs }
+        // The front counts the accepted reports and the settlements, and may count more lines.
+        ensures counted { length self.now.accepted + self.now.epoch ≤ self.now.front }
         ensures few_lines { self.now.front ≤ report_limit }
         ensures few { length self.now.accepted ≤ report_limit }
         ensures few_known { length (known self.now.accepted) ≤ process_limit }
@@ -362,6 +364,26 @@ impl Chains {
         ensures { result ≡ slice_get self.now.epochs i }
     {
         number_at(&self.epochs, i)
+    }
+
+    /// How many reports are accepted.
+    pub(crate) fn report_count(&self) -> u32
+        ensures { result ≡ length self.now.accepted }
+    {
+        self.reports.len() as u32
+    }
+
+    /// Report i of the accepted ones, counted from 0, with its epoch. It shares the report's block, and takes no memory.
+    pub(crate) fn marked(&self, i: u32) -> Result<MarkedReport, AllocError>
+        requires { i < length self.now.accepted }
+        ensures report { IfOk result (λ m. slice_get self.now.accepted i ≡ Some m.report) }
+        ensures epoch { IfOk result (λ m. slice_get self.now.epochs i ≡ Some m.epoch) }
+    {
+        let report = self.reports[i as usize].share()?;
+        Ok(MarkedReport {
+            epoch: self.epochs[i as usize],
+            report,
+        })
     }
 
     /// Report k with a number of a process, counted from 0. It goes over the accepted reports, and takes no memory.

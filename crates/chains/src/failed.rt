@@ -9,6 +9,7 @@ use crate::chains::Chains;
 use report_line::Name;
 use std::alloc::{AllocError, Global};
 use std::marker::Model;
+use thiserror::Error;
 
 /// Failed processes, seen as their numbers in order of birth.
 #[derive(Drop)]
@@ -28,11 +29,13 @@ impl Model for Failed {
 }
 
 /// Why names make no set of failed processes.
-#[derive(Drop)]
+#[derive(Debug, Drop, Error)]
 pub enum FailedFault {
     /// No process has this name, the first such of those that were given.
+    #[error("unknown process")]
     Unknown(Name),
     /// A growth was refused.
+    #[error("memory")]
     Memory,
 }
 

@@ -13,21 +13,14 @@ ghost use Rattle.chains.specs.Fitting.{HasFitStamp, HasOwnStamp};
 ghost use Rattle.chains.specs.Testing.{IsNumberIn, IsNoAbsorb};
 
 use crate::chains::Chains;
+use crate::keeping::KeepFault;
 use crate::tests::is_split;
 use report_line::{ActionView, Forked, MarkedReport, Name, NumberedView, PackedReport, ReportView};
-
-/// Why nothing is kept.
-#[derive(Clone, Copy, Debug, PartialEq, Eq)]
-pub enum KeepFault {
-    /// The line is none that can be returned to.
-    Unfit,
-    /// A growth was refused.
-    Memory,
-}
 
 impl Chains {
     /// Puts a report behind those that are folded, with its epoch, where it is fit; the front counts it.
     pub(crate) fn fold(&mut self, report: MarkedReport) -> Result<(), KeepFault>
+        requires past { report.epoch ≤ self.old.epoch }
         requires few { self.old.front < report_limit }
         requires few_known { length (known (self.old.accepted ++ report.report ∷ [])) ≤ process_limit }
         ensures ok { OnOk result (IsFit self.old.accepted report.report × (held_of self.new ≡ with_report (held_of self.old) report)) }

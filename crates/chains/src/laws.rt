@@ -8,14 +8,15 @@ ghost use Rattle.report_line.specs.declared.call.Call.{Call};
 ghost use Rattle.report_line.specs.declared.reply.Reply.{Reply};
 ghost use Rattle.report_line.specs.declared.marked.MarkedReport.{MarkedReport};
 ghost use Rattle.chains.specs.Held.{Held};
-ghost use Rattle.chains.specs.Admission.{IsReachable, IsAdmission, held_after};
+ghost use Rattle.chains.specs.Admission.{IsAdmission, held_after};
 ghost use Rattle.chains.specs.Processes.{Name, reports_by, reports_of, last_report};
 ghost use Rattle.chains.specs.Elements.{elements_of, element_made, makers_of};
 ghost use Rattle.chains.specs.Folded.{IsFit, IsFolded, IsReached};
 ghost use Rattle.chains.specs.Turns.{IsTurn};
+ghost use Rattle.chains.specs.Reachable.{IsReachable};
 ghost use Rattle.chains.specs.Laws.{ArePartsOfAll, NeverFall};
 
-/// What admission reaches is folded.
+/// What admission and settlements reach is folded.
 pub fn reachable_lists_are_folded()
     ensures { (held : Held) → IsReachable held → IsReached held }
 {}

@@ -6,6 +6,7 @@ mod copies;
 mod elements;
 mod failed;
 mod fitting;
+mod keeping;
 mod laws;
 mod places;
 mod position;
@@ -13,12 +14,14 @@ mod prepared;
 mod process;
 mod refusal;
 mod reports;
+mod settling;
 mod state;
 mod tests;
 
 pub use chains::Chains;
 pub use elements::{Element, Elements};
 pub use failed::{Failed, FailedFault, first_unknown};
+pub use keeping::KeepFault;
 pub use laws::{
     folded_lists_are_lawful, makers_make_the_elements, reachable_lists_are_folded,
     replies_keep_lists_folded,

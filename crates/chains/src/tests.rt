@@ -38,7 +38,7 @@ pub enum Verdict {
     Fits,
 }
 
-fn number_text(alloc: Global, n: u32) -> Result<Text, AllocError>
+pub(crate) fn number_text(alloc: Global, n: u32) -> Result<Text, AllocError>
     ensures { IfOk result (λ t. t ≡ decimal n) }
 {
     let text = n.to_string(alloc)?;

@@ -8,7 +8,6 @@ use Rattle.report_line.specs.declared.reply.Reply.TheVariants.{Line, Taken}
 use Rattle.chains.specs.Processes.{Name}
 use Rattle.chains.specs.Kept.{Kept}
 use Rattle.chains.specs.Held.{Held, held_of}
-use Rattle.chains.specs.Admission.{IsReachable}
 use Rattle.chains.specs.Folded.{IsReached}
 use Rattle.knows_row.proofs.Lawful.{lawful}
 use Rattle.reasons.specs.Certificates.{positions_of}
@@ -18,6 +17,7 @@ use Rattle.history_law.proofs.Lines.{line_of_histories}
 use Rattle.propagate.proofs.Certified.{certified_is_greatest}
 use Rattle.desk.specs.Desks.{DeskState}
 use Rattle.desk.specs.Lawful.{unstopped}
+use Rattle.desk.specs.Records.{IsOpened}
 use Rattle.coordinator.specs.Passes.{PassEntry, PassState, IsAnswered, IsShownOver, Sees, IsLineFor}
 use Rattle.coordinator.specs.Parts.{IsShownInstead, LastTaken, MayShowLine, with_line}
 use Rattle.coordinator.specs.Calls.{IsTurnFor, IsTakenFor}
@@ -48,9 +48,9 @@ shows_taken held (calls.Bad m) text n (names, asks, fits) = absurd asks
 shows_taken held calls.Unread text n (names, asks, fits) = absurd asks
 
 -- the line that was computed is shown
-pub shown_line : (held : Held) (call : Call) (text : List ℕ) → IsReachable (unstopped held) → IsReached held → IsLineFor held call text → IsShownOver held call (Taken held.front) (Line text)
-shown_line held call text admitted reach fits = record {
-  reached = admitted;
+pub shown_line : (held : Held) (call : Call) (text : List ℕ) → IsOpened (unstopped held) → IsReached held → IsLineFor held call text → IsShownOver held call (Taken held.front) (Line text)
+shown_line held call text opened reach fits = record {
+  opened = opened;
   front = λ n is. cc is;
   shows = shows_taken held call text held.front fits;
   right = λ other e. (fits.0, fits.1, subst (IsRightLine held fits.0) (same_text text other e) (right_text held fits.0 text reach fits.2));
@@ -80,7 +80,7 @@ answered_shown before after old call k text mid new t reached fits (front, last,
             (subst (λ (r : Reply). Sees old.front r mid.front) (ap (λ (e : PassEntry). e.receipt.reply) same.1) made.one.front);
       };
       held = held_of k;
-      shows = subst (λ (r : Reply). IsShownOver (held_of k) call r (Line text)) (sym taken) (shown_line (held_of k) call text (subst IsReachable (sym t.snapshot_is.0) made.shows.reached) reached fits);
+      shows = subst (λ (r : Reply). IsShownOver (held_of k) call r (Line text)) (sym taken) (shown_line (held_of k) call text (subst IsOpened (sym t.snapshot_is.0) made.shows.opened) reached fits);
     }
 
 answered_by : {D : Type 0} (before after : DeskState D) (old : PassState) (call : Call) (k : Kept) (mid new : PassState)

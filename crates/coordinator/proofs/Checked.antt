@@ -1,5 +1,6 @@
 -- Lines that are tested in a replay.
-use Rattle.std.proofs.Common.{◌≡◌, ◌≢◌, ℕ, zero, suc, ◌+◌, ◌-◌, ◌<◌, ◌≤◌, Bool, List, [], ◌∷◌, ◌++◌, length, take, drop, get_or, refl, sym, ap, ◌∙◌, subst, inl, inr, arith}
+use Rattle.std.specs.Prelude.{OnOk}
+use Rattle.std.proofs.Common.{◌≡◌, ◌≢◌, ℕ, zero, suc, ◌+◌, ◌-◌, ◌<◌, ◌≤◌, Bool, true, false, List, [], ◌∷◌, ◌++◌, length, take, drop, get_or, refl, sym, ap, ◌∙◌, subst, inl, inr, arith, Result, Ok, Err}
 use Rattle.std.proofs.lemmas.Bool.{cases_eq}
 use Rattle.std.proofs.lemmas.List.{take_more}
 use Rattle.std.proofs.lemmas.Option.{get_or_from_slice_get, slice_get_within}
@@ -14,10 +15,14 @@ use Rattle.chains.specs.Processes.{Name}
 use Rattle.chains.specs.Kept.{Kept}
 use Rattle.chains.specs.Held.{Held, held_of, with_report}
 use Rattle.chains.specs.Admission.{held_after}
-use Rattle.chains.specs.Turns.{IsTurn}
+use Rattle.chains.specs.Settled.{IsSettled}
+use Rattle.chains.specs.Turns.{Fate, fine, memory, before, unknown, LeavesSettled, IsSettleAnswered, IsTurn}
 use Rattle.chains.proofs.Turning.{after_report_turn, unchanged}
 use Rattle.reasons.specs.Shown.{IsLineText}
 use Rattle.desk.specs.declared.turn.Turn.{Turn}
+use Rattle.desk.specs.Lawful.{unstopped}
+use Rattle.desk.proofs.Running.{is_unstopped}
+use Rattle.propagate.proofs.Outcomes.{one_outcome}
 use Rattle.desk.specs.Replays.{ReplaysFrom, Replays}
 use Rattle.desk.proofs.Turning.{replays_more}
 use Rattle.coordinator.specs.declared.marking.Owner.{Owner}
@@ -73,55 +78,89 @@ line_same a b call text list front fits =
 -- ---- one turn
 
 -- where a report is not accepted, all stays but whether the store is stopped
-kept_after : (held : Held) (m : MarkedReport) (reply : Reply) → ((n : ℕ) → reply ≢ Accepted n) → ((held_after held m reply).accepted ≡ held.accepted) × ((held_after held m reply).front ≡ held.front)
+kept_after : (held : Held) (m : MarkedReport) (reply : Reply) → ((n : ℕ) → reply ≢ Accepted n) → unstopped (held_after held m reply) ≡ unstopped held
 kept_after held m (Accepted n) other = absurd (other n refl)
-kept_after held m (Old n) other = (refl, refl)
-kept_after held m (No code name value) other = (refl, refl)
-kept_after held m (Bad n) other = (refl, refl)
-kept_after held m (Fail Before) other = (refl, refl)
-kept_after held m (Fail Unknown) other = (refl, refl)
-kept_after held m (Fail Stopped) other = (refl, refl)
-kept_after held m (Line text) other = (refl, refl)
-kept_after held m (State name reports elements live id) other = (refl, refl)
-kept_after held m (Settled epoch front) other = (refl, refl)
-kept_after held m Bye other = (refl, refl)
-kept_after held m (Taken n) other = (refl, refl)
+kept_after held m (Old n) other = refl
+kept_after held m (No code name value) other = refl
+kept_after held m (Bad n) other = refl
+kept_after held m (Fail Before) other = refl
+kept_after held m (Fail Unknown) other = refl
+kept_after held m (Fail Stopped) other = refl
+kept_after held m (Line text) other = refl
+kept_after held m (State name reports elements live id) other = refl
+kept_after held m (Settled epoch front) other = refl
+kept_after held m Bye other = refl
+kept_after held m (Taken n) other = refl
 
 same_by : (k : Kept) (held after : Held) → HaveSame k held → after ≡ held → HaveSame k after
-same_by k held after same e = subst (HaveSame k) (sym e) same
+same_by k held after same e = same ∙ sym (ap unstopped e)
 
--- a turn that accepts nothing
-pub same_without : (k : Kept) (held after : Held) (call : Call) (reply : Reply) → ((n : ℕ) → reply ≢ Accepted n) → HaveSame k held → IsTurn held call reply after → HaveSame k after
-same_without k held after (calls.Report m) reply other same (fate, t) =
-    let stays = kept_after held m reply other in
-    subst (HaveSame k) (sym (after_report_turn held.stopped fate held m reply after t)) (same.0 ∙ sym stays.0, same.1 ∙ sym stays.1)
-same_without k held after (calls.Line names) reply other same (fate, t) = same_by k held after same (unchanged held.stopped fate held _ reply after t)
-same_without k held after calls.Garbage reply other same (fate, t) = same_by k held after same (unchanged held.stopped fate held _ reply after t)
-same_without k held after (calls.Settle front names) reply other same (fate, t) = same_by k held after same t.2
-same_without k held after (calls.State p) reply other same (fate, t) = same_by k held after same (unchanged held.stopped fate held _ reply after t)
-same_without k held after calls.Bye reply other same (fate, t) = same_by k held after same t.2
-same_without k held after (calls.Bad n) reply other same (fate, t) = same_by k held after same t.2
-same_without k held after calls.Unread reply other same (fate, t) = same_by k held after same t.2
+-- a turn of a report that is not accepted
+pub same_without : (k : Kept) (held after : Held) (call : Call) (reply : Reply) (m : MarkedReport) → call ≡ calls.Report m → ((n : ℕ) → reply ≢ Accepted n) → HaveSame k held → IsTurn held call reply after → HaveSame k after
+same_without k held after call reply m is other same t =
+    let t' : IsTurn held (calls.Report m) reply after = subst (λ (c : Call). IsTurn held c reply after) is t in
+    same ∙ sym (ap unstopped (after_report_turn held.stopped t'.0 held m reply after t'.1) ∙ kept_after held m reply other)
 
--- a turn of another call than a report
-pub same_unreported : (k : Kept) (held after : Held) (call : Call) (reply : Reply) → ((m : MarkedReport) → call ≢ calls.Report m) → HaveSame k held → IsTurn held call reply after → HaveSame k after
-same_unreported k held after (calls.Report m) reply other same t = absurd (other m refl)
-same_unreported k held after (calls.Line names) reply other same (fate, t) = same_by k held after same (unchanged held.stopped fate held _ reply after t)
-same_unreported k held after calls.Garbage reply other same (fate, t) = same_by k held after same (unchanged held.stopped fate held _ reply after t)
-same_unreported k held after (calls.Settle front names) reply other same (fate, t) = same_by k held after same t.2
-same_unreported k held after (calls.State p) reply other same (fate, t) = same_by k held after same (unchanged held.stopped fate held _ reply after t)
-same_unreported k held after calls.Bye reply other same (fate, t) = same_by k held after same t.2
-same_unreported k held after (calls.Bad n) reply other same (fate, t) = same_by k held after same t.2
-same_unreported k held after calls.Unread reply other same (fate, t) = same_by k held after same t.2
+left_without : (k : Kept) (held : Held) (names : List Name) (reply : Reply) (after : Held) → ((e n : ℕ) → reply ≢ Settled e n) → HaveSame k held → LeavesSettled reply held names after → HaveSame k after
+left_without k held names (Settled e n) after other same left = absurd (other e n refl)
+left_without k held names _ after other same left = same_by k held after same left
+
+settlement_without : (stopped : Bool) (fate : Fate) (k : Kept) (held after : Held) (front : ℕ) (names : List Name) (reply : Reply) → ((e n : ℕ) → reply ≢ Settled e n) → HaveSame k held
+    → IsSettleAnswered stopped fate held front names reply after → HaveSame k after
+settlement_without true fate k held after front names reply other same t = same_by k held after same t.2
+settlement_without false fine k held after front names reply other same t = left_without k held names reply after other same t.1
+settlement_without false memory k held after front names reply other same t = same_by k held after same t.4
+settlement_without false before k held after front names reply other same t = same ∙ sym (ap unstopped t.2)
+settlement_without false unknown k held after front names reply other same t = same ∙ sym (ap unstopped t.2)
+
+-- a turn of a settlement that is not accepted
+pub same_unsettled : (k : Kept) (held after : Held) (call : Call) (reply : Reply) (front : ℕ) (names : List Name) → call ≡ calls.Settle front names → ((e n : ℕ) → reply ≢ Settled e n) → HaveSame k held → IsTurn held call reply after → HaveSame k after
+same_unsettled k held after call reply front names is other same t =
+    let t' : IsTurn held (calls.Settle front names) reply after = subst (λ (c : Call). IsTurn held c reply after) is t in
+    settlement_without held.stopped t'.0 k held after front names reply other same t'.1
+
+-- a turn of another call
+pub same_other : (k : Kept) (held after : Held) (call : Call) (reply : Reply) → ((m : MarkedReport) → call ≢ calls.Report m) → ((front : ℕ) (names : List Name) → call ≢ calls.Settle front names) → HaveSame k held
+    → IsTurn held call reply after → HaveSame k after
+same_other k held after (calls.Report m) reply other unsettled same t = absurd (other m refl)
+same_other k held after (calls.Line names) reply other unsettled same (fate, t) = same_by k held after same (unchanged held.stopped fate held _ reply after t)
+same_other k held after calls.Garbage reply other unsettled same (fate, t) = same_by k held after same (unchanged held.stopped fate held _ reply after t)
+same_other k held after (calls.Settle front names) reply other unsettled same t = absurd (unsettled front names refl)
+same_other k held after (calls.State p) reply other unsettled same (fate, t) = same_by k held after same (unchanged held.stopped fate held _ reply after t)
+same_other k held after calls.Bye reply other unsettled same (fate, t) = same_by k held after same t.2
+same_other k held after (calls.Bad n) reply other unsettled same (fate, t) = same_by k held after same t.2
+same_other k held after calls.Unread reply other unsettled same (fate, t) = same_by k held after same t.2
 
 -- a turn that accepts a report
 pub same_with : (k new : Kept) (held after : Held) (call : Call) (reply : Reply) (m : MarkedReport) (n : ℕ) → call ≡ calls.Report m → reply ≡ Accepted n → held_of new ≡ with_report (held_of k) m → HaveSame k held
     → IsTurn held call reply after → HaveSame new after
 same_with k new held after call reply m n is says more same t =
     let t' : IsTurn held (calls.Report m) (Accepted n) after = subst (λ (x : Reply). IsTurn held (calls.Report m) x after) says (subst (λ (c : Call). IsTurn held c reply after) is t) in
-    let a = after_report_turn held.stopped t'.0 held m (Accepted n) after t'.1 in
-    subst (HaveSame new) (sym a)
-    (ap (λ (h : Held). h.accepted) more ∙ ap (λ (xs : List Report). xs ++ m.report ∷ []) same.0, ap (λ (h : Held). h.front) more ∙ ap (λ (i : ℕ). i + 1) same.1)
+    more ∙ ap (λ (h : Held). with_report h m) same ∙ sym (ap unstopped (after_report_turn held.stopped t'.0 held m (Accepted n) after t'.1))
+
+settlement_with : (stopped : Bool) (fate : Fate) (k new : Kept) (held after : Held) (front : ℕ) (names : List Name) (e n : ℕ) → held.stopped ≡ stopped → IsSettled (held_of k) names (held_of new) → HaveSame k held
+    → IsSettleAnswered stopped fate held front names (Settled e n) after → HaveSame new after
+settlement_with true fate k new held after front names e n is settled same t = absurd (let d = t.1 in cc)
+settlement_with false fine k new held after front names e n is settled same t =
+    let there = subst (λ (h : Held). IsSettled h names after) (is_unstopped held is ∙ sym same) t.1 in
+    one_outcome (held_of k) names (held_of new) after settled there ∙ is_unstopped after (ap (λ (h : Held). h.stopped) t.1.2.is_kept ∙ is)
+settlement_with false memory k new held after front names e n is settled same t = absurd (let d = t.3 in cc)
+settlement_with false before k new held after front names e n is settled same t = absurd (let d = t.1 in cc)
+settlement_with false unknown k new held after front names e n is settled same t = absurd (let d = t.1 in cc)
+
+-- a turn that returned all processes to a line
+pub same_settled : (k new : Kept) (held after : Held) (call : Call) (reply : Reply) (front : ℕ) (names : List Name) (e n : ℕ) → call ≡ calls.Settle front names → reply ≡ Settled e n → IsSettled (held_of k) names (held_of new) → HaveSame k held
+    → IsTurn held call reply after → HaveSame new after
+same_settled k new held after call reply front names e n is says settled same t =
+    let t' : IsTurn held (calls.Settle front names) (Settled e n) after =
+    subst (λ (x : Reply). IsTurn held (calls.Settle front names) x after) says (subst (λ (c : Call). IsTurn held c reply after) is t) in
+    settlement_with held.stopped t'.0 k new held after front names e n refl settled same t'.1
+
+-- the same where memory may be wanting
+pub settled_again : {F : Type 0} → (k new : Kept) (held after : Held) (call : Call) (reply : Reply) (front : ℕ) (names : List Name) (e n : ℕ) (result : Result (Unit {0}) F) → call ≡ calls.Settle front names → reply ≡ Settled e n
+    → OnOk result (IsSettled (held_of k) names (held_of new)) → HaveSame k held → IsTurn held call reply after → OnOk result (HaveSame new after)
+settled_again k new held after call reply front names e n (Ok unit) is says settled same t = same_settled k new held after call reply front names e n is says settled same t
+settled_again k new held after call reply front names e n (Err fault) is says settled same t = settled
 
 -- ---- the replay
 
@@ -131,7 +170,7 @@ IsReplayed opening ts k i =
     (held : Held) × Replays opening (take i ts) held × HaveSame k held × ((end : Held) × ReplaysFrom i held (drop i ts) end)
 
 pub replayed_none : (opening : Held) (ts : List Turn) (k : Kept) → held_of k ≡ opening → ((end : Held) × Replays opening ts end) → IsReplayed opening ts k 0
-replayed_none opening ts k is all = (opening, refl, (ap (λ (h : Held). h.accepted) is, ap (λ (h : Held). h.front) is), all)
+replayed_none opening ts k is all = (opening, refl, is ∙ is_unstopped opening (sym (ap (λ (h : Held). h.stopped) is)), all)
 
 drop_one : (ts : List Turn) (i : ℕ) (d : Turn) → i < length ts → drop i ts ≡ get_or ts i d ∷ drop (i + 1) ts
 drop_one [] i d lt = absurd (omega (arith, lt))
@@ -162,7 +201,7 @@ replayed_more opening ts k new i t lt is step (held, so_far, same, (end, rest)) 
 right_there : (opening : Held) (ts : List Turn) (k : Kept) (i : ℕ) (e : PassEntry) → IsReplayed opening ts k i → e.receipt.turn ≡ i + 1 → RightOver (held_of k) e → ShowsRightly opening ts e
 right_there opening ts k i e (held, so_far, same, rest) is right text shows =
     let at : i ≡ e.receipt.turn - 1 = omega (arith, is) in
-    (held, subst (λ (n : ℕ). Replays opening (take n ts) held) at so_far, line_same (held_of k) held e.call text same.0 same.1 (right text shows))
+    (held, subst (λ (n : ℕ). Replays opening (take n ts) held) at so_far, line_same (held_of k) held e.call text (ap (λ (h : Held). h.accepted) same) (ap (λ (h : Held). h.front) same) (right text shows))
 
 pub checked_none : (opening : Held) (ts : List Turn) (passes : List PassState) (owners : List Owner) → AreCheckedTo opening ts passes owners 0
 checked_none opening ts passes owners i p e lt entry = absurd (omega (arith, lt))
@@ -186,7 +225,7 @@ wrong_there opening ts passes o k i (Stranger number) (held, so_far, same, rest)
       (entry.0, entry.1, refl),
       is,
       positive,
-      (text, shows, (held, subst (λ (n : ℕ). Replays opening (take n ts) held) at so_far, λ fits. wrong (line_same held (held_of k) e.call text (sym same.0) (sym same.1) fits))),
+      (text, shows, (held, subst (λ (n : ℕ). Replays opening (take n ts) held) at so_far, λ fits. wrong (line_same held (held_of k) e.call text (sym (ap (λ (h : Held). h.accepted) same)) (sym (ap (λ (h : Held). h.front) same)) fits))),
     )
 wrong_there opening ts passes o k i (Missing shares turns) replayed never = absurd never
 wrong_there opening ts passes o k i Memory replayed wrong = tt

@@ -14,12 +14,13 @@ use Rattle.report_line.specs.declared.reply.Reply.{Reply}
 use Rattle.report_line.specs.declared.reply.Reply.TheVariants.{Accepted, Old, No, Bad, Fail, Line, State, Settled, Bye, Taken}
 use Rattle.chains.specs.Processes.{Name, known, target_of}
 use Rattle.chains.specs.Held.{Held}
-use Rattle.chains.specs.Admission.{Decides, FitsOrNot, IsBeginReply, IsActionReply, IsStampReply, IsWaitingReply, IsStandingReply, IsReportReply, IsReachable, held_after}
-use Rattle.chains.specs.Turns.{Fate, fine, memory, before, unknown, no_memory, IsLineReply, IsGarbageReply, IsStateReply, state_by, IsQuestionTurn, IsReported, IsTurn}
+use Rattle.chains.specs.Admission.{Decides, FitsOrNot, IsBeginReply, IsActionReply, IsStampReply, IsWaitingReply, IsStandingReply, IsReportReply, held_after}
+use Rattle.chains.specs.Turns.{Fate, fine, memory, before, unknown, no_memory, IsLineReply, IsGarbageReply, IsStateReply, state_by, IsQuestionTurn, IsReported, IsSettling, LeavesSettled, IsSettleAnswered, IsTurn}
 use Rattle.chains.proofs.Unfailing.{no_line}
 use Rattle.reasons.specs.Shown.{IsLineShown, IsShown}
 use Rattle.desk.specs.Lawful.{unstopped}
-use Rattle.desk.proofs.Unsettled.{still_admitted}
+use Rattle.desk.specs.Records.{IsOpened}
+use Rattle.desk.proofs.Recording.{settles_so}
 use Rattle.coordinator.specs.Passes.{front_of, IsShownOver, MayShow}
 use Rattle.coordinator.specs.Parts.{first_shown}
 
@@ -110,6 +111,29 @@ tells_reported false memory held after m reply step = still held after reply no_
 tells_reported false before held after m reply step = silent held after reply (Fail Before) refl step.1 (ap (λ (h : Held). h.front) step.2)
 tells_reported false unknown held after m reply step = silent held after reply (Fail Unknown) refl step.1 (ap (λ (h : Held). h.front) step.2)
 
+tells_settled : (held after : Held) (front : ℕ) (names : List Name) (reply : Reply) → IsSettling held front names reply → LeavesSettled reply held names after → Tells held reply after
+tells_settled held after front names (Settled k f) settling left =
+    let is = settles_so held front names (Settled k f) (λ code name value e. cc) settling in
+    let there = ap (λ (h : Held). h.front) left.2.is_kept in
+    let told : f ≡ held.front + 1 = cc is in
+    ((λ n e. let same : f ≡ n = cc e in omega (arith, there, told, same)), omega (arith, there))
+tells_settled held after front names (No code name value) settling left = still held after (No code name value) (No code name value) refl refl left
+tells_settled held after front names (Accepted f) settling left = absurd (let e = settles_so held front names (Accepted f) (λ code name value e. cc) settling in cc)
+tells_settled held after front names (Old f) settling left = absurd (let e = settles_so held front names (Old f) (λ code name value e. cc) settling in cc)
+tells_settled held after front names (Taken f) settling left = absurd (let e = settles_so held front names (Taken f) (λ code name value e. cc) settling in cc)
+tells_settled held after front names (Bad n) settling left = still held after (Bad n) (Bad n) refl refl left
+tells_settled held after front names (Fail o) settling left = still held after (Fail o) (Fail o) refl refl left
+tells_settled held after front names (Line t) settling left = still held after (Line t) (Line t) refl refl left
+tells_settled held after front names (State q k l b i) settling left = still held after (State q k l b i) (State q k l b i) refl refl left
+tells_settled held after front names Bye settling left = still held after Bye Bye refl refl left
+
+tells_settlement : (b : Bool) (fate : Fate) (held after : Held) (front : ℕ) (names : List Name) (reply : Reply) → IsSettleAnswered b fate held front names reply after → Tells held reply after
+tells_settlement true fate held after front names reply step = still held after reply (Fail Stopped) refl step.1 step.2
+tells_settlement false fine held after front names reply step = tells_settled held after front names reply step.0 step.1
+tells_settlement false memory held after front names reply step = still held after reply no_memory refl step.3 step.4
+tells_settlement false before held after front names reply step = silent held after reply (Fail Before) refl step.1 (ap (λ (h : Held). h.front) step.2)
+tells_settlement false unknown held after front names reply step = silent held after reply (Fail Unknown) refl step.1 (ap (λ (h : Held). h.front) step.2)
+
 tells_line : (held : Held) (names : List Name) (reply : Reply) → IsLineReply held names reply → Tells held reply held
 tells_line held names reply (inl (q, e)) = silent held held reply _ refl e refl
 tells_line held names reply (inr (q, inl (name, first, e))) = silent held held reply _ refl e refl
@@ -139,7 +163,7 @@ tells held after (calls.Bad n) reply (fate, step) = still held after reply _ ref
 tells held after calls.Unread reply (fate, step) = still held after reply _ refl step.1 step.2
 tells held after calls.Bye reply (fate, step) = still held after reply _ refl step.1 step.2
 tells held after (calls.Report m) reply (fate, step) = tells_reported held.stopped fate held after m reply step
-tells held after (calls.Settle front names) reply (fate, step) = still held after reply _ refl step.1 step.2
+tells held after (calls.Settle front names) reply (fate, step) = tells_settlement held.stopped fate held after front names reply step
 tells held after (calls.Line names) reply (fate, step) =
     tells_asked held.stopped fate held after (IsLineReply held names) reply (tells_line held names reply) step
 tells held after calls.Garbage reply (fate, step) = tells_asked held.stopped fate held after (IsGarbageReply held) reply (tells_garbage held reply) step
@@ -175,6 +199,25 @@ shows_reported false memory held after m reply step = shows_said reply _ refl st
 shows_reported false before held after m reply step = shows_said reply _ refl step.1
 shows_reported false unknown held after m reply step = shows_said reply _ refl step.1
 
+shows_settled : (held : Held) (front : ℕ) (names : List Name) (reply : Reply) → IsSettling held front names reply → first_shown reply ≡ reply
+shows_settled held front names (Taken f) settling = absurd (let e = settles_so held front names (Taken f) (λ code name value e. cc) settling in cc)
+shows_settled held front names (Accepted f) settling = refl
+shows_settled held front names (Old f) settling = refl
+shows_settled held front names (No code name value) settling = refl
+shows_settled held front names (Bad n) settling = refl
+shows_settled held front names (Fail o) settling = refl
+shows_settled held front names (Line t) settling = refl
+shows_settled held front names (State q k l b i) settling = refl
+shows_settled held front names (Settled k f) settling = refl
+shows_settled held front names Bye settling = refl
+
+shows_settlement : (b : Bool) (fate : Fate) (held after : Held) (front : ℕ) (names : List Name) (reply : Reply) → IsSettleAnswered b fate held front names reply after → first_shown reply ≡ reply
+shows_settlement true fate held after front names reply step = shows_said reply _ refl step.1
+shows_settlement false fine held after front names reply step = shows_settled held front names reply step.0
+shows_settlement false memory held after front names reply step = shows_said reply _ refl step.3
+shows_settlement false before held after front names reply step = shows_said reply _ refl step.1
+shows_settlement false unknown held after front names reply step = shows_said reply _ refl step.1
+
 shows_told : (held : Held) (p : Name) (target : Option Name) (reply : Reply) → reply ≡ state_by target held.accepted p → first_shown reply ≡ reply
 shows_told held p None reply e = shows_said reply _ refl e
 shows_told held p (Some t) reply e = shows_said reply _ refl e
@@ -205,7 +248,7 @@ shows_first : (held after over : Held) (call : Call) (reply : Reply) → IsTurn 
 shows_first held after over (calls.Line names) reply t = line_first over names reply
 shows_first held after over calls.Garbage reply t = line_first over (known over.accepted) reply
 shows_first held after over (calls.Report m) reply (fate, step) = shows_reported held.stopped fate held after m reply step
-shows_first held after over (calls.Settle front names) reply (fate, step) = shows_said reply _ refl step.1
+shows_first held after over (calls.Settle front names) reply (fate, step) = shows_settlement held.stopped fate held after front names reply step
 shows_first held after over (calls.State p) reply (fate, step) = shows_asked held.stopped fate held after p reply step
 shows_first held after over calls.Bye reply (fate, step) = shows_said reply _ refl step.1
 shows_first held after over (calls.Bad n) reply (fate, step) = shows_said reply _ refl step.1
@@ -229,9 +272,9 @@ never_first : (held after : Held) (call : Call) (reply : Reply) (text : List ℕ
 never_first held after call reply text t e = no_line held after call text (subst (λ (x : Reply). IsTurn held call x after) (first_line reply text e) t)
 
 -- what is shown first for a turn
-pub shown_first : (held after : Held) (call : Call) (reply : Reply) → IsReachable (unstopped held) → IsTurn held call reply after → IsShownOver after call reply (first_shown reply)
-shown_first held after call reply reach t = record {
-  reached = still_admitted held after call reply reach t;
+pub shown_first : (held after : Held) (call : Call) (reply : Reply) → IsOpened (unstopped after) → IsTurn held call reply after → IsShownOver after call reply (first_shown reply)
+shown_first held after call reply opened t = record {
+  opened = opened;
   front = (tells held after call reply t).0;
   shows = shows_first held after after call reply t;
   right = λ text e. absurd (never_first held after call reply text t e);

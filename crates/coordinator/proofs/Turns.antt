@@ -4,10 +4,10 @@ use Rattle.std.specs.Prelude.{MatchOption, unwrap_or}
 use Rattle.std.proofs.lemmas.List.{same_from_push}
 use Rattle.report_line.specs.declared.call.Call.{Call}
 use Rattle.report_line.specs.declared.reply.Reply.TheVariants.{Taken}
-use Rattle.chains.specs.Admission.{IsReachable}
 use Rattle.desk.specs.declared.turn.Receipt.{Receipt}
 use Rattle.desk.specs.Desks.{DeskState}
 use Rattle.desk.specs.Lawful.{unstopped}
+use Rattle.desk.specs.Records.{IsOpened}
 use Rattle.coordinator.specs.Passes.{PassEntry, PassState, Rises, last_turn, front_of}
 use Rattle.coordinator.specs.Parts.{first_shown, LastTaken}
 use Rattle.coordinator.specs.Calls.{IsOneTurn, IsTurnFor}
@@ -26,10 +26,10 @@ abbrev pub more : PassState → Receipt → ℕ → List PassEntry → PassState
 more old receipt share entries = record { number = old.number; front = unwrap_or (front_of receipt.reply) old.front; share = share; entries = entries }
 
 pub turn-one : {D : Type 0} (before after : DeskState D) (old : PassState) (call copy : Call) (receipt : Receipt) (share : ℕ) (entries : List PassEntry)
-    → IsReachable (unstopped before.held) → IsOneTurn before call receipt after → old.front ≤ before.held.front → last_turn old.entries ≤ length before.turns
+    → IsOpened (unstopped after.held) → IsOneTurn before call receipt after → old.front ≤ before.held.front → last_turn old.entries ≤ length before.turns
     → Rises 0 old.entries → copy ≡ call → share ≡ old.share + 1 → entries ≡ old.entries ++ entry_of copy receipt ∷ []
     → IsTurnFor before after old call (more old receipt share entries)
-turn-one before after old call copy receipt share entries reached one seen last rises same counted added =
+turn-one before after old call copy receipt share entries opened one seen last rises same counted added =
     let told = tells before.held after.held call receipt.reply one.step in
     record {
       entry = entry_of copy receipt;
@@ -42,7 +42,7 @@ turn-one before after old call copy receipt share entries reached one seen last 
         front = sees (front_of receipt.reply) old.front after.held.front told.0 (omega (arith, told.1));
       };
       turn = one;
-      shows = shown_first before.held after.held call receipt.reply reached one.step;
+      shows = shown_first before.held after.held call receipt.reply opened one.step;
     }
 
 -- where a line was taken, it was at the front that is held

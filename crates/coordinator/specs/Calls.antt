@@ -18,6 +18,7 @@ pub record IsOneTurn {D : Type 0} (before : DeskState D) (call : Call) (receipt 
   pub turns : after.turns ≡ before.turns ++ record { call = call; receipt = receipt } ∷ []
   pub number : receipt.turn ≡ length before.turns + 1
   pub opening : after.opening ≡ before.opening
+  pub found : after.found ≡ before.found
 
 -- the desk has made one turn more, and the pass has one entry more for it
 pub record IsTurnFor {D : Type 0} (before after : DeskState D) (old : PassState) (call : Call) (new : PassState) : Type 0 where

@@ -2,7 +2,8 @@
 use Rattle.std.specs.Prelude.{◌≡◌, ℕ, ◌+◌, ◌<◌, List, Some, slice_get, ⊤}
 use Rattle.report_line.specs.declared.reply.Reply.TheVariants.{Line}
 use Rattle.chains.specs.Kept.{Kept}
-use Rattle.chains.specs.Held.{Held}
+use Rattle.chains.specs.Held.{Held, held_of}
+use Rattle.desk.specs.Lawful.{unstopped}
 use Rattle.desk.specs.declared.turn.Turn.{Turn}
 use Rattle.coordinator.specs.declared.marking.Owner.{Owner}
 use Rattle.coordinator.specs.declared.fault.CloseFault.{CloseFault}
@@ -11,9 +12,9 @@ use Rattle.coordinator.specs.Passes.{PassEntry, PassState, IsLineFor}
 use Rattle.coordinator.specs.Closing.{ShowsRightly, ShowsWrongly}
 use Rattle.coordinator.specs.Marks.{owner_at}
 
--- the chains have the list and the front that are held
+-- the chains hold what is held, but for whether the store is stopped
 abbrev pub HaveSame : Kept → Held → Type 0
-HaveSame k held = (k.accepted ≡ held.accepted) × (k.front ≡ held.front)
+HaveSame k held = held_of k ≡ unstopped held
 
 -- the entry shows no line, or the one that its call asks for over what is held
 abbrev pub RightOver : Held → PassEntry → Type 0

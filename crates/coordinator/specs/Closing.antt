@@ -1,12 +1,14 @@
 -- What passes have to show at the end.
-use Rattle.std.specs.Prelude.{◌≡◌, ◌≢◌, ◌⊎◌, ℕ, ◌-◌, ◌<◌, ◌≤◌, ◌==◌, false, List, length, take, All, Contains, Some, slice_get, ⊤}
+use Rattle.std.specs.Prelude.{◌≡◌, ◌≢◌, ◌⊎◌, ℕ, ◌-◌, ◌<◌, ◌≤◌, ◌==◌, ◌++◌, false, List, length, take, All, Contains, Some, slice_get, ⊤}
 use Rattle.std.specs.List.{count_by, flat_map}
 use Rattle.line_disk.specs.Disk.{View, Leaves}
 use Rattle.report_line.specs.declared.reply.Reply.TheVariants.{Line}
 use Rattle.chains.specs.Held.{Held}
 use Rattle.desk.specs.declared.turn.Turn.{Turn}
 use Rattle.desk.specs.Desks.{DeskState}
-use Rattle.desk.specs.Files.{StandsFor, MayStandFor}
+use Rattle.record_file.specs.File.{Said, Stands}
+use Rattle.desk.specs.Files.{MayStandFor}
+use Rattle.desk.specs.Records.{Opens, recorded}
 use Rattle.desk.specs.Replays.{Replays}
 use Rattle.coordinator.specs.declared.fault.CloseFault.{CloseFault}
 use Rattle.coordinator.specs.declared.fault.CloseFault.TheVariants.{Stranger, Missing, Memory}
@@ -83,14 +85,17 @@ IsAuditCause opening desk passes (Stranger number) =
 IsAuditCause opening desk passes (Missing shares turns) = (opening ≡ desk.opening) × IsMissing desk.opening desk.turns passes shares turns
 IsAuditCause opening desk passes Memory = ⊤
 
--- The coordinator has ended. Its turns replay from what was held at the opening and are those of the passes. A crash leaves a file
--- of the list that they replay to, or after FAIL unknown of that, or of that and the report that is pending.
+-- The coordinator has ended. Its turns replay from what was held at the opening and are those of the passes. A crash leaves a file of
+-- records that opening comes to what was held then by, and behind them those of the turns that were answered OK or SETTLED, in order,
+-- with all that was undone; or after FAIL unknown of these, or of these and the one that is pending.
 pub record IsEnded {D : Type 0} (keeps : D → Type 0) (view : D → View) (opening : Held) (passes : List PassState) (turns front : ℕ) (disk : D) : Type 0 where
   pub list : List Turn
   pub held : Held
+  pub found : List Said
+  pub opened : Opens found opening
   pub replay : Replays opening list held
   pub turns_are : turns ≡ length list
-  pub front_is : front ≡ length held.accepted
-  pub running : held.stopped ≡ false → keeps disk → (c : List ℕ) → Leaves (view disk) c → StandsFor held.accepted c
-  pub left : keeps disk → (c : List ℕ) → Leaves (view disk) c → MayStandFor held.accepted list c
+  pub front_is : front ≡ held.front
+  pub running : held.stopped ≡ false → keeps disk → (c : List ℕ) → Leaves (view disk) c → Stands (found ++ recorded list) c
+  pub left : keeps disk → (c : List ℕ) → Leaves (view disk) c → MayStandFor (found ++ recorded list) held.epoch list c
   pub audited : IsAudited opening list passes

@@ -3,15 +3,15 @@ use Rattle.std.specs.Prelude.{◌≡◌, ℕ, ◌+◌, ◌<◌, ◌≤◌, ◌�
 use Rattle.report_line.specs.declared.call.Call.{Call}
 use Rattle.report_line.specs.declared.call.Call.TheVariants as calls
 use Rattle.report_line.specs.declared.reply.Reply.{Reply}
-use Rattle.report_line.specs.declared.reply.Reply.TheVariants.{Accepted, Old, Line, Taken}
+use Rattle.report_line.specs.declared.reply.Reply.TheVariants.{Accepted, Old, Line, Settled, Taken}
 use Rattle.chains.specs.Processes.{Name, known}
 use Rattle.chains.specs.Held.{Held}
-use Rattle.chains.specs.Admission.{IsReachable}
 use Rattle.chains.specs.Turns.{no_memory}
 use Rattle.reasons.specs.Shown.{IsLineText, IsShown}
 use Rattle.history_law.specs.Headline.{IsRightLine}
 use Rattle.desk.specs.declared.turn.Receipt.{Receipt}
 use Rattle.desk.specs.Lawful.{unstopped}
+use Rattle.desk.specs.Records.{IsOpened}
 
 -- a call, the receipt of its turn, and the reply that is shown for it
 pub record PassEntry : Type 0 where
@@ -55,6 +55,7 @@ abbrev pub front_of : Reply → Option ℕ
 front_of (Accepted front) = Some front
 front_of (Old front) = Some front
 front_of (Taken front) = Some front
+front_of (Settled epoch front) = Some front
 front_of _ = None
 
 -- A reply is shown as it is. Where it says that a line was taken, what is shown in its place is that memory was wanting, or a line.
@@ -72,10 +73,10 @@ AsksForLine held _ names = ⊥
 abbrev pub IsLineFor : Held → Call → List ℕ → Type 0
 IsLineFor held call text = (names : List Name) × AsksForLine held call names × IsLineText held names text
 
--- Over what is held, which admission reaches from nothing and whose front is the one that the reply tells, this is shown for the call and the
--- reply of its turn. A line that is shown is right: it is the greatest closed cut of every lawful history that agrees.
+-- Over what is held, which opening some records comes to and whose front is the one that the reply tells, this is shown for the call and
+-- the reply of its turn. A line that is shown is right: it is the greatest closed cut of every lawful history that agrees.
 pub record IsShownOver (held : Held) (call : Call) (reply shown : Reply) : Type 0 where
-  pub reached : IsReachable (unstopped held)
+  pub opened : IsOpened (unstopped held)
   pub front : (n : ℕ) → front_of reply ≡ Some n → held.front ≡ n
   pub shows : IsShown held call reply shown
   pub right : (text : List ℕ) → shown ≡ Line text → (names : List Name) × AsksForLine held call names × IsRightLine held names text
@@ -95,7 +96,7 @@ pub record IsOneEntry (old : PassState) (call : Call) (entry : PassEntry) (new :
   pub share : new.share ≡ old.share + 1
   pub front : Sees old.front entry.receipt.reply new.front
 
--- the pass has one entry more for this call, and shows there what is shown over what some list that admission reaches holds
+-- the pass has one entry more for this call, and shows there what is shown over what opening some records comes to
 pub record IsAnswered (old : PassState) (call : Call) (new : PassState) : Type 0 where
   pub entry : PassEntry
   pub one : IsOneEntry old call entry new

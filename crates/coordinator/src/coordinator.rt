@@ -55,7 +55,7 @@ pub struct Refused<D: Disk> {
 pub struct Ended<D: Disk> {
     /// The desk's disk.
     pub disk: D,
-    /// The number of accepted reports.
+    /// The front: how many lines were accepted.
     pub front: u32,
     /// The number of turns.
     pub turns: u32,

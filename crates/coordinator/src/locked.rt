@@ -126,6 +126,7 @@ impl<L: Ledger, D: Disk> Locked<L, D> {
             Err(TurnFault::Worn) => return Err(CallFault::Worn),
             Err(TurnFault::Memory) => return Err(CallFault::Memory),
         };
+        desk.lawful();
         book.add(share, 1);
         *seen = seen_after(*seen, &receipt.reply);
         entries.push_reserved(Entry::new(copy, receipt));
@@ -162,6 +163,7 @@ fn seen_after(seen: u32, reply: &Reply) -> u32
 {
     match reply {
         Reply::Accepted(front) | Reply::Old(front) | Reply::Taken(front) => *front,
+        Reply::Settled { front, .. } => *front,
         _ => seen,
     }
 }

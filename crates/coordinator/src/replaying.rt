@@ -1,7 +1,10 @@
 //! One replay of the turns, in which each shown line is tested at its place.
 
-ghost use Rattle.std.specs.Prelude.{◌≡◌, ◌≤◌, ◌<◌, length, IfErr, OnOk};
+ghost use Rattle.std.specs.Prelude.{◌≡◌, ◌≢◌, ◌≤◌, ◌<◌, length, IfErr, OnOk};
 ghost use Rattle.chains.specs.Held.{Held, held_of, with_report};
+ghost use Rattle.report_line.specs.declared.marked.MarkedReport.{MarkedReport as AnyReport};
+ghost use Rattle.report_line.specs.declared.call.Call.TheVariants as calls;
+ghost use Rattle.chains.specs.Settled.{IsSettled};
 ghost use Rattle.chains.specs.Turns.{IsTurn};
 ghost use Rattle.desk.specs.Replays.{Replays};
 ghost use Rattle.coordinator.specs.Checks.{HaveSame, IsCheckedOver, IsWrongOver, AreCheckedTo, IsWrongThere};
@@ -12,7 +15,8 @@ use crate::pass::Pass;
 use crate::shown_lines::is_right;
 use chains::{Admitted, Chains};
 use desk::Turn;
-use report_line::{Call, MarkedReport, Reply};
+use propagate::settle_named;
+use report_line::{Call, MarkedReport, Names, Reply};
 use std::alloc::AllocError;
 use std::sync::ledger::Ledger;
 
@@ -55,14 +59,39 @@ fn accept_again(chains: &mut Chains, report: &MarkedReport) -> Result<(), AllocE
     }
 }
 
+/// Returns all processes once more to the line of these failed ones: over what was held then, memory aside, they return again.
+fn settle_again(chains: &mut Chains, names: &Names) -> Result<(), AllocError>
+    ensures { OnOk result (IsSettled (held_of chains.old) names.now (held_of chains.new)) }
+{
+    let Ok(()) = chains.may_settle(chains.front(), names.as_slice()) else {
+        return Err(AllocError);
+    };
+    *chains = settle_named(chains, names.as_slice())?;
+    Ok(())
+}
+
+/// Replays one turn of another call than a report.
+fn replay_other(chains: &mut Chains, turn: &Turn) -> Result<(), AllocError>
+    requires { (m : AnyReport) → turn.now.call ≢ calls.Report m }
+    ensures { (held after : Held) → HaveSame chains.old held → IsTurn held turn.now.call turn.now.receipt.reply after → OnOk result (HaveSame chains.new after) }
+{
+    let Call::Settle { names, .. } = &turn.call else {
+        return Ok(());
+    };
+    let Reply::Settled { .. } = &turn.receipt.reply else {
+        return Ok(());
+    };
+    settle_again(chains, names)
+}
+
 /// Replays one turn.
 fn replay(chains: &mut Chains, turn: &Turn) -> Result<(), AllocError>
     ensures { (held after : Held) → HaveSame chains.old held → IsTurn held turn.now.call turn.now.receipt.reply after → OnOk result (HaveSame chains.new after) }
 {
-    let Reply::Accepted(_) = &turn.receipt.reply else {
-        return Ok(());
-    };
     let Call::Report(report) = &turn.call else {
+        return replay_other(chains, turn);
+    };
+    let Reply::Accepted(_) = &turn.receipt.reply else {
         return Ok(());
     };
     accept_again(chains, report)

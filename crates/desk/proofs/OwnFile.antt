@@ -1,114 +1,117 @@
--- A file of reports that admission accepts in order is refused for nothing that it says.
-use Rattle.std.proofs.Common.{◌≡◌, ◌≢◌, inl, inr, ℕ, ◌+◌, List, [], ◌∷◌, ◌++◌, length, map, refl, sym, ◌∙◌, ap, subst}
-use Rattle.std.proofs.lemmas.List.Elements.{All-head, All-tail}
+-- A file of records that opening admits in order is refused for nothing that it says.
+use Rattle.std.proofs.Common.{◌≡◌, ◌≢◌, ◌⊎◌, inl, inr, ℕ, ◌+◌, List, [], ◌∷◌, ◌++◌, refl, ◌∙◌, ap, subst}
 use Rattle.record_file.specs.File.{Said, Stands}
 use Rattle.record_file.proofs.Exclusion.{foreign_stands, damaged_stands}
 use Rattle.record_file.proofs.Openings.{one_list}
-use Rattle.report_line.specs.Reports.{unmarked}
-use Rattle.report_line.specs.Spelling.{HasSpelling}
 use Rattle.report_line.specs.declared.report.Report.{Report}
+use Rattle.report_line.specs.declared.report.Report.TheVariants.{Begin, Numbered}
 use Rattle.report_line.specs.declared.marked.MarkedReport.{MarkedReport}
+use Rattle.report_line.specs.declared.call.Call.{Call}
 use Rattle.report_line.specs.declared.call.Call.TheVariants as calls
-use Rattle.report_line.specs.declared.reply.Reply.TheVariants.{Accepted, Old, No}
-use Rattle.chains.specs.Held.{Held, counting, with_report}
-use Rattle.chains.specs.Admission.{IsReachable, nothing_accepted, one_more, Passes}
-use Rattle.chains.proofs.Reaching.{nothing_before, last_or_before}
-use Rattle.desk.specs.Files.{said_of, AreSpelled, StandsFor, MayStandFor, MayFollow, IsPending}
-use Rattle.desk.specs.Openings.{Reaches, IsRefusedBy, IsRecordOfNoReport, IsRecordRefusedWith, RefusesFile, IsNotOfTheFile}
+use Rattle.report_line.specs.declared.reply.Reply.TheVariants.{Accepted, Old, No, Settled}
+use Rattle.chains.specs.Held.{Held}
+use Rattle.chains.specs.Admission.{Passes}
+use Rattle.chains.specs.Turns.{PassesSettle}
+use Rattle.chains.proofs.Passed.{present_epoch}
+use Rattle.desk.specs.Records.{marked, AdmitsCall, Admits, Opens, no_records, one_more}
+use Rattle.desk.specs.Files.{MayStandFor, IsPending}
+use Rattle.desk.specs.Openings.{Reaches, IsLineOfNone, IsReportRefusedBy, IsSettlementRefusedBy, IsRefusedWithEpoch, IsCallRefusedBy, IsRecordRefusedBy, RefusesFile, IsNotOfTheFile}
 use Rattle.desk.specs.declared.fault.DeskFault.{DeskFault}
 use Rattle.desk.specs.declared.fault.DeskFault.TheVariants.{Foreign, Damaged, Line, Refused, Device, Memory}
 use Rattle.desk.specs.declared.turn.Turn.{Turn}
-use Rattle.desk.proofs.Spelled.{spelled_more}
-use Rattle.desk.proofs.OneAccepted.{same_report}
-use Rattle.desk.proofs.OneAnswer.{one_answer}
-use Rattle.desk.proofs.Unsettled.{passes_unmarked, counting_reached}
+use Rattle.desk.proofs.OneAnswer.{one_answer, one_settling}
+use Rattle.desk.proofs.OneOpening.{first_same, rest_same, both_same, same_call, one_opening}
 
--- ---- each report of a list that admission reaches passes behind those before it
+-- ---- each record is admitted over what those before it come to
 
-passes_same : (accepted before : List Report) (r x : Report) → accepted ≡ before → r ≡ x → Passes (counting accepted) (unmarked r) → Passes (counting before) (unmarked x)
-passes_same accepted before r x e f passes =
-    subst (λ (xs : List Report). Passes (counting xs) (unmarked x)) e (subst (λ (y : Report). Passes (counting accepted) (unmarked y)) f passes)
+cons_same : (x : Said) (xs ys : List Said) → xs ≡ ys → x ∷ xs ≡ x ∷ ys
+cons_same x xs ys e = ap (λ (zs : List Said). x ∷ zs) e
 
-passes_at : (held : Held) (before after : List Report) (x : Report) → IsReachable held → held.accepted ≡ before ++ x ∷ after → Passes (counting before) (unmarked x)
-passes_at _ before after x nothing_accepted e = absurd (nothing_before before after x e)
-passes_at _ before after x (one_more held m reach passes) e =
-    elim (last_or_before held.accepted before after m.report x e) [
-      | inl last ↦ passes_same held.accepted before m.report x last.0 last.1 (passes_unmarked held m reach passes)
-      | inr earlier ↦ passes_at held before earlier.0 x reach earlier.1
+nothing_before : (before after : List Said) (x : Said) → [] ≢ before ++ x ∷ after
+nothing_before [] after x e = cc
+nothing_before (b ∷ bs) after x e = cc
+
+-- what stands in a list with one more element is that element, or stands before it
+last_or_before : (said before after : List Said) (one x : Said) → said ++ one ∷ [] ≡ before ++ x ∷ after
+    → ((said ≡ before) × (one ≡ x)) ⊎ ((rest : List Said) × (said ≡ before ++ x ∷ rest))
+last_or_before [] [] after one x e = inl (refl, first_same one x [] after e)
+last_or_before [] (b ∷ bs) after one x e = absurd (nothing_before bs after x (rest_same one b [] (bs ++ x ∷ after) e))
+last_or_before (a ∷ as') [] after one x e = inr (as', both_same a x as' as' (first_same a x (as' ++ one ∷ []) after e) refl)
+last_or_before (a ∷ as') (b ∷ bs) after one x e =
+    let same = first_same a b (as' ++ one ∷ []) (bs ++ x ∷ after) e in
+    elim (last_or_before as' bs after one x (rest_same a b (as' ++ one ∷ []) (bs ++ x ∷ after) e)) [
+      | inl last ↦ inl (both_same a b as' bs same last.0, last.1)
+      | inr earlier ↦ inr (earlier.0, both_same a b as' (bs ++ x ∷ earlier.0) same earlier.1)
     ]
 
--- ---- a record among those of reports is that of the report at its place
+-- the record there is admitted over what was held by then
+record IsAdmittedAt (before : List Said) (x : Said) : Type 0 where
+  held : Held
+  after : Held
+  opens : Opens before held
+  admits : Admits held x after
 
--- the report of a record, and what stands behind it
-record IsPlaced (front accepted : List Report) (one : Said) : Type 0 where
-  report : Report
-  later : List Report
-  parts : accepted ≡ front ++ report ∷ later
-  says : one ≡ said_of report
-  spelled : HasSpelling (calls.Report (unmarked report))
+admitted_at : (said before rest : List Said) (x : Said) (held : Held) → Opens said held → said ≡ before ++ x ∷ rest → IsAdmittedAt before x
+admitted_at _ before rest x _ no_records e = absurd (nothing_before before rest x e)
+admitted_at _ before rest x _ (one_more {said} {held} one after opens admits) e =
+    elim (last_or_before said before rest one x e) [
+      | inl last ↦ subst (λ (b : List Said). IsAdmittedAt b x) last.0 (subst (λ (y : Said). IsAdmittedAt said y) last.1 (record { held = held; after = after; opens = opens; admits = admits }))
+      | inr earlier ↦ admitted_at said before earlier.0 x held opens earlier.1
+    ]
 
-first_said : (r : Report) (one : Said) (rs rest : List Said) → said_of r ∷ rs ≡ one ∷ rest → said_of r ≡ one
-first_said r one rs rest e = cc
+-- ---- what is admitted is not refused
 
-later_said : (r : Report) (one : Said) (rs rest : List Said) → said_of r ∷ rs ≡ one ∷ rest → rs ≡ rest
-later_said r one rs rest e = cc
+report_not_refused : (held : Held) (m : MarkedReport) (code : ℕ) → Passes held m → IsReportRefusedBy held m code → ⊥
+report_not_refused held m code passes (inl (is, (k, old))) = absurd (let e = one_answer held (Accepted (held.front + 1)) (Old k) m.epoch m.report passes old in cc)
+report_not_refused held m code passes (inr (why, name, value, is, refused)) =
+    absurd (let e = one_answer held (Accepted (held.front + 1)) (No why name value) m.epoch m.report passes refused in cc)
 
-cons_same : (x y : Report) (xs ys : List Report) → x ≡ y → xs ≡ ys → x ∷ xs ≡ y ∷ ys
-cons_same x y xs ys e f = cc
+settlement_not_refused : (held : Held) (front : ℕ) (names : List (List ℕ)) (code : ℕ) → PassesSettle held front names → IsSettlementRefusedBy held front names code → ⊥
+settlement_not_refused held front names code passes (why, name, value, is, refused) =
+    absurd (let e = one_settling held (Settled (held.epoch + 1) (held.front + 1)) (No why name value) front names passes refused in cc)
 
-none_said : (front : List Report) (one : Said) (rest : List Said) → [] ≢ map said_of front ++ one ∷ rest
-none_said [] one rest e = cc
-none_said (r ∷ front) one rest e = cc
+epoch_not_refused : (held : Held) (epoch : ℕ) (r : Report) (code : ℕ) → Passes held (marked epoch r) → IsRefusedWithEpoch held epoch r code → ⊥
+epoch_not_refused held epoch (Begin p) code passes (inl (other, is)) = other (present_epoch held epoch (Begin p) (held.front + 1) passes)
+epoch_not_refused held epoch (Begin p) code passes (inr (same, refused)) = report_not_refused held (marked epoch (Begin p)) code passes refused
+epoch_not_refused held epoch (Numbered r) code passes refused = report_not_refused held (marked epoch (Numbered r)) code passes refused
 
-placed_more : (f r : Report) (front accepted : List Report) (one : Said) → f ≡ r → IsPlaced front accepted one → IsPlaced (f ∷ front) (r ∷ accepted) one
-placed_more f r front accepted one same p =
-    record { report = p.report; later = p.later; parts = cons_same r f accepted (front ++ p.report ∷ p.later) (sym same) p.parts; says = p.says; spelled = p.spelled }
+call_not_refused : (held : Held) (epoch : ℕ) (call : Call) (code : ℕ) (after : Held) → AdmitsCall held epoch call after → IsCallRefusedBy held epoch call code → ⊥
+call_not_refused held epoch (calls.Report m) code after admits refused = epoch_not_refused held epoch m.report code admits.0 refused
+call_not_refused held epoch (calls.Settle front names) code after admits (inl (other, is)) = other admits.0
+call_not_refused held epoch (calls.Settle front names) code after admits (inr (same, refused)) = settlement_not_refused held front names code admits.1 refused
+call_not_refused held epoch _ code after admits refused = absurd admits
 
-placed : (front accepted : List Report) (one : Said) (rest : List Said) → AreSpelled front → AreSpelled accepted → map said_of accepted ≡ map said_of front ++ one ∷ rest → IsPlaced front accepted one
-placed front [] one rest has had e = absurd (none_said front one rest e)
-placed [] (r ∷ accepted) one rest has had e =
-    record { report = r; later = accepted; parts = refl; says = sym (first_said r one (map said_of accepted) rest e); spelled = All-head (λ (x : Report). HasSpelling (calls.Report (unmarked x))) r accepted had }
-placed (f ∷ front) (r ∷ accepted) one rest has had e =
-    let P = λ (x : Report). HasSpelling (calls.Report (unmarked x)) in
-    let line = ap (λ (x : Said). x.1) (first_said r (said_of f) (map said_of accepted) (map said_of front ++ one ∷ rest) e) in
-    let first = sym (same_report r f (All-head P r accepted had) (All-head P f front has) line) in
-    placed_more f r front accepted one first (placed front accepted one rest (All-tail P f front has) (All-tail P r accepted had) (later_said r (said_of f) (map said_of accepted) (map said_of front ++ one ∷ rest) e))
+not_refused : (held : Held) (one : Said) (code : ℕ) (after : Held) → Admits held one after → IsRecordRefusedBy held one code → ⊥
+not_refused held one code after admits (call, is, refused) =
+    call_not_refused held one.0 call code after (subst (λ (c : Call). AdmitsCall held one.0 c after) (same_call one admits.call call admits.is_line is) admits.admits) refused
 
 -- ---- so nothing that the file says is refused
 
-not_refused : (front : List Report) (r : Report) (code : ℕ) → Passes (counting front) (unmarked r) → IsRefusedBy front r code → ⊥
-not_refused front r code passes (inl (is, (k, old))) = absurd (let e = one_answer (counting front) (Accepted (length front + 1)) (Old k) 0 r passes old in cc)
-not_refused front r code passes (inr (why, name, value, is, refused)) =
-    absurd (let e = one_answer (counting front) (Accepted (length front + 1)) (No why name value) 0 r passes refused in cc)
+module _ (file : List ℕ) (said : List Said) (held : Held) (opens : Opens said held) (stands : Stands said file) where
+  at_place : (others : List Said) (k : ℕ) (one : Said) → Stands others file → (at : Reaches others k one) → IsAdmittedAt at.front one
+  at_place others k one stood at = admitted_at said at.front at.rest one held opens (one_list said others file stands stood ∙ at.parts)
 
-module _ (file : List ℕ) (accepted : List Report) (spelled : AreSpelled accepted) (reach : IsReachable (counting accepted)) (stands : StandsFor accepted file) where
-  at_place : (said : List Said) (k : ℕ) (one : Said) → Stands said file → (at : Reaches said k one) → IsPlaced at.front accepted one
-  at_place said k one stood at = placed at.front accepted one at.rest at.spelled spelled (one_list (map said_of accepted) said file stands stood ∙ at.parts)
+  no_line : (others : List Said) (k : ℕ) (one : Said) → Stands others file → Reaches others k one → IsLineOfNone one → ⊥
+  no_line others k one stood at none = let p = at_place others k one stood at in none p.admits.call p.admits.is_line
 
-  no_unread : (said : List Said) (k : ℕ) (one : Said) → Stands said file → Reaches said k one → IsRecordOfNoReport one → ⊥
-  no_unread said k one stood at none = let p = at_place said k one stood at in none.1 p.report p.spelled (ap (λ (x : Said). x.1) p.says)
-
-  no_refused : (said : List Said) (k code : ℕ) (one : Said) → Stands said file → (at : Reaches said k one) → IsRecordRefusedWith at.front one code → ⊥
-  no_refused said k code one stood at (inl (epoch, is)) = let p = at_place said k one stood at in epoch (ap (λ (x : Said). x.0) p.says)
-  no_refused said k code one stood at (inr (epoch, (r, has, says, refused))) =
-      let p = at_place said k one stood at in
-      let same = same_report p.report r p.spelled has (sym (ap (λ (x : Said). x.1) p.says) ∙ says) in
-      let passes = passes_at (counting accepted) at.front p.later p.report reach p.parts in
-      not_refused at.front r code (subst (λ (x : Report). Passes (counting at.front) (unmarked x)) same passes) refused
+  no_refused : (others : List Said) (k code : ℕ) (one : Said) → Stands others file → (at : Reaches others k one) → IsRecordRefusedBy at.held one code → ⊥
+  no_refused others k code one stood at refused =
+      let p = at_place others k one stood at in
+      let same = one_opening at.front p.held at.held p.opens at.opens in
+      not_refused at.held one code p.after (subst (λ (h : Held). Admits h one p.after) same p.admits) refused
 
   pub own_file : (fault : DeskFault) → RefusesFile file fault → IsNotOfTheFile fault
-  own_file Foreign foreign = foreign_stands file (map said_of accepted) foreign stands
-  own_file (Damaged k) damaged = damaged_stands file k (map said_of accepted) damaged stands
-  own_file (Line k) (said, stood, (one, at, none)) = no_unread said k one stood at none
-  own_file (Refused k code) (said, stood, (one, at, refused)) = no_refused said k code one stood at refused
+  own_file Foreign foreign = foreign_stands file said foreign stands
+  own_file (Damaged k) damaged = damaged_stands file k said damaged stands
+  own_file (Line k) (others, stood, (one, at, none)) = no_line others k one stood at none
+  own_file (Refused k code) (others, stood, (one, at, refused)) = no_refused others k code one stood at refused
   own_file Device refused = tt
   own_file Memory refused = tt
 
 -- a file that a desk leaves
-pub own_refused : (file : List ℕ) (accepted : List Report) (turns : List Turn) → AreSpelled accepted → IsReachable (counting accepted) → ((m : MarkedReport) → IsPending turns m → MayFollow accepted m)
-    → MayStandFor accepted turns file → (fault : DeskFault) → RefusesFile file fault → IsNotOfTheFile fault
-own_refused file accepted turns has reach pends (inl stands) fault refused = own_file file accepted has reach stands fault refused
-own_refused file accepted turns has reach pends (inr (m, pending, stands)) fault refused =
-    let follows = pends m pending in
-    let after = with_report (counting accepted) m in
-    own_file file (accepted ++ m.report ∷ []) (spelled_more accepted m.report follows.0 has) (counting_reached after (one_more (counting accepted) m reach follows.1)) stands fault refused
+pub own_refused : (file : List ℕ) (said : List Said) (epoch : ℕ) (turns : List Turn) (held : Held) → Opens said held → ((one : Said) → IsPending epoch turns one → (after : Held) × Admits held one after)
+    → MayStandFor said epoch turns file → (fault : DeskFault) → RefusesFile file fault → IsNotOfTheFile fault
+own_refused file said epoch turns held opens pends (inl stands) fault refused = own_file file said held opens stands fault refused
+own_refused file said epoch turns held opens pends (inr (one, pending, stands)) fault refused =
+    let next = pends one pending in
+    own_file file (said ++ one ∷ []) next.0 (one_more one next.0 opens next.1) stands fault refused

@@ -11,7 +11,7 @@ pub short_call : (line : List ℕ) (call : Call) → length line ≤ 8192 → li
 short_call line (calls.Report m) few is = omega (arith, few, ap length is, no_longer m)
 short_call line (calls.Line names) few is = tt
 short_call line calls.Garbage few is = tt
-short_call line (calls.Settle front names) few is = tt
+short_call line (calls.Settle front names) few is = omega (arith, few, ap length is)
 short_call line (calls.State p) few is = tt
 short_call line calls.Bye few is = tt
 short_call line (calls.Bad n) few is = tt

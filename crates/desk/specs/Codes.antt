@@ -8,6 +8,7 @@ use Rattle.report_line.specs.declared.call.Call.{Call}
 use Rattle.report_line.specs.declared.reply.Reply.{Reply}
 use Rattle.chains.specs.Held.{Held}
 use Rattle.desk.specs.declared.turn.Turn.{Turn}
+use Rattle.record_file.specs.File.{Said}
 use Rattle.desk.specs.Desks.{DeskState}
 
 abbrev pub held_code : Coded Held
@@ -21,7 +22,11 @@ turn_code =
     code_by (Call × (ℕ × Reply)) (coded× call_code (coded× coded_ℕ reply_code)) (λ t. (t.call, (t.receipt.turn, t.receipt.reply)))
     (λ p. record { call = p.0; receipt = record { turn = p.1.0; reply = p.1.1 } }) (λ _. refl)
 
+abbrev pub said_code : Coded Said
+said_code = coded× coded_ℕ (coded_list coded_ℕ)
+
 abbrev pub desk_code : {D : Type 0} → Coded D → Coded (DeskState D)
 desk_code {D} disk =
-    code_by (Held × (Held × (List Turn × D))) (coded× held_code (coded× held_code (coded× (coded_list turn_code) disk))) (λ d. (d.held, (d.opening, (d.turns, d.disk))))
-    (λ p. record { held = p.0; opening = p.1.0; turns = p.1.1.0; disk = p.1.1.1 }) (λ _. refl)
+    code_by (Held × (Held × (List Said × (List Turn × D)))) (coded× held_code (coded× held_code (coded× (coded_list said_code) (coded× (coded_list turn_code) disk))))
+    (λ d. (d.held, (d.opening, (d.found, (d.turns, d.disk)))))
+    (λ p. record { held = p.0; opening = p.1.0; found = p.1.1.0; turns = p.1.1.1.0; disk = p.1.1.1.1 }) (λ _. refl)

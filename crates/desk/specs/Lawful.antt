@@ -1,11 +1,11 @@
 -- What holds of each desk.
 use Rattle.std.specs.Prelude.{◌≡◌, ℕ, ◌≤◌, List, true, false, length}
 use Rattle.line_disk.specs.Disk.{View, Leaves}
-use Rattle.report_line.specs.declared.marked.MarkedReport.{MarkedReport}
+use Rattle.record_file.specs.File.{Said, Stands}
 use Rattle.chains.specs.Held.{Held}
-use Rattle.chains.specs.Admission.{IsReachable}
-use Rattle.desk.specs.Desks.{DeskState}
-use Rattle.desk.specs.Files.{AreSpelled, StandsFor, MayStandFor, MayFollow, IsPending}
+use Rattle.desk.specs.Desks.{DeskState, records_of}
+use Rattle.desk.specs.Files.{MayStandFor, IsPending}
+use Rattle.desk.specs.Records.{Admits, Opens}
 use Rattle.desk.specs.Replays.{Replays}
 
 -- how many turns are made at most
@@ -16,15 +16,15 @@ turn_limit = 65536
 abbrev pub unstopped : Held → Held
 unstopped held = record { accepted = held.accepted; epochs = held.epochs; front = held.front; epoch = held.epoch; stopped = false }
 
--- The turns replay from what was held at the opening to what is held; admission reaches both from nothing. A crash leaves a file of the
--- accepted list, or after FAIL unknown of that or of that and the report that is pending, which the tests let pass behind it.
+-- The turns replay from what was held at the opening to what is held; opening the records that were found comes to the one, and opening
+-- all records to the other. A crash leaves a file of all records, or after FAIL unknown of these, or of these and the one that is
+-- pending, which opening admits behind them.
 pub record IsLawful {D : Type 0} (keeps : D → Type 0) (view : D → View) (desk : DeskState D) : Type 0 where
   pub replays : Replays desk.opening desk.turns desk.held
   pub goes : desk.opening.stopped ≡ false
-  pub opened : IsReachable desk.opening
+  pub opened : Opens desk.found desk.opening
   pub few : length desk.turns ≤ turn_limit
-  pub admitted : IsReachable (unstopped desk.held)
-  pub spelled : AreSpelled desk.held.accepted
-  pub pending : (m : MarkedReport) → IsPending desk.turns m → (desk.held.stopped ≡ true) × MayFollow desk.held.accepted m
-  pub running : desk.held.stopped ≡ false → keeps desk.disk → (c : List ℕ) → Leaves (view desk.disk) c → StandsFor desk.held.accepted c
-  pub left : keeps desk.disk → (c : List ℕ) → Leaves (view desk.disk) c → MayStandFor desk.held.accepted desk.turns c
+  pub admitted : Opens (records_of desk) (unstopped desk.held)
+  pub pending : (one : Said) → IsPending desk.held.epoch desk.turns one → (desk.held.stopped ≡ true) × ((after : Held) × Admits (unstopped desk.held) one after)
+  pub running : desk.held.stopped ≡ false → keeps desk.disk → (c : List ℕ) → Leaves (view desk.disk) c → Stands (records_of desk) c
+  pub left : keeps desk.disk → (c : List ℕ) → Leaves (view desk.disk) c → MayStandFor (records_of desk) desk.held.epoch desk.turns c

@@ -1,12 +1,14 @@
 pub mod Replays
+pub mod Records
 pub mod Desks
 pub mod Files
 pub mod Placed
 pub mod Lawful
 pub mod Openings
-pub mod OneList
+pub mod OneOpening
 pub mod OfHistories
 pub mod Codes
 pub mod Faults
 pub mod Reading
 pub mod Parts
+pub mod Inside

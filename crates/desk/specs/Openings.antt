@@ -1,62 +1,74 @@
 -- What opening a desk answers.
-use Rattle.std.specs.Prelude.{◌≡◌, ◌≢◌, ◌⊎◌, ℕ, ◌+◌, List, [], ◌∷◌, ◌++◌, map, length, Option, ⊤}
+use Rattle.std.specs.Prelude.{◌≡◌, ◌≢◌, ◌⊎◌, ℕ, ◌+◌, List, ◌∷◌, ◌++◌, [], length, Option, ⊤}
 use Rattle.line_disk.specs.Disk.{View, one_more}
 use Rattle.record_file.specs.File.{Said, Stands, IsForeign, IsDamaged}
 use Rattle.record_file.specs.Opening.{KeepsFile, IsSynced, IsUntouched}
-use Rattle.report_line.specs.Reports.{unmarked}
 use Rattle.report_line.specs.Replies.{code_number}
-use Rattle.report_line.specs.Spelling.{HasSpelling}
 use Rattle.report_line.specs.declared.code.Code.{Code}
+use Rattle.report_line.specs.declared.code.Code.TheVariants.{OtherEpoch}
 use Rattle.report_line.specs.declared.report.Report.{Report}
+use Rattle.report_line.specs.declared.report.Report.TheVariants.{Begin, Numbered}
 use Rattle.report_line.specs.declared.marked.MarkedReport.{MarkedReport}
+use Rattle.report_line.specs.declared.call.Call.{Call}
 use Rattle.report_line.specs.declared.call.Call.TheVariants as calls
 use Rattle.report_line.specs.declared.reply.Reply.TheVariants.{Old, No}
-use Rattle.chains.specs.Held.{counting}
-use Rattle.chains.specs.Admission.{IsAdmission, IsReachable}
-use Rattle.desk.specs.Files.{line_of, said_of, AreSpelled, IsPending}
-use Rattle.desk.specs.declared.turn.Turn.{Turn}
+use Rattle.chains.specs.Processes.{Name}
+use Rattle.chains.specs.Held.{Held}
+use Rattle.chains.specs.Admission.{IsAdmission}
+use Rattle.chains.specs.Turns.{IsSettling}
+use Rattle.desk.specs.Records.{marked, IsLineOf, Admits, Opens}
+use Rattle.desk.specs.Files.{IsPending}
+use Rattle.desk.specs.Desks.{DeskState, records_of}
+use Rattle.desk.specs.Lawful.{unstopped}
 use Rattle.desk.specs.declared.fault.DeskFault.{DeskFault}
 use Rattle.desk.specs.declared.fault.DeskFault.TheVariants.{Foreign, Damaged, Line, Refused, Device, Memory}
 
--- The k-th of the records says this; the records before it are those of reports that were admitted in their order.
+-- The k-th of the records says this; those before it are admitted in their order, and come to what is held.
 pub record Reaches (said : List Said) (k : ℕ) (one : Said) : Type 0 where
-  pub front : List Report
+  pub front : List Said
   pub rest : List Said
-  pub parts : said ≡ map said_of front ++ one ∷ rest
+  pub parts : said ≡ front ++ one ∷ rest
   pub number : k ≡ length front + 1
-  pub spelled : AreSpelled front
-  pub admitted : IsReachable (counting front)
+  pub held : Held
+  pub opens : Opens front held
 
--- no report has this line for its own without a mark
-abbrev pub IsOfNoReport : List ℕ → Type 0
-IsOfNoReport line = (r : Report) → HasSpelling (calls.Report (unmarked r)) → line ≢ line_of r
+-- the record is the line of no call that is recorded
+abbrev pub IsLineOfNone : Said → Type 0
+IsLineOfNone one = (call : Call) → ¬ IsLineOf one call
 
--- a refusal by this number: 1 for a report that was accepted before
-abbrev pub IsRefusedBy : List Report → Report → ℕ → Type 0
-IsRefusedBy accepted r code =
-    ((code ≡ 1) × ((front : ℕ) × IsAdmission (counting accepted) (unmarked r) (Old front)))
-    ⊎ ((why : Code) × (name value : Option (List ℕ)) × (code ≡ code_number why) × IsAdmission (counting accepted) (unmarked r) (No why name value))
+-- the report is refused by this number: 1 where it was accepted before
+abbrev pub IsReportRefusedBy : Held → MarkedReport → ℕ → Type 0
+IsReportRefusedBy held m code =
+    ((code ≡ 1) × ((front : ℕ) × IsAdmission held m (Old front)))
+    ⊎ ((why : Code) × (name value : Option (List ℕ)) × (code ≡ code_number why) × IsAdmission held m (No why name value))
 
--- the line is that of a report that is refused with this number
-abbrev pub IsRefusedWith : List Report → List ℕ → ℕ → Type 0
-IsRefusedWith accepted line code = (r : Report) × HasSpelling (calls.Report (unmarked r)) × (line ≡ line_of r) × IsRefusedBy accepted r code
+-- the settlement is refused by this number
+abbrev pub IsSettlementRefusedBy : Held → ℕ → List Name → ℕ → Type 0
+IsSettlementRefusedBy held front names code = (why : Code) × (name value : Option (List ℕ)) × (code ≡ code_number why) × IsSettling held front names (No why name value)
 
--- the number by which a record of another epoch is refused
-abbrev pub other_epoch : ℕ
-other_epoch = 19
+-- where its epoch is not the present one, that refuses it before all else
+abbrev pub FirstByEpoch : Held → ℕ → ℕ → Type 0 → Type 0
+FirstByEpoch held epoch code later = ((epoch ≢ held.epoch) × (code ≡ code_number OtherEpoch)) ⊎ ((epoch ≡ held.epoch) × later)
 
--- A record is refused with this number: for its epoch, before all else, where that is not 0; or else as the report of its line is.
-abbrev pub IsRecordRefusedWith : List Report → Said → ℕ → Type 0
-IsRecordRefusedWith accepted one code = ((one.0 ≢ 0) × (code ≡ other_epoch)) ⊎ ((one.0 ≡ 0) × IsRefusedWith accepted one.1 code)
+abbrev pub IsRefusedWithEpoch : Held → ℕ → Report → ℕ → Type 0
+IsRefusedWithEpoch held epoch (Begin p) code = FirstByEpoch held epoch code (IsReportRefusedBy held (marked epoch (Begin p)) code)
+IsRefusedWithEpoch held epoch (Numbered r) code = IsReportRefusedBy held (marked epoch (Numbered r)) code
 
--- a record of epoch 0 that is the line of no report
-abbrev pub IsRecordOfNoReport : Said → Type 0
-IsRecordOfNoReport one = (one.0 ≡ 0) × IsOfNoReport one.1
+-- With this epoch the call is refused by this number: a BEGIN or a settlement of another epoch than the present one by that, before all
+-- other tests, and each other report by the first test that it fails.
+abbrev pub IsCallRefusedBy : Held → ℕ → Call → ℕ → Type 0
+IsCallRefusedBy held epoch (calls.Report m) code = IsRefusedWithEpoch held epoch m.report code
+IsCallRefusedBy held epoch (calls.Settle front names) code = FirstByEpoch held epoch code (IsSettlementRefusedBy held front names code)
+IsCallRefusedBy held epoch _ code = ⊥
+
+-- the record is refused by this number
+abbrev pub IsRecordRefusedBy : Held → Said → ℕ → Type 0
+IsRecordRefusedBy held one code = (call : Call) × IsLineOf one call × IsCallRefusedBy held one.0 call code
 
 -- when the records are refused
 abbrev pub RefusesRecords : List Said → DeskFault → Type 0
-RefusesRecords said (Line k) = (one : Said) × Reaches said k one × IsRecordOfNoReport one
-RefusesRecords said (Refused k code) = (one : Said) × (at : Reaches said k one) × IsRecordRefusedWith at.front one code
+RefusesRecords said (Line k) = (one : Said) × Reaches said k one × IsLineOfNone one
+RefusesRecords said (Refused k code) = (one : Said) × (at : Reaches said k one) × IsRecordRefusedBy at.held one code
 RefusesRecords said Memory = ⊤
 RefusesRecords said _ = ⊥
 
@@ -75,9 +87,12 @@ IsNotOfTheFile Device = ⊤
 IsNotOfTheFile Memory = ⊤
 IsNotOfTheFile _ = ⊥
 
--- A desk that is opened again has this accepted list: the one before, or that and a report that was pending.
-abbrev pub IsReopened : List Report → List Turn → List Report → Type 0
-IsReopened accepted turns opening = (opening ≡ accepted) ⊎ ((m : MarkedReport) × IsPending turns m × (opening ≡ accepted ++ m.report ∷ []))
+-- A desk that is opened again found the records of the one before, and holds what that held; or these and the one that was pending, and
+-- what admitting that came to.
+abbrev pub IsReopened : {D : Type 0} → DeskState D → List Said → Held → Type 0
+IsReopened desk found held =
+    ((found ≡ records_of desk) × (held ≡ unstopped desk.held))
+    ⊎ ((one : Said) × IsPending desk.held.epoch desk.turns one × (found ≡ records_of desk ++ one ∷ []) × Admits (unstopped desk.held) one held)
 
 -- the device failed where the fault is the device's, and only there
 abbrev pub CountsDeskFault : DeskFault → ℕ → ℕ → Type 0

@@ -2,32 +2,35 @@
 use Rattle.std.specs.Prelude.{◌≡◌, ◌≢◌, ◌⊎◌, ℕ, List, ⊤}
 use Rattle.record_file.specs.File.{Said}
 use Rattle.report_line.specs.Replies.{code_number}
+use Rattle.report_line.specs.Spelling.{spelling, HasSpelling}
 use Rattle.report_line.specs.declared.code.Code.TheVariants.{OutOfMemory}
-use Rattle.report_line.specs.declared.report.Report.{Report}
+use Rattle.report_line.specs.declared.call.Call.{Call}
 use Rattle.chains.specs.declared.refusal.No.{No}
-use Rattle.desk.specs.Openings.{IsOfNoReport, IsRefusedWith, IsRecordOfNoReport, IsRecordRefusedWith}
+use Rattle.chains.specs.Held.{Held}
+use Rattle.desk.specs.Openings.{IsLineOfNone, IsCallRefusedBy, IsRecordRefusedBy}
+use Rattle.desk.specs.Records.{IsRecorded}
 use Rattle.desk.specs.declared.fault.DeskFault.{DeskFault}
 use Rattle.desk.specs.declared.fault.DeskFault.TheVariants.{Line, Refused, Memory}
 
--- the record of this number is no line of a report, or memory was wanting
+-- the line of the record of this number is that of no call, or memory was wanting
 abbrev pub IsUnread : ℕ → List ℕ → DeskFault → Type 0
-IsUnread k line (Line j) = (j ≡ k) × IsOfNoReport line
+IsUnread k line (Line j) = (j ≡ k) × ((call : Call) → HasSpelling call → line ≢ spelling call)
 IsUnread k line Memory = ⊤
 IsUnread k line _ = ⊥
 
--- the record of this number is no line of a report, or that of one that is refused, or memory was wanting
-abbrev pub RefusesLine : List Report → ℕ → List ℕ → DeskFault → Type 0
-RefusesLine accepted k line (Line j) = (j ≡ k) × IsOfNoReport line
-RefusesLine accepted k line (Refused j code) = (j ≡ k) × IsRefusedWith accepted line code
-RefusesLine accepted k line Memory = ⊤
-RefusesLine accepted k line _ = ⊥
+-- the call of the record of this number is none that is recorded, or refused, or memory was wanting
+abbrev pub RefusesCall : Held → ℕ → ℕ → Call → DeskFault → Type 0
+RefusesCall held k epoch call (Line j) = (j ≡ k) × (¬ IsRecorded call)
+RefusesCall held k epoch call (Refused j code) = (j ≡ k) × IsRecorded call × IsCallRefusedBy held epoch call code
+RefusesCall held k epoch call Memory = ⊤
+RefusesCall held k epoch call _ = ⊥
 
--- the same of a record, whose epoch may be another one
-abbrev pub RefusesRecord : List Report → ℕ → Said → DeskFault → Type 0
-RefusesRecord accepted k one (Line j) = (j ≡ k) × IsRecordOfNoReport one
-RefusesRecord accepted k one (Refused j code) = (j ≡ k) × IsRecordRefusedWith accepted one code
-RefusesRecord accepted k one Memory = ⊤
-RefusesRecord accepted k one _ = ⊥
+-- the record of this number is the line of no call that is recorded, or refused, or memory was wanting
+abbrev pub RefusesRecord : Held → ℕ → Said → DeskFault → Type 0
+RefusesRecord held k one (Line j) = (j ≡ k) × IsLineOfNone one
+RefusesRecord held k one (Refused j code) = (j ≡ k) × IsRecordRefusedBy held one code
+RefusesRecord held k one Memory = ⊤
+RefusesRecord held k one _ = ⊥
 
 -- the fault for a refusal
 abbrev pub IsFaultOf : ℕ → No → DeskFault → Type 0

@@ -1,14 +1,15 @@
 //! The desk.
 
-ghost use Rattle.std.specs.Prelude.{◌≡◌, ◌↔◌, ◌⊎◌, ◌+◌, ◌≤◌, ◌++◌, [], ◌∷◌, ℕ, List, true, false, length, map, IfOk, IfErr, MatchResult, vec_capacity};
+ghost use Rattle.std.specs.Prelude.{◌≡◌, ◌↔◌, ◌+◌, ◌≤◌, ◌++◌, [], ◌∷◌, ℕ, List, true, false, length, IfOk, IfErr, MatchResult, vec_capacity};
 ghost use Rattle.line_disk.specs.Disk.{Leaves, LeavesAlways};
+ghost use Rattle.record_file.specs.File.{Stands};
 ghost use Rattle.record_file.specs.Kept.{said_in};
 ghost use Rattle.report_line.specs.declared.reply.Outcome.TheVariants as outcomes;
 ghost use Rattle.report_line.specs.declared.reply.Reply.TheVariants.{Fail};
 ghost use Rattle.chains.specs.Held.{held_of};
-ghost use Rattle.chains.specs.Admission.{IsReachable};
 ghost use Rattle.desk.specs.Faults.{from_store};
-ghost use Rattle.desk.specs.Files.{said_of, AreSpelled};
+ghost use Rattle.desk.specs.Records.{Opens};
+ghost use Rattle.desk.specs.Desks.{records_of};
 ghost use Rattle.desk.specs.Lawful.{turn_limit};
 ghost use Rattle.desk.specs.Openings.{RefusesRecords};
 
@@ -25,7 +26,7 @@ use std::marker::Model;
 
 const TURN_LIMIT: usize = 65536;
 
-/// Accepted reports whose records are in a file, and the turns that were made since it was opened.
+/// What was accepted, whose records are in a file, and the turns that were made since it was opened.
 #[derive(Drop)]
 pub struct Desk<D: Disk> {
     chains: Chains,
@@ -37,23 +38,22 @@ pub struct Desk<D: Disk> {
 }
 
 impl<D: Disk> Model for Desk<D> {
-    ghost use Rattle.std.specs.Prelude.{◌≡◌, ◌≤◌, false, map, vec_capacity};
+    ghost use Rattle.std.specs.Prelude.{◌≡◌, ◌≤◌, false, vec_capacity};
     ghost use Rattle.record_file.specs.Store.{disk_of, is_stopped, HasRecords};
-    ghost use Rattle.chains.specs.Held.{held_of, held_with};
     ghost use Rattle.desk.specs.Codes.{desk_code};
-    ghost use Rattle.desk.specs.Desks.{DeskState};
-    ghost use Rattle.desk.specs.Files.{said_of};
+    ghost use Rattle.desk.specs.Desks.{DeskState, records_of};
+    ghost use Rattle.desk.specs.Inside.{desk_in};
     ghost use Rattle.desk.specs.Lawful.{IsLawful, turn_limit};
 
     ghost Value = { DeskState D };
 
     ghost coded = { desk_code D.code };
 
-    ghost view = { λ desk. record { held = held_with desk.chains (is_stopped desk.store); opening = held_of desk.opening; turns = desk.turns.items; disk = disk_of desk.store } };
+    ghost view = { desk_in };
 
     ghost invariant = { λ desk.
-        IsLawful D.keeps D.view (record { held = held_with desk.chains (is_stopped desk.store); opening = held_of desk.opening; turns = desk.turns.items; disk = disk_of desk.store })
-        × (is_stopped desk.store ≡ false → D.keeps (disk_of desk.store) → HasRecords D.view desk.store (map said_of desk.chains.accepted))
+        IsLawful D.keeps D.view (desk_in desk)
+        × (is_stopped desk.store ≡ false → D.keeps (disk_of desk.store) → HasRecords D.view desk.store (records_of (desk_in desk)))
         × (turn_limit ≤ vec_capacity desk.turns) };
 }
 
@@ -76,9 +76,7 @@ fn told<D>(refused: (OpenFault, D)) -> (DeskFault, D)
 
 /// The chains of these records, admitted in order, and a copy of them.
 fn chains_of(alloc: Global, records: &[(u32, Vec<u8>)]) -> Result<(Chains, Chains), DeskFault>
-    ensures ok { IfOk result (λ both. said_in records.now ≡ map said_of both.0.accepted) }
-    ensures spelled { IfOk result (λ both. AreSpelled both.0.accepted) }
-    ensures admitted { IfOk result (λ both. IsReachable (held_of both.0)) }
+    ensures ok { IfOk result (λ both. Opens (said_in records.now) (held_of both.0)) }
     ensures copy { IfOk result (λ both. held_of both.1 ≡ held_of both.0) }
     ensures err { IfErr result (RefusesRecords (said_in records.now)) }
 {
@@ -93,7 +91,7 @@ impl<D: Disk> Desk<D> {
     ghost use Rattle.record_file.specs.Opening.{KeepsFile, IsSynced};
     ghost use Rattle.chains.specs.Folded.{IsReached};
     ghost use Rattle.chains.specs.Turns.{IsTurn};
-    ghost use Rattle.desk.specs.Files.{StandsFor, MayStandFor, StandsWhile, IsShort, MayWantMemory, UsesDevice, CountsReply};
+    ghost use Rattle.desk.specs.Files.{MayStandFor, StandsWhile, IsShort, MayWantMemory, UsesDevice, CountsReply};
     ghost use Rattle.desk.specs.Lawful.{IsLawful, unstopped};
     ghost use Rattle.desk.specs.OfHistories.{IsTurnOfHistories, AreTurnsOfHistories};
     ghost use Rattle.desk.specs.Placed.{IsPlacedBy};
@@ -102,7 +100,9 @@ impl<D: Disk> Desk<D> {
     /// Opens the record file on a disk, and admits its records in order. It takes the memory for all turns. A fault hands the
     /// disk back.
     pub fn open(alloc: Global, disk: D) -> Result<Desk<D>, (DeskFault, D)>
-        ensures records { D.keeps disk → IfOk result (λ desk. StandsFor desk.held.accepted (D.view disk).seen) }
+        ensures records { D.keeps disk → IfOk result (λ desk. Stands desk.found (D.view disk).seen) }
+        // What admitting the records comes to.
+        ensures opened { IfOk result (λ desk. Opens desk.found desk.held) }
         ensures fresh { IfOk result (λ desk. (desk.held ≡ desk.opening) × (desk.turns ≡ []) × (desk.held.stopped ≡ false)) }
         ensures refused { D.keeps disk → IfErr result (λ e. RefusesFile (D.view disk).seen e.0) }
 
@@ -194,7 +194,7 @@ impl<D: Disk> Desk<D> {
     pub fn close(self) -> D
         ensures disk { result ≡ self.disk }
         // What a crash leaves from now on.
-        ensures left { D.keeps result → (c : List ℕ) → Leaves (D.view result) c → MayStandFor self.held.accepted self.turns c }
+        ensures left { D.keeps result → (c : List ℕ) → Leaves (D.view result) c → MayStandFor (records_of self) self.held.epoch self.turns c }
     {
         self.lawful();
         let Desk {
@@ -208,7 +208,7 @@ impl<D: Disk> Desk<D> {
 
     /// Closes the desk and opens its disk again: the list of turns begins anew.
     pub fn reopen(self) -> Result<Desk<D>, (DeskFault, D)>
-        ensures records { D.keeps self.disk → IfOk result (λ desk. IsReopened self.held.accepted self.turns desk.held.accepted) }
+        ensures records { D.keeps self.disk → IfOk result (λ desk. IsReopened self desk.found desk.held) }
         ensures fresh { IfOk result (λ desk. (desk.held ≡ desk.opening) × (desk.turns ≡ []) × (desk.held.stopped ≡ false)) }
         // A desk's own file is refused for nothing that it says.
         ensures refused { D.keeps self.disk → IfErr result (λ e. IsNotOfTheFile e.0) }
@@ -235,6 +235,7 @@ impl<D: Disk> Desk<D> {
         ensures turns { IfOk result (λ receipt. self.new.turns ≡ self.old.turns ++ record { call = call; receipt = receipt } ∷ []) }
         ensures number { IfOk result (λ receipt. receipt.turn ≡ length self.old.turns + 1) }
         ensures opening { self.new.opening ≡ self.old.opening }
+        ensures found { self.new.found ≡ self.old.found }
         ensures worn { length self.old.turns ≡ turn_limit → result ≡ Err TurnFault.Worn }
         ensures err { IfErr result (λ fault. self.new ≡ self.old) }
         ensures cause_err { result ≡ Err TurnFault.Worn → length self.old.turns ≡ turn_limit }
@@ -243,11 +244,11 @@ impl<D: Disk> Desk<D> {
         ensures of_histories { IfOk result (λ receipt. IsTurnOfHistories self.old.held call receipt.reply self.new.held) }
 
         // What a crash may leave at any moment of the call; what it leaves behind it says `lawful`.
-        ensures any_moment { D.keeps self.old.disk → LeavesAlways (StandsWhile self.old.held.accepted self.old.turns call) (D.view self.old.disk) (D.view self.new.disk) }
+        ensures any_moment { D.keeps self.old.disk → LeavesAlways (StandsWhile (records_of self.old) self.old.held.epoch self.old.turns call) (D.view self.old.disk) (D.view self.new.disk) }
         ensures before { IfOk result (λ receipt. receipt.reply ≡ Fail outcomes.Before → D.keeps self.old.disk
-            → (c : List ℕ) → Leaves (D.view self.new.disk) c → StandsFor self.old.held.accepted c) }
-        // That the report's own line was written, and how far it came where the device failed.
-        ensures placed { D.keeps self.old.disk → IfOk result (λ receipt. IsPlacedBy receipt.reply self.old.held.accepted call (D.view self.old.disk) (D.view self.new.disk)) }
+            → (c : List ℕ) → Leaves (D.view self.new.disk) c → Stands (records_of self.old) c) }
+        // That the record of just this call was written, and how far it came where the device failed.
+        ensures placed { D.keeps self.old.disk → IfOk result (λ receipt. IsPlacedBy receipt.reply (records_of self.old) self.old.held.epoch call (D.view self.old.disk) (D.view self.new.disk)) }
 
         // No other reply comes of a call of the device, and a stopped store makes none.
         ensures unmoved { IfOk result (λ receipt. ¬ UsesDevice receipt.reply → self.new.disk ≡ self.old.disk) }

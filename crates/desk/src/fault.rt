@@ -14,11 +14,10 @@ pub enum DeskFault {
     /// Behind the open gate of this record no whole record lies in the file. It is as it was.
     #[error("damaged {0}")]
     Damaged(usize),
-    /// This record is not the line of a report, or bears a mark.
+    /// This record is the line of neither a report nor a settlement, or bears a mark.
     #[error("line {0}")]
     Line(usize),
-    /// This record is refused by this number: that of the test which its report fails, 1 where that was accepted before, and 19 where
-    /// its epoch is not 0.
+    /// This record is refused by this number: that of the first test that it fails, or 1 where its report was accepted before.
     #[error("refused {0} {1}")]
     Refused(usize, u8),
     /// The device failed.

@@ -10,10 +10,11 @@ mod fault;
 mod laws;
 mod opening;
 mod placing;
+mod returning;
 mod turn;
 mod twice;
 
 pub use desk::Desk;
 pub use fault::DeskFault;
-pub use laws::files_are_of_one_list;
+pub use laws::{files_open_to_one, other_epochs_change_nothing};
 pub use turn::{Receipt, Turn, TurnFault};

@@ -1,61 +1,44 @@
 //! Records that are admitted.
 
-ghost use Rattle.std.specs.Prelude.{◌≡◌, ◌≢◌, ◌+◌, ◌++◌, [], ◌∷◌, map, MatchOption, IfOk, IfErr, OnOk};
+ghost use Rattle.std.specs.Prelude.{◌≡◌, ◌≢◌, ◌+◌, IfOk, IfErr, OnOk, IsTrue, ◌↔◌};
 ghost use Rattle.record_file.specs.Kept.{said_in};
-ghost use Rattle.report_line.specs.declared.report.Report.{Report as AnyReport};
 ghost use Rattle.report_line.specs.declared.call.Call.TheVariants as calls;
-ghost use Rattle.report_line.specs.Reports.{unmarked};
-ghost use Rattle.report_line.specs.Spelling.{HasSpelling};
-ghost use Rattle.chains.specs.Held.{counting, held_of, with_report};
-ghost use Rattle.chains.specs.Admission.{Passes, IsReachable};
-ghost use Rattle.desk.specs.Files.{line_of, said_of, AreSpelled};
+ghost use Rattle.report_line.specs.Spelling.{spelling, HasSpelling};
+ghost use Rattle.report_line.specs.Replies.{code_number};
+ghost use Rattle.chains.specs.Held.{held_of};
+ghost use Rattle.desk.specs.Records.{AdmitsCall, Admits, IsRecorded, IsBegin, Opens};
 ghost use Rattle.desk.specs.Openings.{RefusesRecords};
-ghost use Rattle.desk.specs.Reading.{IsUnread, RefusesLine, RefusesRecord, IsFaultOf};
+ghost use Rattle.desk.specs.Reading.{IsUnread, RefusesCall, RefusesRecord, IsFaultOf};
 
 use crate::fault::DeskFault;
 use chains::{Admitted, Chains, No};
-use report_line::{Call, Code, LineFault, MarkedReport, PackedReport, Shared, read_line};
+use propagate::settle_named;
+use report_line::{
+    Call, Code, LineFault, MarkedReport, Names, PackedReport, ReportView, read_line,
+};
 use std::alloc::Global;
 
-/// The number by which a record of another epoch than 0 is refused.
-const OTHER_EPOCH: u8 = 19;
-
-/// The report, if it bears no mark.
-fn without_mark(report: MarkedReport) -> Option<Shared<PackedReport>>
-    ensures { MatchOption result ((r : AnyReport) → report ≢ unmarked r) (λ r. report ≡ unmarked r) }
+/// Whether the report is a BEGIN.
+fn is_begin(report: &PackedReport) -> bool
+    ensures { IsTrue result ↔ IsBegin report.now }
 {
-    if report.epoch == 0 {
-        return Some(report.report);
-    }
-    None
-}
-
-/// The report of a call, if it is one and bears no mark.
-fn report_of(call: Call) -> Option<Shared<PackedReport>>
-    ensures { MatchOption result ((r : AnyReport) → call ≢ calls.Report (unmarked r)) (λ r. call ≡ calls.Report (unmarked r)) }
-{
-    match call {
-        Call::Report(report) => without_mark(report),
-        _ => None,
+    match report.view() {
+        ReportView::Begin { .. } => true,
+        ReportView::Numbered(_) => false,
     }
 }
 
-/// Reads the line of a report, which is the record of this number.
-fn read_report(alloc: Global, number: usize, line: &[u8]) -> Result<Shared<PackedReport>, DeskFault>
-    ensures ok { IfOk result (λ r. (line.now ≡ line_of r) × HasSpelling (calls.Report (unmarked r))) }
-    ensures err { IfErr result (IsUnread number line.now) }
+/// Whether the report is a BEGIN, and the epoch another one than the present.
+fn begins_in_other_epoch(chains: &Chains, epoch: u32, report: &PackedReport) -> bool
+    ensures { IsTrue result ↔ (IsBegin report.now × (epoch ≢ chains.now.epoch)) }
 {
-    match read_line(alloc, line) {
-        Ok(call) => match report_of(call) {
-            Some(report) => Ok(report),
-            None => Err(DeskFault::Line(number)),
-        },
-        Err(LineFault::Grammar) => Err(DeskFault::Line(number)),
-        Err(LineFault::Memory) => Err(DeskFault::Memory),
+    if !is_begin(report) {
+        return false;
     }
+    epoch != chains.epoch()
 }
 
-/// The fault of a record whose report is refused.
+/// The fault of a record that is refused.
 fn fault_of(number: usize, refusal: No) -> DeskFault
     ensures { IsFaultOf number refusal result }
 {
@@ -65,44 +48,110 @@ fn fault_of(number: usize, refusal: No) -> DeskFault
     DeskFault::Refused(number, refusal.code.number())
 }
 
-/// Admits the record of this number.
-fn admit_line(chains: &mut Chains, number: usize, line: &[u8]) -> Result<(), DeskFault>
-    requires { held_of chains.old ≡ counting chains.old.accepted }
-    ensures ok { OnOk result ((r : AnyReport) × (line.now ≡ line_of r) × HasSpelling (calls.Report (unmarked r)) × Passes (held_of chains.old) (unmarked r)
-        × (held_of chains.new ≡ with_report (held_of chains.old) (unmarked r))) }
-    ensures err { IfErr result (RefusesLine chains.old.accepted number line.now) }
+/// The refusal of a record of another epoch than the present one.
+fn other_epoch(number: usize) -> DeskFault
+    ensures { result ≡ DeskFault.Refused number (code_number Code.OtherEpoch) }
 {
-    let report = read_report(chains.alloc(), number, line)?;
-    match chains.admit_shared(MarkedReport::unmarked(report)) {
+    DeskFault::Refused(number, Code::OtherEpoch.number())
+}
+
+/// Admits the report of the record of this number, with the epoch that stands there.
+fn admit_report(
+    chains: &mut Chains,
+    number: usize,
+    epoch: u32,
+    report: MarkedReport,
+) -> Result<(), DeskFault>
+    ensures ok { OnOk result (IsRecorded (calls.Report report) × AdmitsCall (held_of chains.old) epoch (calls.Report report) (held_of chains.new)) }
+    ensures err { IfErr result (RefusesCall (held_of chains.old) number epoch (calls.Report report)) }
+{
+    if report.epoch != 0 {
+        return Err(DeskFault::Line(number));
+    }
+    if begins_in_other_epoch(chains, epoch, &report.report) {
+        return Err(other_epoch(number));
+    }
+    let report = report.report;
+    match chains.admit_shared(MarkedReport { epoch, report }) {
         Ok(Admitted::Accepted(_)) => Ok(()),
         Ok(Admitted::Old(_)) => Err(DeskFault::Refused(number, 1)),
         Err(refusal) => Err(fault_of(number, refusal)),
     }
 }
 
-/// Admits the record of this number, if it is of epoch 0.
+/// Admits the settlement of the record of this number, with the epoch that stands there.
+fn admit_settlement(
+    chains: &mut Chains,
+    number: usize,
+    epoch: u32,
+    front: u32,
+    names: &Names,
+) -> Result<(), DeskFault>
+    ensures ok { OnOk result (AdmitsCall (held_of chains.old) epoch (calls.Settle front names.now) (held_of chains.new)) }
+    ensures err { IfErr result (RefusesCall (held_of chains.old) number epoch (calls.Settle front names.now)) }
+{
+    if epoch != chains.epoch() {
+        return Err(other_epoch(number));
+    }
+    match chains.may_settle(front, names.as_slice()) {
+        Ok(()) => {}
+        Err(refusal) => return Err(fault_of(number, refusal)),
+    }
+    match settle_named(chains, names.as_slice()) {
+        Ok(returned) => {
+            *chains = returned;
+            Ok(())
+        }
+        Err(_) => Err(DeskFault::Memory),
+    }
+}
+
+/// Admits the call of the record of this number, with the epoch that stands there.
+fn admit_call(chains: &mut Chains, number: usize, epoch: u32, call: Call) -> Result<(), DeskFault>
+    ensures ok { OnOk result (IsRecorded call × AdmitsCall (held_of chains.old) epoch call (held_of chains.new)) }
+    ensures err { IfErr result (RefusesCall (held_of chains.old) number epoch call) }
+{
+    match call {
+        Call::Report(report) => admit_report(chains, number, epoch, report),
+        Call::Settle { front, names } => admit_settlement(chains, number, epoch, front, &names),
+        Call::Line(_) => Err(DeskFault::Line(number)),
+        Call::Garbage => Err(DeskFault::Line(number)),
+        Call::State(_) => Err(DeskFault::Line(number)),
+        Call::Bye => Err(DeskFault::Line(number)),
+        Call::Bad(_) => Err(DeskFault::Line(number)),
+        Call::Unread => Err(DeskFault::Line(number)),
+    }
+}
+
+/// Reads the record of this number.
+fn read_record(alloc: Global, number: usize, line: &[u8]) -> Result<Call, DeskFault>
+    ensures ok { IfOk result (λ call. (line.now ≡ spelling call) × HasSpelling call) }
+    ensures err { IfErr result (IsUnread number line.now) }
+{
+    match read_line(alloc, line) {
+        Ok(call) => Ok(call),
+        Err(LineFault::Grammar) => Err(DeskFault::Line(number)),
+        Err(LineFault::Memory) => Err(DeskFault::Memory),
+    }
+}
+
+/// Admits the record of this number.
 fn admit_record(
     chains: &mut Chains,
     number: usize,
     epoch: u32,
     line: &[u8],
 ) -> Result<(), DeskFault>
-    requires { held_of chains.old ≡ counting chains.old.accepted }
-    ensures ok { OnOk result ((r : AnyReport) × ((epoch, line.now) ≡ said_of r) × HasSpelling (calls.Report (unmarked r)) × Passes (held_of chains.old) (unmarked r)
-        × (held_of chains.new ≡ with_report (held_of chains.old) (unmarked r))) }
-    ensures err { IfErr result (RefusesRecord chains.old.accepted number (epoch, line.now)) }
+    ensures ok { OnOk result (Admits (held_of chains.old) (epoch, line.now) (held_of chains.new)) }
+    ensures err { IfErr result (RefusesRecord (held_of chains.old) number (epoch, line.now)) }
 {
-    if epoch != 0 {
-        return Err(DeskFault::Refused(number, OTHER_EPOCH));
-    }
-    admit_line(chains, number, line)
+    let call = read_record(chains.alloc(), number, line)?;
+    admit_call(chains, number, epoch, call)
 }
 
 /// The chains of these records, admitted in order.
 pub(crate) fn admit_records(alloc: Global, records: &[(u32, Vec<u8>)]) -> Result<Chains, DeskFault>
-    ensures ok { IfOk result (λ chains. said_in records.now ≡ map said_of chains.accepted) }
-    ensures spelled { IfOk result (λ chains. AreSpelled chains.accepted) }
-    ensures admitted { IfOk result (λ chains. IsReachable (held_of chains)) }
+    ensures ok { IfOk result (λ chains. Opens (said_in records.now) (held_of chains)) }
     ensures err { IfErr result (RefusesRecords (said_in records.now)) }
 {
     let mut chains = Chains::new(alloc);

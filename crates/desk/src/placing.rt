@@ -1,19 +1,16 @@
-//! The turn of a report.
+//! The turn of a report: what is accepted has a record in the file first.
 
-ghost use Rattle.std.specs.Prelude.{◌≡◌, ◌↔◌, ◌⊎◌, ◌≤◌, ◌++◌, [], ◌∷◌, ℕ, List, true, false, length, map, Ok, IfOk};
-ghost use Rattle.line_disk.specs.Disk.{Leaves, LeavesAlways};
-ghost use Rattle.record_file.specs.Store.{disk_of, is_stopped, HasRecords};
+ghost use Rattle.std.specs.Prelude.{◌≡◌, ◌≤◌, false, length, Ok, IfOk};
+ghost use Rattle.record_file.specs.Store.{is_stopped};
 ghost use Rattle.report_line.specs.Reports.{unmarked};
 ghost use Rattle.report_line.specs.Spelling.{HasSpelling};
 ghost use Rattle.report_line.specs.declared.call.Call.TheVariants as calls;
-ghost use Rattle.report_line.specs.declared.reply.Outcome.TheVariants.{Unknown};
-ghost use Rattle.report_line.specs.declared.reply.Reply.TheVariants.{Fail};
 ghost use Rattle.chains.specs.Held.{held_of, held_with};
 ghost use Rattle.chains.specs.Answers.{Prepares, IsReady, MayBeAccepted};
 ghost use Rattle.chains.specs.Turns.{Fate, IsReportTurn, IsReported};
-ghost use Rattle.desk.specs.Files.{line_of, said_of, AreSpelled, UsesDevice, CountsReply};
-ghost use Rattle.desk.specs.Parts.{StandsWith, MayBeLeft};
-ghost use Rattle.desk.specs.Placed.{IsPlaced};
+ghost use Rattle.desk.specs.Records.{line_of, said_of, report_recorded};
+ghost use Rattle.desk.specs.Files.{UsesDevice};
+ghost use Rattle.desk.specs.Parts.{Writes};
 
 use crate::twice::{Twice, accepted, failed, old, refused, refused_by};
 use chains::{Chains, No, Prepared, Ready};
@@ -21,32 +18,20 @@ use line_disk::Disk;
 use record_file::{Appended, Store};
 use report_line::{Code, MarkedReport, Outcome, write_line};
 
-/// The epoch of each report.
-const EPOCH: u32 = 0;
-
 /// Accepts a report that was prepared: only where its record is in the file.
 fn append<D: Disk>(chains: &mut Chains, store: &mut Store<D>, ready: Ready) -> Twice
     requires ready { MayBeAccepted chains.old ready }
     requires short { length (line_of ready.report.report) ≤ 8192 }
     requires running { is_stopped store.old ≡ false }
-    requires rest { D.keeps (disk_of store.old) → HasRecords D.view store.old (map said_of chains.old.accepted) }
     ensures turn { (fate : Fate) × IsReportTurn fate (held_of chains.old) ready.report result (held_with chains.new (is_stopped store.new)) }
-    ensures spelled { AreSpelled chains.old.accepted → AreSpelled chains.new.accepted }
-    ensures pending { result ≡ Fail Unknown → HasSpelling (calls.Report (unmarked ready.report.report)) }
-    ensures rest { is_stopped store.new ≡ false → D.keeps (disk_of store.old) → HasRecords D.view store.new (map said_of chains.new.accepted) }
-    ensures left { D.keeps (disk_of store.old) → (c : List ℕ) → Leaves (D.view (disk_of store.new)) c
-        → MayBeLeft result chains.new.accepted ready.report.report c }
-    ensures placed { D.keeps (disk_of store.old) → IsPlaced result chains.old.accepted ready.report.report (D.view (disk_of store.old)) (D.view (disk_of store.new)) }
-    ensures any_moment { D.keeps (disk_of store.old) → LeavesAlways (StandsWith chains.old.accepted ready.report.report) (D.view (disk_of store.old)) (D.view (disk_of store.new)) }
-    ensures unmoved { ¬ UsesDevice result → store.new ≡ store.old }
-    ensures cause { CountsReply result (D.failed (disk_of store.old)) (D.failed (disk_of store.new)) }
-    ensures premise { D.keeps (disk_of store.new) ↔ D.keeps (disk_of store.old) }
+    ensures spelled { UsesDevice result → HasSpelling (calls.Report (unmarked ready.report.report)) }
+    ensures writes { Writes D.keeps D.view D.failed store.old store.new (said_of ready.report) (report_recorded ready.report result) result }
 {
     ready.report().known();
     let Ok(line) = write_line(chains.alloc(), ready.report()) else {
         return refused(Code::OutOfMemory);
     };
-    match store.append(EPOCH, &line) {
+    match store.append(ready.epoch(), &line) {
         Appended::Done => {
             let _ = chains.commit(Prepared::Ready(ready));
             accepted(chains.front())
@@ -68,18 +53,9 @@ fn place<D: Disk>(
     requires answer { Prepares (held_of chains.old) report.now (Ok prepared) }
     requires short { length (line_of report.now.report) ≤ 8192 }
     requires running { is_stopped store.old ≡ false }
-    requires rest { D.keeps (disk_of store.old) → HasRecords D.view store.old (map said_of chains.old.accepted) }
     ensures turn { (fate : Fate) × IsReportTurn fate (held_of chains.old) report.now result (held_with chains.new (is_stopped store.new)) }
-    ensures spelled { AreSpelled chains.old.accepted → AreSpelled chains.new.accepted }
-    ensures pending { result ≡ Fail Unknown → HasSpelling (calls.Report (unmarked report.now.report)) }
-    ensures rest { is_stopped store.new ≡ false → D.keeps (disk_of store.old) → HasRecords D.view store.new (map said_of chains.new.accepted) }
-    ensures left { D.keeps (disk_of store.old) → (c : List ℕ) → Leaves (D.view (disk_of store.new)) c
-        → MayBeLeft result chains.new.accepted report.now.report c }
-    ensures placed { D.keeps (disk_of store.old) → IsPlaced result chains.old.accepted report.now.report (D.view (disk_of store.old)) (D.view (disk_of store.new)) }
-    ensures any_moment { D.keeps (disk_of store.old) → LeavesAlways (StandsWith chains.old.accepted report.now.report) (D.view (disk_of store.old)) (D.view (disk_of store.new)) }
-    ensures unmoved { ¬ UsesDevice result → store.new ≡ store.old }
-    ensures cause { CountsReply result (D.failed (disk_of store.old)) (D.failed (disk_of store.new)) }
-    ensures premise { D.keeps (disk_of store.new) ↔ D.keeps (disk_of store.old) }
+    ensures spelled { UsesDevice result → HasSpelling (calls.Report (unmarked report.now.report)) }
+    ensures writes { Writes D.keeps D.view D.failed store.old store.new (said_of report.now) (report_recorded report.now result) result }
 {
     match prepared {
         Prepared::Old(front) => old(front),
@@ -103,18 +79,9 @@ fn prepare(chains: &mut Chains, report: &MarkedReport) -> Result<Prepared, No>
 fn reported<D: Disk>(chains: &mut Chains, store: &mut Store<D>, report: &MarkedReport) -> Twice
     requires short { length (line_of report.now.report) ≤ 8192 }
     requires running { is_stopped store.old ≡ false }
-    requires rest { D.keeps (disk_of store.old) → HasRecords D.view store.old (map said_of chains.old.accepted) }
     ensures turn { (fate : Fate) × IsReportTurn fate (held_of chains.old) report.now result (held_with chains.new (is_stopped store.new)) }
-    ensures spelled { AreSpelled chains.old.accepted → AreSpelled chains.new.accepted }
-    ensures pending { result ≡ Fail Unknown → HasSpelling (calls.Report (unmarked report.now.report)) }
-    ensures rest { is_stopped store.new ≡ false → D.keeps (disk_of store.old) → HasRecords D.view store.new (map said_of chains.new.accepted) }
-    ensures left { D.keeps (disk_of store.old) → (c : List ℕ) → Leaves (D.view (disk_of store.new)) c
-        → MayBeLeft result chains.new.accepted report.now.report c }
-    ensures placed { D.keeps (disk_of store.old) → IsPlaced result chains.old.accepted report.now.report (D.view (disk_of store.old)) (D.view (disk_of store.new)) }
-    ensures any_moment { D.keeps (disk_of store.old) → LeavesAlways (StandsWith chains.old.accepted report.now.report) (D.view (disk_of store.old)) (D.view (disk_of store.new)) }
-    ensures unmoved { ¬ UsesDevice result → store.new ≡ store.old }
-    ensures cause { CountsReply result (D.failed (disk_of store.old)) (D.failed (disk_of store.new)) }
-    ensures premise { D.keeps (disk_of store.new) ↔ D.keeps (disk_of store.old) }
+    ensures spelled { UsesDevice result → HasSpelling (calls.Report (unmarked report.now.report)) }
+    ensures writes { Writes D.keeps D.view D.failed store.old store.new (said_of report.now) (report_recorded report.now result) result }
 {
     match prepare(chains, report) {
         Err(refusal) => refused_by(chains.alloc(), refusal),
@@ -129,20 +96,9 @@ pub(crate) fn report_placed<D: Disk>(
     report: &MarkedReport,
 ) -> Twice
     requires short { length (line_of report.now.report) ≤ 8192 }
-    requires rest { is_stopped store.old ≡ false → D.keeps (disk_of store.old) → HasRecords D.view store.old (map said_of chains.old.accepted) }
     ensures turn { (fate : Fate) × IsReported (is_stopped store.old) fate (held_with chains.old (is_stopped store.old)) report.now result (held_with chains.new (is_stopped store.new)) }
-    ensures spelled { AreSpelled chains.old.accepted → AreSpelled chains.new.accepted }
-    ensures pending { result ≡ Fail Unknown → HasSpelling (calls.Report (unmarked report.now.report)) }
-    ensures rest { is_stopped store.new ≡ false → D.keeps (disk_of store.old) → HasRecords D.view store.new (map said_of chains.new.accepted) }
-    ensures left { is_stopped store.old ≡ false → D.keeps (disk_of store.old) → (c : List ℕ) → Leaves (D.view (disk_of store.new)) c
-        → MayBeLeft result chains.new.accepted report.now.report c }
-    ensures placed { D.keeps (disk_of store.old) → IsPlaced result chains.old.accepted report.now.report (D.view (disk_of store.old)) (D.view (disk_of store.new)) }
-    ensures any_moment { is_stopped store.old ≡ false → D.keeps (disk_of store.old)
-        → LeavesAlways (StandsWith chains.old.accepted report.now.report) (D.view (disk_of store.old)) (D.view (disk_of store.new)) }
-    ensures unmoved { ¬ UsesDevice result → store.new ≡ store.old }
-    ensures stopped { is_stopped store.old ≡ true → (store.new ≡ store.old) × (chains.new.accepted ≡ chains.old.accepted) }
-    ensures cause { CountsReply result (D.failed (disk_of store.old)) (D.failed (disk_of store.new)) }
-    ensures premise { D.keeps (disk_of store.new) ↔ D.keeps (disk_of store.old) }
+    ensures spelled { UsesDevice result → HasSpelling (calls.Report (unmarked report.now.report)) }
+    ensures writes { Writes D.keeps D.view D.failed store.old store.new (said_of report.now) (report_recorded report.now result) result }
 {
     if store.stopped() {
         return failed(Outcome::Stopped);

@@ -73,6 +73,16 @@ pub(crate) fn accepted(front: u32) -> Twice
     }
 }
 
+/// All returned to a line, behind which this is the epoch and this the front.
+pub(crate) fn settled(epoch: u32, front: u32) -> Twice
+    ensures { result ≡ Reply.Settled epoch front }
+{
+    Twice {
+        given: Reply::Settled { epoch, front },
+        kept: Reply::Settled { epoch, front },
+    }
+}
+
 /// The report was accepted before.
 pub(crate) fn old(front: u32) -> Twice
     ensures { result ≡ Reply.Old front }

@@ -2,3 +2,14 @@ pub mod Verdicts
 pub mod Owners
 pub mod Made
 pub mod Sound
+pub mod Closing
+pub mod ElementEvents
+pub mod Walked
+pub mod Standing
+pub mod Naming
+pub mod OneMore
+pub mod GoingOver
+pub mod Born
+pub mod InLine
+pub mod Unknown
+pub mod Settlement

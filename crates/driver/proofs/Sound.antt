@@ -32,7 +32,7 @@ abbrev pub first_stamp : Stamp
 first_stamp = record { id = One; events = Leaf 0 }
 
 -- names are compared in either order
-flipped : (p q : Name) → bytes_eq p q ≡ bytes_eq q p
+pub flipped : (p q : Name) → bytes_eq p q ≡ bytes_eq q p
 flipped p q =
     elim (cases_Bool (bytes_eq p q)) [
       | inl is ↦ is ∙ sym (bytes_same q p (sym (bytes_are p q is)))
@@ -154,9 +154,9 @@ pub adds : (old new : Tables) (made : Made) (name : Name) (between : Name → Op
     → name ≡ made.step.process
     → ((q : Name) → get bytes_eq new.known q ≡ (if bytes_eq name q then Some made.after else between q))
     → ((q : Name) → get bytes_eq new.messages q ≡ noted_message made.message q (get bytes_eq old.messages q))
-    → new.steps.items ≡ old.steps.items ++ made.step ∷ [] → new.root ≡ old.root → Adds old made.step new
-adds old new made name between sound ready other is_name actor message items root =
-    record { root = root; history = history; sound = sound_of new old.root (s ∷ h) root history after }
+    → new.steps.items ≡ old.steps.items ++ made.step ∷ [] → new.root ≡ old.root → new.epoch ≡ old.epoch → Adds old made.step new
+adds old new made name between sound ready other is_name actor message items root epoch =
+    record { root = root; epoch = epoch; history = history; sound = sound_of new old.root (s ∷ h) root history after }
   where
     s : Taken
     s = made.step

@@ -7,4 +7,5 @@ use Rattle.driver.specs.Chronicle.{Chronicle}
 
 abbrev pub chronicle_code : Coded Chronicle
 chronicle_code =
-    code_by (List ℕ × List Taken) (coded× (coded_list coded_ℕ) (coded_list step_code)) (λ c. (c.root, c.history)) (λ p. record { root = p.0; history = p.1 }) (λ _. refl)
+    code_by (List ℕ × (ℕ × List Taken)) (coded× (coded_list coded_ℕ) (coded× coded_ℕ (coded_list step_code)))
+    (λ c. (c.root, (c.epoch, c.history))) (λ p. record { root = p.0; epoch = p.1.0; history = p.1.1 }) (λ _. refl)

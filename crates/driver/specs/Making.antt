@@ -21,7 +21,7 @@ use Rattle.driver.specs.declared.tables.Tables.{Tables}
 use Rattle.driver.specs.declared.tables.Made.{Made}
 use Rattle.driver.specs.Stamping.{stamp_of, IsStamped}
 use Rattle.driver.specs.Verdicts.{HasRetired, IsVerdict}
-use Rattle.driver.specs.Tables.{IsMade, AreSound, history_in}
+use Rattle.driver.specs.Tables.{Changes, IsMade, AreSound, history_in}
 
 -- the process lives: its stamp, and how many reports it made
 pub record IsAlive (root : Name) (h : History) (p : Name) (a : Alive) : Type 0 where
@@ -109,6 +109,7 @@ MakingTold root h p act (Err f) = f ≢ faults.Memory → IsVerdict root h p act
 -- the same but for room
 pub record IsSame (old new : Tables) : Type 0 where
   pub root : new.root ≡ old.root
+  pub epoch : new.epoch ≡ old.epoch
   pub steps : new.steps.items ≡ old.steps.items
   pub known : new.known.entries ≡ old.known.entries
   pub messages : new.messages.entries ≡ old.messages.entries
@@ -124,10 +125,11 @@ pub record IsReady (root : Name) (h : History) (made : Made) : Type 0 where
   pub before : Event
   pub living : status root h made.step.process ≡ Living before
   pub allowed : IsAllowed root h before made.step made.step.deed
-  pub changes : IsMade root h made
+  pub changes : Changes h made
 
 -- just this step was added
 pub record Adds (old : Tables) (s : Taken) (new : Tables) : Type 0 where
   pub root : new.root ≡ old.root
+  pub epoch : new.epoch ≡ old.epoch
   pub history : history_in new ≡ s ∷ history_in old
   pub sound : AreSound new

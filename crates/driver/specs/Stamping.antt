@@ -45,5 +45,6 @@ pub record Takes (old : Chronicle) (a : Step) (new : Chronicle) (given : Option 
   pub step : Taken
   pub asked : IsStepAsked old.root old.history a step
   pub root : new.root ≡ old.root
+  pub epoch : new.epoch ≡ old.epoch
   pub history : new.history ≡ step ∷ old.history
   pub report : given ≡ report_of old.root old.history step

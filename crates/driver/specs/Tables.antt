@@ -63,6 +63,12 @@ abbrev pub kept_of_message : Deed → Stamp → Option Sent
 kept_of_message (Send m) s = Some (record { name = m; events = s.events })
 kept_of_message _ s = None
 
+-- with the step stands what it changes
+pub record Changes (h : History) (made : Made) : Type 0 where
+  pub actor : made.after ≡ kept_of_actor made.step.deed made.step.stamp (reporting_steps made.step.process h)
+  pub other : made.other ≡ kept_of_other made.step.deed made.step.stamp
+  pub message : made.message ≡ kept_of_message made.step.deed made.step.stamp
+
 -- with the step stands what it changes, and its report
 pub record IsMade (root : Name) (h : History) (made : Made) : Type 0 where
   pub actor : made.after ≡ kept_of_actor made.step.deed made.step.stamp (reporting_steps made.step.process h)

@@ -1,14 +1,30 @@
-//! A world of processes that stamp their steps by the rules of interval tree clocks, and its reports.
+//! A world of processes that stamp their steps by the rules of interval tree clocks, and its reports. It settles on a line: all
+//! processes return to it, and what is behind it is undone.
 #![tactic(auto)]
 
+ghost use Rattle.driver.specs.GreatestLines.{GreatestLineIsClosed};
+
+mod beginning;
 mod fault;
+mod keeping;
 mod known;
+mod line;
 mod making;
+mod mark;
+mod marking;
 mod noting;
+mod remaking;
+mod settling;
 mod step;
 mod tables;
 mod world;
 
 pub use fault::StepFault;
+pub use line::NamedPosition;
 pub use step::{Act, Step};
 pub use world::World;
+
+/// The line that is answered for the reports of a world, by names, is one that it returns to.
+pub fn a_greatest_line_is_closed()
+    ensures { GreatestLineIsClosed }
+{}

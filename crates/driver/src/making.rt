@@ -55,7 +55,7 @@ pub(crate) fn event(alloc: Global, stamp: &Stamp) -> Result<Stamp, StepFault>
 }
 
 // Whether the process is born.
-fn is_born(tables: &Tables, process: &Name) -> bool
+pub(crate) fn is_born(tables: &Tables, process: &Name) -> bool
     requires { AreSound tables.now }
     ensures { (result ≡ false) ↔ (status tables.now.root (history_in tables.now) process.now ≡ Unborn) }
 {
@@ -164,7 +164,7 @@ fn silent(
 }
 
 // The number of the next report.
-fn next_number(reports: u32) -> Result<u32, StepFault>
+pub(crate) fn next_number(reports: u32) -> Result<u32, StepFault>
     ensures ok { IfOk result (λ n. n ≡ reports + 1) }
     ensures err { IfErr result (λ f. f ≡ StepFault.Memory) }
 {

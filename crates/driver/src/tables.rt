@@ -5,10 +5,11 @@ use event_tree::Events;
 use indexmap::IndexMap;
 use report_line::{Name, Report, Step as Taken};
 
-/// The steps, the oldest first, and what they say of each name.
+/// The root, how many settlements there were, the steps, the oldest first, and what they say of each name.
 #[derive(Drop)]
 pub(crate) struct Tables {
     pub(crate) root: Name,
+    pub(crate) epoch: u32,
     pub(crate) steps: Vec<Taken>,
     pub(crate) known: IndexMap<Name, Known>,
     pub(crate) messages: IndexMap<Name, Events>,

@@ -9,16 +9,17 @@ ghost use Rattle.driver.specs.Verdicts.{IsVerdict};
 ghost use Rattle.driver.specs.Making.{MakingTold};
 ghost use Rattle.driver.specs.Tables.{AreSound, history_in};
 ghost use Rattle.driver.specs.Seen.{chronicle_in};
+ghost use Rattle.driver.specs.Settling.{HasUnknownName, IsClosedLine, Settles, RefusesLine};
 
+use crate::beginning::begun;
 use crate::fault::StepFault;
-use crate::known::Known;
+use crate::line::NamedPosition;
 use crate::making::{absorb, check, fork, present, receive, retire, send, work};
-use crate::noting::{add, note, reserve};
+use crate::noting::{add, reserve};
+use crate::settling::settle_on;
 use crate::step::{Act, Step};
 use crate::tables::{Made, Tables};
-use indexmap::IndexMap;
 use report_line::{Name, Report};
-use stamp::Stamp;
 use std::alloc::{AllocError, Global};
 use std::marker::Model;
 
@@ -48,11 +49,11 @@ impl Model for World {
 impl World {
     /// A world with its root alone, which begins.
     pub fn start(alloc: Global, root: Name) -> Result<(World, Report), AllocError>
-        ensures world { IfOk result (λ begun. begun.0 ≡ record { root = root; history = [] }) }
+        ensures world { IfOk result (λ begun. begun.0 ≡ record { root = root; epoch = 0; history = [] }) }
         ensures report { IfOk result (λ begun. begun.1 ≡ Report.Begin root) }
     {
         let process = root.copy();
-        let tables = begun(alloc, root)?;
+        let tables = begun(alloc, root, 0)?;
         Ok((World { alloc, tables }, Report::Begin { process }))
     }
 
@@ -74,25 +75,29 @@ impl World {
     {
         take_step(self.alloc, &mut self.tables, &asked)
     }
-}
 
-// The tables of a root at its birth.
-fn begun(alloc: Global, root: Name) -> Result<Tables, AllocError>
-    ensures { IfOk result (λ t. (t.root ≡ root) × (history_in t ≡ []) × AreSound t) }
-{
-    let mut known = IndexMap::new(alloc);
-    known.reserve(1)?;
-    let now = Known::Lives {
-        stamp: Stamp::first(alloc),
-        reports: 0,
-    };
-    note(&mut known, root.copy(), now);
-    Ok(Tables {
-        root,
-        steps: Vec::new(alloc),
-        known,
-        messages: IndexMap::new(alloc),
-    })
+    /// How many settlements there were.
+    pub fn epoch(&self) -> u32
+        ensures { result ≡ self.now.epoch }
+    {
+        self.tables.epoch
+    }
+
+    /// Returns all processes to a line, where these failed. Each event behind the line is undone, and what it sent, made and
+    /// absorbed is forgotten. A process that the line does not name is to be unborn; where its fork is kept all the same, it is at
+    /// its birth.
+    ///
+    /// `Unknown` where a name is that of no process; else `NotClosed` where the line is not a closed one; `Memory` may come in
+    /// place of any. A refused settlement leaves the world as it was.
+    pub fn settle(&mut self, failed: &[Name], line: &[NamedPosition]) -> Result<(), StepFault>
+        ensures known { OnOk result (¬ HasUnknownName self.old failed.now line.now) }
+        ensures closed { OnOk result (IsClosedLine self.old failed.now line.now) }
+        ensures settled { OnOk result (Settles self.old line.now self.new) }
+        ensures refused { IfErr result (λ fault. RefusesLine self.old failed.now line.now fault) }
+        ensures unchanged { OnErr result (self.new ≡ self.old) }
+    {
+        settle_on(self.alloc, &mut self.tables, failed, line)
+    }
 }
 
 // The step that is asked, made ready.

@@ -13,3 +13,5 @@ pub mod Staging
 pub mod Cutting
 pub mod Choosing
 pub mod Once
+pub mod Keepable
+pub mod Outcomes

@@ -22,7 +22,7 @@ use Rattle.propagate.proofs.Fallen.{no_member, member_first, member_more, member
 -- ---- positions
 
 -- a position that a process has is the one of its rank
-same_chosen : (accepted : List Report) (failed : List ℕ) (p : ℕ) (a b : Position) → IsChosen accepted failed p a → IsChosen accepted failed p b → rank accepted p a ≡ rank accepted p b → a ≡ b
+pub same_chosen : (accepted : List Report) (failed : List ℕ) (p : ℕ) (a b : Position) → IsChosen accepted failed p a → IsChosen accepted failed p b → rank accepted p a ≡ rank accepted p b → a ≡ b
 same_chosen accepted failed p a b first second e =
     sym (chosen_position accepted p failed a first) ∙ ap (position_at accepted p) e ∙ chosen_position accepted p failed b second
 
@@ -35,7 +35,7 @@ same_lowered accepted cut p a b first second =
     same_chosen accepted [] p a b first.position second.position
     (omega (arith, first.greatest b second.position second.before second.clear, second.greatest a first.position first.before first.clear))
 
-same_cut : (a b : List Position) → length a ≡ length b → ((p : ℕ) → p < length a → position_in a p ≡ position_in b p) → a ≡ b
+pub same_cut : (a b : List Position) → length a ≡ length b → ((p : ℕ) → p < length a → position_in a p ≡ position_in b p) → a ≡ b
 same_cut a b same each = ext_get_or (At 0) a b same each
 
 same_first : (accepted : List Report) (failed : List ℕ) (a b : List Position) → AreLastSurviving accepted failed a → AreLastSurviving accepted failed b → a ≡ b

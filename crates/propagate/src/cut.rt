@@ -60,14 +60,18 @@ fn reasons_due(
 
 /// The cut that the rounds end at, with how many they are.
 #[derive(Drop)]
-struct Settled {
+struct LastStage {
     stage: Stage,
     arena: Arena,
     rounds: u32,
 }
 
 /// Makes rounds up to the first that changes nothing, the first one by the table of needs, if there is one.
-fn settle(chains: &Chains, needs: Option<&Needs<'_>>, tops: &[u32]) -> Result<Settled, AllocError>
+fn last_stage(
+    chains: &Chains,
+    needs: Option<&Needs<'_>>,
+    tops: &[u32],
+) -> Result<LastStage, AllocError>
     requires complete { length tops.now ≡ length (known chains.now.accepted) }
     requires within { (p : ℕ) → p < length tops.now → slice_index tops.now p ≤ last_rank chains.now.accepted p }
     requires few { sum tops.now < 2 ^ 32 - 1 }
@@ -77,7 +81,7 @@ fn settle(chains: &Chains, needs: Option<&Needs<'_>>, tops: &[u32]) -> Result<Se
     ensures there { IfOk result (λ s. AreThere tops.now s.stage.cut.items s.stage.heads.items s.arena) }
     ensures rounds { IfOk result (λ s. (t : ℕ) × (s.rounds ≡ t + 1) × RanksAfter chains.now.accepted tops.now t s.stage.cut.items
         × AreChosenBy chains.now.accepted tops.now t s.stage.cut.items s.stage.heads.items s.arena) }
-    ensures settled { IfOk result (λ s. AreNextRanks chains.now.accepted s.stage.cut.items s.stage.cut.items) }
+    ensures still { IfOk result (λ s. AreNextRanks chains.now.accepted s.stage.cut.items s.stage.cut.items) }
     ensures few { IfOk result (λ s. s.rounds ≤ sum tops.now + 1) }
 {
     let mut arena = Arena::new(chains.alloc());
@@ -87,7 +91,7 @@ fn settle(chains: &Chains, needs: Option<&Needs<'_>>, tops: &[u32]) -> Result<Se
     loop {
         let next = round(chains, table, &mut arena, tops, &stage)?;
         if next.fell.is_empty() {
-            return Ok(Settled {
+            return Ok(LastStage {
                 stage: next,
                 arena,
                 rounds,
@@ -123,13 +127,13 @@ fn cut_by(chains: &Chains, needs: Option<&Needs<'_>>, failed: &Failed) -> Result
 {
     chains.lawful();
     let tops = last_surviving_ranks(chains, failed)?;
-    let settled = settle(chains, at_last(needs, &tops), &tops)?;
-    let line = line_at(chains, &settled.stage.cut)?;
-    let reasons = reasons_due(chains, &settled.arena, &tops, &settled.stage)?;
+    let last = last_stage(chains, at_last(needs, &tops), &tops)?;
+    let line = line_at(chains, &last.stage.cut)?;
+    let reasons = reasons_due(chains, &last.arena, &tops, &last.stage)?;
     Ok(Cut {
         line,
         reasons,
-        rounds: settled.rounds,
+        rounds: last.rounds,
     })
 }
 

@@ -1,4 +1,5 @@
-//! Rollback propagation: the greatest stamp-consistent cut, and why no process could stay further on.
+//! Rollback propagation: the greatest stamp-consistent cut, why no process could stay further on, and the settlement that returns
+//! all processes to it.
 #![tactic(auto)]
 
 mod arena;
@@ -6,8 +7,10 @@ mod cut;
 mod falls;
 mod places;
 mod rounds;
+mod settlement;
 
 pub use cut::{
     Cut, certificate, certificate_by, certificate_from, certified_lines_are_the_greatest,
     greatest_cut, greatest_cut_from, the_rounds_choose_once,
 };
+pub use settlement::{settle, settle_named, settlements_have_one_outcome};

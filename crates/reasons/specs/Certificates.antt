@@ -11,11 +11,8 @@ use Rattle.chains.specs.Elements.{elements, name_of}
 use Rattle.chains.specs.declared.position.Place.{Place}
 use Rattle.chains.specs.Positions.{IsLastSurviving, position_in, IsCut, is_retired, rank}
 use Rattle.chains.specs.Knowledge.{Knows, IsStampConsistent}
+pub use Rattle.chains.specs.Positions.{positions_of}
 use Rattle.reasons.specs.declared.certificate.Certificate.{Certificate}
-
--- the positions of a line, which lists a place of each process
-abbrev pub positions_of : List Place → List Position
-positions_of line = map (λ x. x.position) line
 
 -- the position below
 abbrev pub position_below : List Report → Place → Position

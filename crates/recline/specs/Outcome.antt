@@ -5,7 +5,8 @@ use Rattle.std.specs.Io.KnownBytes.{Appends}
 use Rattle.line_disk.specs.Disk.{View}
 use Rattle.record_file.specs.Opening.{KeepsFile, IsSynced}
 use Rattle.desk.specs.Desks.{DeskState}
-use Rattle.desk.specs.Files.{StandsFor}
+use Rattle.record_file.specs.File.{Stands}
+use Rattle.desk.specs.Records.{Opens}
 use Rattle.desk.specs.Lawful.{IsLawful}
 use Rattle.desk.specs.Openings.{CountsDeskFault, RefusesFile, LeavesFile}
 use Rattle.desk.specs.declared.fault.DeskFault.{DeskFault}
@@ -61,9 +62,11 @@ pub record Runs {D K F : Type 0} (keeps : D → Type 0) (client_told : K → Lin
   pub status_is : status ≡ status_of kind after.held.stopped
   pub faults_are : Tells (faults_told faults) (faults_told faults_after) (fault_line kind)
 
--- A desk over the records that were in the file on this disk. A crash while it was opened leaves a file that has its lines.
+-- A desk over the records that were in the file on this disk, and what admitting them comes to. A crash while it was opened leaves a
+-- file that has its lines.
 pub record IsOpened {D : Type 0} (keeps : D → Type 0) (view : D → View) (disk : D) (desk : DeskState D) : Type 0 where
-  pub records : keeps disk → StandsFor desk.held.accepted (view disk).seen
+  pub records : keeps disk → Stands desk.found (view disk).seen
+  pub opened : Opens desk.found desk.held
   pub any_moment : keeps disk → IsSynced (KeepsFile (view disk).seen) (view disk) (view desk.disk)
   pub fresh : (desk.held ≡ desk.opening) × (desk.turns ≡ []) × (desk.held.stopped ≡ false)
   pub premise : keeps desk.disk ↔ keeps disk

@@ -1,6 +1,6 @@
 -- Names of processes.
-use Rattle.std.specs.Prelude.{ℕ, Bool, false, ◌&&◌, ◌||◌, ◌==◌, nat_le, List, [], ◌∷◌, length}
-use Rattle.std.specs.List.{list_all}
+use Rattle.std.specs.Prelude.{ℕ, Bool, false, IsTrue, ◌&&◌, ◌||◌, ◌==◌, nat_le, List, [], ◌∷◌, length}
+use Rattle.std.specs.List.{list_all, AllByRecursion}
 
 -- `a` to `z`
 unfoldable pub is_letter : ℕ → Bool
@@ -14,3 +14,7 @@ is_name_byte b = is_letter b || (nat_le 48 b && nat_le b 57) || b == 95 || b == 
 unfoldable pub is_name : List ℕ → Bool
 is_name [] = false
 is_name (b ∷ bs) = is_letter b && nat_le (length bs) 31 && list_all is_name_byte bs
+
+-- each is a name
+abbrev pub AreNames : List (List ℕ) → Type 0
+AreNames ns = AllByRecursion (λ n. IsTrue (is_name n)) ns

@@ -1,6 +1,6 @@
 -- The one spelling of each call.
 use Rattle.std.specs.Prelude.{◌≡◌, ℕ, zero, suc, ◌<◌, ◌^◌, List, [], ◌∷◌, ◌++◌, IsTrue, codes, ⊤}
-use Rattle.std.specs.List.{join_with_byte, AllByRecursion}
+use Rattle.std.specs.List.{join_with_byte}
 use Rattle.std.specs.Fmt.{decimal}
 use Rattle.id_tree.specs.NormalForm.{IsId}
 use Rattle.id_tree.specs.Spelling as ids
@@ -13,14 +13,11 @@ use Rattle.report_line.specs.declared.report.Report.TheVariants as reports
 use Rattle.report_line.specs.declared.call.Call.{Call}
 use Rattle.report_line.specs.declared.call.Call.TheVariants as calls
 use Rattle.report_line.specs.Names.{is_name}
+pub use Rattle.report_line.specs.Names.{AreNames}
 
 -- a number that counts from 1 and is below 2 ^ 32
 abbrev pub IsCount : ℕ → Type 0
 IsCount n = (0 < n) × (n < 2 ^ 32)
-
--- each is a name
-abbrev pub AreNames : List (List ℕ) → Type 0
-AreNames ns = AllByRecursion (λ n. IsTrue (is_name n)) ns
 
 -- names parted by commas, or `-` for none
 abbrev pub names_text : List (List ℕ) → List ℕ

@@ -36,4 +36,4 @@ pub use shared::Shared;
 pub use step::{Deed, Step};
 pub use text::Text;
 pub use words::Words;
-pub use writing::{write_line, write_marked, write_reply};
+pub use writing::{write_line, write_marked, write_reply, write_settle};

@@ -7,7 +7,7 @@ ghost use Rattle.std.specs.Cmp.Lexicographic.{pointwise, nat_list_eq_equiv};
 ghost use Rattle.std.specs.Cmp.Rules.{hashing};
 ghost use Rattle.std.specs.Hash as fed;
 ghost use Rattle.std.proofs.Common.{rules};
-ghost use Rattle.report_line.specs.Names.{is_letter, is_name_byte, is_name};
+ghost use Rattle.report_line.specs.Names.{is_letter, is_name_byte, is_name, AreNames};
 
 use std::alloc::{AllocError, Global};
 use std::hash::{Hash, Hasher};
@@ -55,7 +55,7 @@ fn padded(bytes: &[u8]) -> [u8; 32]
 }
 
 /// The name of a process, seen as its bytes. It takes no memory.
-#[derive(Drop)]
+#[derive(Debug, Drop)]
 pub struct Name {
     length: u8,
     text: [u8; 32],
@@ -149,10 +149,13 @@ fn copies(alloc: Global, names: &[Name]) -> Result<Vec<Name>, AllocError>
 
 impl Model for Names {
     ghost use Rattle.std.specs.Prelude.{List, ℕ};
+    ghost use Rattle.report_line.specs.Names.{AreNames};
 
     ghost Value = { List (List ℕ) };
 
     ghost view = { λ n. n.names.items };
+
+    ghost invariant = { λ n. AreNames n.names.items };
 }
 
 impl Names {
@@ -170,16 +173,19 @@ impl Names {
         ensures ok { OnOk result (self.new ≡ self.old ++ name ∷ []) }
         ensures err { OnErr result (self.new ≡ self.old) }
     {
+        let _name = name.as_bytes();
         self.names.push(name)?;
         Ok(())
     }
 
     /// The names, in order.
     pub fn as_slice(&self) -> &[Name]
-        ensures { result.now ≡ self.now }
+        ensures value { result.now ≡ self.now }
+        ensures names { AreNames self.now }
     {
         &self.names
     }
+
     /// The same names once more.
     pub fn copy(&self, alloc: Global) -> Result<Names, AllocError>
         ensures { IfOk result (λ c. c ≡ self.now) }

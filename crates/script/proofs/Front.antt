@@ -112,13 +112,15 @@ no_line script whole = record {
 
 -- ---- what was taken
 
-pub first_taken : (script line behind text : List ℕ) (world : Chronicle) → NoBreak line → script ≡ line ++ 10 ∷ behind → SpellsRoot world.root line → world.history ≡ []
+pub first_taken : (script line behind text : List ℕ) (world : Chronicle) → NoBreak line → script ≡ line ++ 10 ∷ behind → SpellsRoot world.root line → world.epoch ≡ 0 → world.history ≡ []
     → text ≡ printed (reports_of (Some world)) → AreTaken script behind text world 1
-first_taken script line behind text world whole is spells first printed_is = record {
+first_taken script line behind text world whole is spells epoch first printed_is = record {
   front = line ∷ [];
   whole = (whole, tt);
   script_is = is ∙ (sym (append_assoc line (10 ∷ []) behind) ∙ ap (λ (l : List ℕ). l ++ behind) (sym (append-nil (ended line))));
-  driven = subst (λ (h : _). Drives (line ∷ []) (Some (record { root = world.root; history = h }))) (sym first) (begins spells);
+  driven =
+      subst (λ (n : ℕ). Drives (line ∷ []) (Some (record { root = world.root; epoch = n; history = world.history }))) (sym epoch)
+      (subst (λ (h : _). Drives (line ∷ []) (Some (record { root = world.root; epoch = 0; history = h }))) (sym first) (begins spells));
   text_is = printed_is;
   counted = refl;
 }

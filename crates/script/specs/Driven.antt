@@ -26,7 +26,7 @@ AreLinesOf script lines = (rest : List ℕ) × AllByRecursion NoBreak lines × N
 -- the world after these lines, where each was taken: none before the first line, which begins it
 pub data Drives : List (List ℕ) → Option Chronicle → Type 0 where
   none : Drives [] None
-  begins : {line root : List ℕ} → SpellsRoot root line → Drives (line ∷ []) (Some (record { root = root; history = [] }))
+  begins : {line root : List ℕ} → SpellsRoot root line → Drives (line ∷ []) (Some (record { root = root; epoch = 0; history = [] }))
   goes_on : {lines : List (List ℕ)} {line : List ℕ} {step : Step} {old new : Chronicle} {given : Option Report}
       → Drives lines (Some old) → SpellsStep step line → Takes old step new given → Drives (lines ++ line ∷ []) (Some new)
 

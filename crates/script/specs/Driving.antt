@@ -26,6 +26,7 @@ end_by stops.Memory k = Memory
 -- the line begins the world, whose report is this text
 pub record Begins (line : List ℕ) (world : Chronicle) (text : List ℕ) : Type 0 where
   pub spells : SpellsRoot world.root line
+  pub epoch : world.epoch ≡ 0
   pub first : world.history ≡ []
   pub text_is : text ≡ printed (reports_of (Some world))
 

@@ -36,6 +36,7 @@ fn words_for(fault: StepFault) -> &'static [u8]
         StepFault::Taken => b"name taken".as_slice(),
         StepFault::NoMessage => b"no message".as_slice(),
         StepFault::NotWaiting => b"not waiting".as_slice(),
+        StepFault::NotClosed => b"not closed".as_slice(),
         StepFault::ClockFull => b"clock full".as_slice(),
         StepFault::TooDeep => b"too deep".as_slice(),
         StepFault::Memory => b"memory".as_slice(),

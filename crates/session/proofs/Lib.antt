@@ -11,3 +11,4 @@ mod Places
 mod Unfailing
 mod TurnSteps
 pub mod RightLines
+mod OverRuns

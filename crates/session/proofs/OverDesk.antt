@@ -14,10 +14,10 @@ use Rattle.report_line.specs.declared.call.Call.TheVariants as calls
 use Rattle.session.specs.declared.kind.Kind.{Kind}
 use Rattle.client_link.specs.Links.{LinkState}
 use Rattle.session.specs.SessionText.{Exchange, Means, IsQuestion, Grounds, at_desk}
-use Rattle.session.specs.Turned.{Served, after_call, EachLineIsChosen, turns_of, MakesTurns}
+use Rattle.session.specs.Turned.{Served, EachLineIsChosen, turns_of, MakesTurns}
 use Rattle.session.specs.Ends.{Ended}
 use Rattle.session.specs.Parts.{AreLawful, TakesNone, ended_by, one_reply, Serves, Ran}
-use Rattle.session.proofs.Places.{after_turn}
+use Rattle.desk.proofs.OneTurn.{turn_once}
 use Rattle.session.proofs.RightLines.{lines_are_right}
 use Rattle.session.proofs.ServeSteps.{unmade, worn_out}
 
@@ -31,7 +31,7 @@ served_then held mid after (e ∷ es) fs s t = (s.0, s.1, served_then s.0 mid af
 chosen_then : (held mid : Held) (es fs : Exchanges) → Served held es mid → EachLineIsChosen held es → EachLineIsChosen mid fs → EachLineIsChosen held (es ++ fs)
 chosen_then held mid [] fs s p q = subst (λ (x : Held). EachLineIsChosen x fs) s q
 chosen_then held mid (e ∷ es) fs s p q =
-    (p.0, chosen_then (after_call held e.call e.reply) mid es fs (subst (λ (x : Held). Served x es mid) (after_turn held s.0 e.call e.reply s.1.turned) s.2) p.1 q)
+    (p.0, λ between turned. chosen_then between mid es fs (subst (λ (x : Held). Served x es mid) (turn_once held s.0 between e.call e.reply s.1.turned turned) s.2) (p.1 between turned) q)
 
 turns_then : (made : ℕ) (es fs : Exchanges) → turns_of made es ++ turns_of (made + length es) fs ≡ turns_of made (es ++ fs)
 turns_then made [] fs = ap (λ (n : ℕ). turns_of n fs) (omega arith)
@@ -48,7 +48,7 @@ pub made_then : {D : Type 0} (keeps : D → Type 0) (desk after : DeskState D) (
 made_then keeps desk after es t = ap length t.turns ∙ length-append desk.turns (turns_of (length desk.turns) es) ∙ ap (λ (n : ℕ). length desk.turns + n) (turns_length (length desk.turns) es)
 
 pub no_turns : {D : Type 0} (keeps : D → Type 0) (desk : DeskState D) → MakesTurns keeps desk [] desk
-no_turns keeps desk = record { served = refl; chosen = tt; turns = sym (append-nil desk.turns); opening = refl; premise = (λ k. k, λ k. k) }
+no_turns keeps desk = record { served = refl; chosen = tt; turns = sym (append-nil desk.turns); opening = refl; found = refl; premise = (λ k. k, λ k. k) }
 
 pub makes_then : {D : Type 0} (keeps : D → Type 0) (desk mid after : DeskState D) (es fs : Exchanges) → MakesTurns keeps desk es mid → MakesTurns keeps mid fs after → MakesTurns keeps desk (es ++ fs) after
 makes_then keeps desk mid after es fs s t =
@@ -58,6 +58,7 @@ makes_then keeps desk mid after es fs s t =
       turns = t.turns ∙ ap (λ (l : List Turn). l ++ turns_of (length mid.turns) fs) s.turns ∙ append_assoc desk.turns (turns_of (length desk.turns) es) (turns_of (length mid.turns) fs)
           ∙ ap (λ (n : ℕ). desk.turns ++ (turns_of (length desk.turns) es ++ turns_of n fs)) (made_then keeps desk mid es s) ∙ ap (λ (l : List Turn). desk.turns ++ l) (turns_then (length desk.turns) es fs);
       opening = t.opening ∙ s.opening;
+      found = t.found ∙ s.found;
       premise = (λ k. s.premise.0 (t.premise.0 k), λ k. t.premise.1 (s.premise.1 k));
     }
 

@@ -1,5 +1,5 @@
 -- Each LINE that a session shows is right over what was held at its place.
-use Rattle.std.proofs.Common.{◌≡◌, ℕ, List, ◌∷◌, refl, sym, subst, inl, inr}
+use Rattle.std.proofs.Common.{◌≡◌, ℕ, List, refl, sym, subst, inl, inr}
 use Rattle.report_line.specs.declared.call.Call.{Call}
 use Rattle.report_line.specs.declared.call.Call.TheVariants as calls
 use Rattle.report_line.specs.declared.reply.Reply.{Reply}
@@ -16,9 +16,9 @@ use Rattle.history_law.specs.Headline.{IsRightLine}
 use Rattle.history_law.proofs.Lines.{line_of_histories}
 use Rattle.propagate.proofs.Certified.{certified_is_greatest}
 use Rattle.session.specs.SessionText.{Exchange}
-use Rattle.session.specs.Turned.{IsExchange, Served, held_by}
+use Rattle.session.specs.Turned.{IsExchange, Served}
 use Rattle.session.specs.Headline.{AsksForLine, EachLineIsRight}
-use Rattle.session.proofs.Places.{served_at, places_reached}
+use Rattle.session.proofs.Places.{served_at, comes_reached}
 
 -- the text of a certificate that certifies is right
 right_text : (held : Held) (names : List Name) (text : List ℕ) → IsReached held → IsLineText held names text → IsRightLine held names text
@@ -60,6 +60,6 @@ right_exchange : (held between : Held) (exchange : Exchange) (text : List ℕ) �
 right_exchange held between exchange text reach s e = right_shown held exchange.call exchange.reply text between reach s.turned (subst (IsShown held exchange.call exchange.reply) e s.fits)
 
 pub lines_are_right : (held after : Held) (exchanges : List Exchange) → IsReached held → Served held exchanges after → EachLineIsRight held exchanges
-lines_are_right held after exchanges reach served before later exchange text same shown =
-    let at = served_at held after before later exchange (subst (λ (es : List Exchange). Served held es after) same served) in
-    right_exchange (held_by held before) at.0 exchange text (places_reached held after exchanges before (exchange ∷ later) reach served same) at.1 shown
+lines_are_right held after exchanges reach served before later exchange text at same comes shown =
+    let there = served_at held after at before later exchange (subst (λ (es : List Exchange). Served held es after) same served) comes in
+    right_exchange at there.0 exchange text (comes_reached held at before reach comes) there.1 shown

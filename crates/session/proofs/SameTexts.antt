@@ -13,9 +13,9 @@ use Rattle.report_line.specs.Cutting.{cut_of}
 use Rattle.session.specs.declared.kind.Kind.TheVariants as kinds
 use Rattle.session.specs.SessionText.{Exchange, Means, Mean, Grounds, IsSession, joined, session_text}
 use Rattle.session.specs.ChosenText.{IsChosenFor}
-use Rattle.session.specs.Turned.{IsExchange, Served, after_call, ShowsChosen, EachLineIsChosen}
+use Rattle.session.specs.Turned.{IsExchange, Served, ShowsChosen, EachLineIsChosen}
 use Rattle.session.specs.OneText.{HadEnough, IsUndisturbed}
-use Rattle.session.proofs.Places.{after_turn}
+use Rattle.desk.proofs.OneTurn.{turn_once}
 use Rattle.session.proofs.SameTurns.{IsSettled, one_turn, was_read}
 
 abbrev Exchanges : Type 0
@@ -56,11 +56,9 @@ same_exchanges held after other (e ∷ es) [] s t p q g h same = absurd cc
 same_exchanges held after other (e ∷ es) (f ∷ fs) s t p q g h same =
     let parts = same_parts e.call f.call (calls_of es) (calls_of fs) same in
     let here = one_exchange held s.0 t.0 e f s.1 t.1 p.0 q.0 g.0 h.0 parts.0 in
-    let ours = subst (λ (x : Held). Served x es after) (after_turn held s.0 e.call e.reply s.1.turned) s.2 in
-    let theirs = subst (λ (x : Held). Served x fs other) (after_turn held t.0 f.call f.reply t.1.turned) t.2 in
-    let moved = subst (λ (x : Exchange). Served (after_call held x.call x.reply) fs other) (sym here) theirs in
-    let chosen = subst (λ (x : Exchange). EachLineIsChosen (after_call held x.call x.reply) fs) (sym here) q.1 in
-    ap (λ (x : Exchange). x ∷ es) here ∙ ap (λ (l : Exchanges). f ∷ l) (same_exchanges (after_call held e.call e.reply) after other es fs ours moved p.1 chosen g.1 h.1 parts.1)
+    let turned = subst (λ (x : Exchange). IsTurn held x.call x.reply s.0) here s.1.turned in
+    let theirs = subst (λ (x : Held). Served x fs other) (turn_once held t.0 s.0 f.call f.reply t.1.turned turned) t.2 in
+    ap (λ (x : Exchange). x ∷ es) here ∙ ap (λ (l : Exchanges). f ∷ l) (same_exchanges s.0 after other es fs s.2 theirs (p.1 s.0 s.1.turned) (q.1 s.0 turned) g.1 h.1 parts.1)
 
 pub same_calls : (held : Held) (ours theirs : Exchanges) → IsUndisturbed held ours → IsUndisturbed held theirs → calls_of ours ≡ calls_of theirs → ours ≡ theirs
 same_calls held ours theirs a b same = same_exchanges held a.after b.after ours theirs a.served b.served a.chosen b.chosen a.enough b.enough same
@@ -111,7 +109,7 @@ front_served held after (e ∷ es) rest s = let h = front_served s.0 after es re
 
 front_chosen : (held : Held) (front rest : Exchanges) → EachLineIsChosen held (front ++ rest) → EachLineIsChosen held front
 front_chosen held [] rest p = tt
-front_chosen held (e ∷ es) rest p = (p.0, front_chosen (after_call held e.call e.reply) es rest p.1)
+front_chosen held (e ∷ es) rest p = (p.0, λ between turned. front_chosen between es rest (p.1 between turned))
 
 front_enough : (front rest : Exchanges) → AllByRecursion HadEnough (front ++ rest) → AllByRecursion HadEnough front
 front_enough [] rest p = tt

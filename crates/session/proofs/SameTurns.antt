@@ -1,7 +1,6 @@
 -- Where memory suffices and no device fails, a call has one reply, and one reply is shown for it.
-use Rattle.std.proofs.Common.{◌≡◌, ◌≢◌, ℕ, Bool, true, false, List, [], ◌∷◌, ◌++◌, Some, None, All, inl, inr, refl, sym, ap, subst, ◌∙◌}
+use Rattle.std.proofs.Common.{◌≡◌, ◌≢◌, ℕ, Bool, true, false, List, Some, None, All, inl, inr, refl, sym, ap, subst, ◌∙◌}
 use Rattle.std.specs.Prelude.{◌⊎◌}
-use Rattle.std.proofs.lemmas.List.Elements.{All-head, All-tail}
 use Rattle.report_line.specs.declared.code.Code.TheVariants.{UnknownProcess}
 use Rattle.report_line.specs.declared.report.Report.{Report}
 use Rattle.report_line.specs.declared.marked.MarkedReport.{MarkedReport}
@@ -13,52 +12,24 @@ use Rattle.report_line.specs.declared.reply.Reply.{Reply}
 use Rattle.report_line.specs.declared.reply.Reply.TheVariants as replies
 use Rattle.chains.specs.Processes.{Name, known, IsKnown}
 use Rattle.chains.specs.Held.{Held}
-use Rattle.chains.specs.Admission.{Decides}
 use Rattle.chains.specs.Failures.{IsFirstUnknown}
-use Rattle.chains.specs.Turns.{Fate, fine, memory, before, unknown, no_memory, IsLineReply, IsGarbageReply, IsStateReply, IsQuestionTurn, IsReported, IsTurn}
-use Rattle.desk.proofs.OneAnswer.{one_answer}
+use Rattle.chains.specs.Turns.{Fate, fine, memory, before, unknown, no_memory, IsLineReply, IsGarbageReply, IsStateReply, IsQuestionTurn, IsReported, IsSettleAnswered, IsTurn}
+use Rattle.desk.proofs.OneAnswer.{one, one_answer, one_settling}
+use Rattle.chains.proofs.FirstUnknown.{one_first, none_first}
 use Rattle.reasons.specs.Shown.{IsLineShown, IsShown}
 use Rattle.session.specs.ChosenText.{IsChosenFor}
 use Rattle.session.proofs.ChosenTexts.{one_for}
 
 -- ---- questions
 
--- a test that decides gives one reply
-one : (P : Type 0) (reply x y : Reply) (L M : Type 0) → (L → M → x ≡ y) → Decides P reply x L → Decides P reply y M → x ≡ y
-one P reply x y L M later (inl (p, e)) (inl (q, f)) = e ∙ sym f
-one P reply x y L M later (inl (p, e)) (inr (q, m)) = absurd (q p)
-one P reply x y L M later (inr (p, l)) (inl (q, f)) = absurd (p q)
-one P reply x y L M later (inr (p, l)) (inr (q, m)) = later l m
-
-same_parts : (p q : Name) (ps qs : List Name) → p ∷ ps ≡ q ∷ qs → (p ≡ q) × (ps ≡ qs)
-same_parts p q ps qs e = (cc, cc)
-
-module _ (accepted : List Report) where
-  -- of names one is the first that is not known
-  first_once : (front other rest more : List Name) (p q : Name) → front ++ p ∷ rest ≡ other ++ q ∷ more → All (IsKnown accepted) front → All (IsKnown accepted) other → ¬ IsKnown accepted p → ¬ IsKnown accepted q → p ≡ q
-  first_once [] [] rest more p q e f g without nor = (same_parts p q rest more e).0
-  first_once [] (y ∷ other) rest more p q e f g without nor = absurd (without (subst (IsKnown accepted) (sym (same_parts p y rest (other ++ q ∷ more) e).0) (All-head (IsKnown accepted) y other g)))
-  first_once (x ∷ front) [] rest more p q e f g without nor = absurd (nor (subst (IsKnown accepted) (same_parts x q (front ++ p ∷ rest) more e).0 (All-head (IsKnown accepted) x front f)))
-  first_once (x ∷ front) (y ∷ other) rest more p q e f g without nor =
-      first_once front other rest more p q (same_parts x y (front ++ p ∷ rest) (other ++ q ∷ more) e).1 (All-tail (IsKnown accepted) x front f) (All-tail (IsKnown accepted) y other g) without nor
-
-  -- none is, where all are known
-  none_first : (front rest : List Name) (p : Name) → All (IsKnown accepted) (front ++ p ∷ rest) → IsKnown accepted p
-  none_first [] rest p all = All-head (IsKnown accepted) p rest all
-  none_first (x ∷ front) rest p all = none_first front rest p (All-tail (IsKnown accepted) x (front ++ p ∷ rest) all)
-
-  all_or_first : (names : List Name) (p : Name) → All (IsKnown accepted) names → ¬ IsFirstUnknown accepted names p
-  all_or_first names p all first = first.unknown (none_first first.front first.rest p (subst (All (IsKnown accepted)) first.parts all))
-
 abbrev Asked : Held → List Name → Reply → Type 0
 Asked held names x = ((p : Name) × IsFirstUnknown held.accepted names p × (x ≡ replies.No UnknownProcess (Some p) None)) ⊎ (All (IsKnown held.accepted) names × (x ≡ replies.Taken held.front))
 
 asked_once : (held : Held) (names : List Name) (x y : Reply) → Asked held names x → Asked held names y → x ≡ y
 asked_once held names x y (inl a) (inl b) =
-    let same = first_once held.accepted a.1.front b.1.front a.1.rest b.1.rest a.0 b.0 (sym a.1.parts ∙ b.1.parts) a.1.known_front b.1.known_front a.1.unknown b.1.unknown in
-    a.2 ∙ ap (λ (p : Name). replies.No UnknownProcess (Some p) None) same ∙ sym b.2
-asked_once held names x y (inl a) (inr b) = absurd (all_or_first held.accepted names a.0 b.0 a.1)
-asked_once held names x y (inr a) (inl b) = absurd (all_or_first held.accepted names b.0 a.0 b.1)
+    a.2 ∙ ap (λ (p : Name). replies.No UnknownProcess (Some p) None) (one_first held.accepted names a.0 b.0 a.1 b.1) ∙ sym b.2
+asked_once held names x y (inl a) (inr b) = absurd (none_first held.accepted names a.0 b.0 a.1)
+asked_once held names x y (inr a) (inl b) = absurd (none_first held.accepted names b.0 a.0 b.1)
 asked_once held names x y (inr a) (inr b) = a.1 ∙ sym b.1
 
 line_once : (held : Held) (names : List Name) (x y : Reply) → IsLineReply held names x → IsLineReply held names y → x ≡ y
@@ -93,9 +64,20 @@ report_once false memory other held after then_held m x y p q t u = absurd (p.me
 report_once false before other held after then_held m x y p q t u = absurd (p.device Before t.1)
 report_once false unknown other held after then_held m x y p q t u = absurd (p.device Unknown t.1)
 
+settlement_once : (stopped : Bool) (fate other : Fate) (held after then_held : Held) (front : ℕ) (names : List Name) (x y : Reply) → IsSettled x → IsSettled y
+    → IsSettleAnswered stopped fate held front names x after → IsSettleAnswered stopped other held front names y then_held → x ≡ y
+settlement_once true fate other held after then_held front names x y p q t u = absurd (p.device Stopped t.1)
+settlement_once false fine fine held after then_held front names x y p q t u = one_settling held x y front names t.0 u.0
+settlement_once false fine memory held after then_held front names x y p q t u = absurd (q.memory u.3)
+settlement_once false fine before held after then_held front names x y p q t u = absurd (q.device Before u.1)
+settlement_once false fine unknown held after then_held front names x y p q t u = absurd (q.device Unknown u.1)
+settlement_once false memory other held after then_held front names x y p q t u = absurd (p.memory t.3)
+settlement_once false before other held after then_held front names x y p q t u = absurd (p.device Before t.1)
+settlement_once false unknown other held after then_held front names x y p q t u = absurd (p.device Unknown t.1)
+
 one_reply : (held after then_held : Held) (call : Call) (x y : Reply) → IsSettled x → IsSettled y → IsTurn held call x after → IsTurn held call y then_held → x ≡ y
 one_reply held after then_held (calls.Report m) x y p q (fate, t) (other, u) = report_once held.stopped fate other held after then_held m x y p q t u
-one_reply held after then_held (calls.Settle front names) x y p q (fate, t) (other, u) = t.1 ∙ sym u.1
+one_reply held after then_held (calls.Settle front names) x y p q (fate, t) (other, u) = settlement_once held.stopped fate other held after then_held front names x y p q t u
 one_reply held after then_held (calls.Line names) x y p q (fate, t) (other, u) = question_once held.stopped fate other held after then_held (IsLineReply held names) x y (line_once held names x y) p t u
 one_reply held after then_held calls.Garbage x y p q (fate, t) (other, u) = question_once held.stopped fate other held after then_held (IsGarbageReply held) x y (garbage_once held x y) p t u
 one_reply held after then_held (calls.State p) x y s q (fate, t) (other, u) =

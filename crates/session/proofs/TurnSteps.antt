@@ -22,7 +22,7 @@ use Rattle.desk.specs.Desks.{DeskState}
 use Rattle.desk.specs.Files.{IsShort}
 use Rattle.desk.specs.Lawful.{unstopped}
 use Rattle.desk.proofs.Short.{short_call}
-use Rattle.desk.proofs.Unsettled.{is_unstopped}
+use Rattle.desk.proofs.Running.{is_unstopped}
 use Rattle.desk.specs.declared.turn.Turn.{Turn}
 use Rattle.reasons.specs.Shown.{IsLineText, IsLineShown, IsShown}
 use Rattle.reasons.specs.declared.certificate.Certificate.{Certificate}
@@ -114,17 +114,18 @@ last_turn turns old x y is at =
 
 -- a desk's turn, and what is shown for it
 pub makes_turn : {D : Type 0} (keeps : D → Type 0) (desk after : DeskState D) (k : Kept) (call : Call) (reply shown : Reply) (number : ℕ) → IsTurn desk.held call reply after.held
-    → after.turns ≡ desk.turns ++ record { call = call; receipt = record { turn = number; reply = reply } } ∷ [] → number ≡ length desk.turns + 1 → after.opening ≡ desk.opening → (keeps after.disk ↔ keeps desk.disk)
+    → after.turns ≡ desk.turns ++ record { call = call; receipt = record { turn = number; reply = reply } } ∷ [] → number ≡ length desk.turns + 1 → after.opening ≡ desk.opening → after.found ≡ desk.found → (keeps after.disk ↔ keeps desk.disk)
     → held_of k ≡ unstopped after.held → IsShown (held_of k) call reply shown → ((text : List ℕ) → reply ≢ replies.Line text → shown ≡ replies.Line text → IsChosenFor (held_of k) call text) → MakesTurns keeps desk (record { call = call; reply = reply; shown = shown } ∷ []) after
-makes_turn keeps desk after k call reply shown number turned turns is opening premise holds fits chose =
+makes_turn keeps desk after k call reply shown number turned turns is opening found premise holds fits chose =
     record {
       served = (after.held, record { turned = turned; fits = fits_at desk.held after.held k call reply shown turned holds fits }, refl);
       chosen = (
         λ text e. chosen_at desk.held after.held k call reply text turned holds (chose text (λ line. no_line desk.held after.held call text (subst (λ (r : Reply). IsTurn desk.held call r after.held) line turned)) e),
-        tt,
+        λ between step. tt,
       );
       turns = turns ∙ ap (λ (m : ℕ). desk.turns ++ record { call = call; receipt = record { turn = m; reply = reply } } ∷ []) is;
       opening = opening;
+      found = found;
       premise = premise;
     }
 

@@ -7,7 +7,7 @@ use Rattle.chains.specs.Processes.{Name, known}
 use Rattle.chains.specs.Held.{Held}
 use Rattle.history_law.specs.Headline.{IsRightLine}
 use Rattle.session.specs.SessionText.{Exchange}
-use Rattle.session.specs.Turned.{held_by}
+use Rattle.session.specs.Turned.{ComeTo}
 
 -- the call asks for the line of these failed processes: of those that it names, or for GARBAGE of all that are known
 abbrev pub AsksForLine : Held → Call → List Name → Type 0
@@ -19,5 +19,5 @@ AsksForLine held _ names = ⊥
 -- place: its line is the greatest closed cut of every lawful history that agrees with what was accepted there.
 abbrev pub EachLineIsRight : Held → List Exchange → Type 0
 EachLineIsRight held exchanges =
-    (before later : List Exchange) (exchange : Exchange) (text : List ℕ) → exchanges ≡ before ++ exchange ∷ later → exchange.shown ≡ replies.Line text
-    → (names : List Name) × AsksForLine (held_by held before) exchange.call names × IsRightLine (held_by held before) names text
+    (before later : List Exchange) (exchange : Exchange) (text : List ℕ) (at : Held) → exchanges ≡ before ++ exchange ∷ later → ComeTo held before at → exchange.shown ≡ replies.Line text
+    → (names : List Name) × AsksForLine at exchange.call names × IsRightLine at names text

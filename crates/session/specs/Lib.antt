@@ -5,5 +5,6 @@ pub mod OneText
 pub mod Ends
 pub mod Parts
 pub mod Headline
+pub mod Current
 pub mod Gained
 pub mod Sessions

@@ -1,5 +1,5 @@
 -- What is known of a session that a worker served.
-use Rattle.std.specs.Prelude.{◌≡◌, ℕ}
+use Rattle.std.specs.Prelude.{ℕ}
 use Rattle.coordinator.specs.Passes.{PassState, IsNewPass}
 use Rattle.session.specs.declared.kind.Kind.{Kind}
 use Rattle.session.specs.Gained.{LinkServed}

@@ -1,12 +1,8 @@
 -- Exchanges as turns over what is held, one after the other.
 use Rattle.std.specs.Prelude.{◌≡◌, ◌↔◌, ℕ, ◌+◌, List, [], ◌∷◌, ◌++◌, length, ⊤}
-use Rattle.report_line.specs.declared.call.Call.{Call}
-use Rattle.report_line.specs.declared.call.Call.TheVariants as calls
 use Rattle.report_line.specs.declared.reply.Outcome.{Outcome}
-use Rattle.report_line.specs.declared.reply.Reply.{Reply}
 use Rattle.report_line.specs.declared.reply.Reply.TheVariants.{Fail, Line}
 use Rattle.chains.specs.Held.{Held}
-use Rattle.chains.specs.Admission.{held_after}
 use Rattle.chains.specs.Turns.{IsTurn}
 use Rattle.reasons.specs.Shown.{IsShown}
 use Rattle.desk.specs.Desks.{DeskState}
@@ -28,21 +24,11 @@ Served held (exchange ∷ exchanges) after = (between : Held) × IsExchange held
 abbrev pub ShowsFailure : Exchange → Type 0
 ShowsFailure exchange = (outcome : Outcome) × (exchange.shown ≡ Fail outcome)
 
--- what is held behind a call with this reply: only a report changes it
-abbrev pub after_call : Held → Call → Reply → Held
-after_call held (calls.Report m) reply = held_after held m reply
-after_call held (calls.Line names) reply = held
-after_call held calls.Garbage reply = held
-after_call held (calls.Settle front names) reply = held
-after_call held (calls.State p) reply = held
-after_call held calls.Bye reply = held
-after_call held (calls.Bad n) reply = held
-after_call held calls.Unread reply = held
-
--- what is held behind these exchanges
-abbrev pub held_by : Held → List Exchange → Held
-held_by held [] = held
-held_by held (e ∷ es) = held_by (after_call held e.call e.reply) es
+-- From what is held the calls of these exchanges take turns with their replies, one after the other, and come to this. (They come to
+-- one thing: a settlement returns all to the greatest cut, and that is one.)
+abbrev pub ComeTo : Held → List Exchange → Held → Type 0
+ComeTo held [] after = after ≡ held
+ComeTo held (e ∷ es) after = (between : Held) × IsTurn held e.call e.reply between × ComeTo between es after
 
 -- what is shown as a LINE is the chosen text for the call
 abbrev pub ShowsChosen : Held → Exchange → Type 0
@@ -51,7 +37,7 @@ ShowsChosen held exchange = (text : List ℕ) → exchange.shown ≡ Line text �
 -- each LINE among these exchanges is the chosen text for its call, over what was held at its place
 abbrev pub EachLineIsChosen : Held → List Exchange → Type 0
 EachLineIsChosen held [] = ⊤
-EachLineIsChosen held (e ∷ es) = ShowsChosen held e × EachLineIsChosen (after_call held e.call e.reply) es
+EachLineIsChosen held (e ∷ es) = ShowsChosen held e × ((between : Held) → IsTurn held e.call e.reply between → EachLineIsChosen between es)
 
 -- ---- over a desk
 
@@ -66,5 +52,6 @@ pub record MakesTurns {D : Type 0} (keeps : D → Type 0) (desk : DeskState D) (
   pub chosen : EachLineIsChosen desk.held exchanges
   pub turns : after.turns ≡ desk.turns ++ turns_of (length desk.turns) exchanges
   pub opening : after.opening ≡ desk.opening
+  pub found : after.found ≡ desk.found
   -- what is premised of the disk stays so
   pub premise : keeps after.disk ↔ keeps desk.disk

@@ -4,25 +4,36 @@ ghost use Rattle.std.specs.Prelude.{◌≡◌, ◌++◌, ℕ, List, false, map};
 ghost use Rattle.std.specs.List.{AllByRecursion};
 ghost use Rattle.chains.specs.Processes.{Name as AnyName};
 ghost use Rattle.chains.specs.Held.{Held};
-ghost use Rattle.chains.specs.Admission.{IsReachable};
+ghost use Rattle.chains.specs.Reachable.{IsReachable};
 ghost use Rattle.chains.specs.Folded.{IsReached};
 ghost use Rattle.desk.specs.Lawful.{unstopped};
 ghost use Rattle.session.specs.declared.kind.Kind.TheVariants as kinds;
 ghost use Rattle.session.specs.ChosenText.{IsChosenText};
+ghost use Rattle.session.specs.Current.{EachLineIsRightNow, NoLineIsBelowGarbage};
 ghost use Rattle.session.specs.OneText.{IsUndisturbed};
 ghost use Rattle.session.specs.SessionText.{Exchange, Grounds, IsSession, Mean, joined, session_text};
-ghost use Rattle.session.specs.Turned.{Served, ShowsFailure, held_by};
+ghost use Rattle.session.specs.Turned.{Served, ShowsFailure, ComeTo};
 
-/// What is held behind exchanges that took turns is told by the exchanges alone.
+/// What is held behind exchanges that took turns is told by the exchanges alone: they come to it, and to nothing else; and at each
+/// place among them something is held.
 pub fn exchanges_tell_what_is_accepted()
-    ensures { (held after : Held) (exchanges : List Exchange) → Served held exchanges after → after ≡ held_by held exchanges }
+    ensures comes { (held after : Held) (exchanges : List Exchange) → Served held exchanges after → ComeTo held exchanges after }
+    ensures one { (held after other : Held) (exchanges : List Exchange) → ComeTo held exchanges after → ComeTo held exchanges other → after ≡ other }
+    ensures places { (held after : Held) (exchanges before later : List Exchange) → Served held exchanges after → exchanges ≡ before ++ later → (at : Held) × ComeTo held before at }
 {}
 
-/// From a folded list, with an epoch for each report and a front that counts them, such a list is held behind each of the exchanges that
-/// took turns; and from what admission reaches from nothing, what it reaches so.
+/// From a folded list, with an epoch for each report and a front that counts them, exchanges come to such a list; and from what admission
+/// and settlements reach from nothing, to what they reach so.
 pub fn exchanges_keep_lists()
-    ensures folded { (held after : Held) (exchanges before later : List Exchange) → IsReached held → Served held exchanges after → exchanges ≡ before ++ later → IsReached (held_by held before) }
-    ensures reachable { (held after : Held) (exchanges before later : List Exchange) → IsReachable (unstopped held) → Served held exchanges after → exchanges ≡ before ++ later → IsReachable (unstopped (held_by held before)) }
+    ensures folded { (held after : Held) (exchanges : List Exchange) → IsReached held → ComeTo held exchanges after → IsReached after }
+    ensures reachable { (held after : Held) (exchanges : List Exchange) → IsReachable (unstopped held) → ComeTo held exchanges after → IsReachable (unstopped after) }
+{}
+
+/// Over processes that obey the rules, with settlements among the exchanges or without, each LINE is right for the current history; and none
+/// is below an earlier garbage line.
+pub fn each_line_is_right_for_the_current_history()
+    ensures now { EachLineIsRightNow }
+    ensures garbage { NoLineIsBelowGarbage }
 {}
 
 /// Where the store is stopped neither before the exchanges nor behind them, no device failed in between.

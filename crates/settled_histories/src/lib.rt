@@ -1,8 +1,7 @@
 //! What a settlement keeps of a history, and the current history after any number of settlements.
 //!
 //! A settlement returns each process to its position in a line, and undoes what is behind it. A closed cut of a lawful history
-//! keeps a lawful history, in which events and reports are what they were. No call makes a settlement yet: these are laws of
-//! definitions.
+//! keeps a lawful history, in which events and reports are what they were. These are laws of definitions.
 #![tactic(auto)]
 
 ghost use Rattle.settled_histories.specs.Kept.{EachEventIsKept, EachReportIsKept, KeptIsLawful, PositionIsNewest};

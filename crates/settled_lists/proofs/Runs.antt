@@ -41,15 +41,15 @@ pub epoch_made : (run : Run) (e : ℕ) (s : Step) → epoch (Made e s ∷ run) �
 unfolding epoch
 epoch_made run e s = refl
 
-epoch_accepts : (run : Run) (m : ℕ) (r : Report) → epoch (Accepts m r ∷ run) ≡ epoch run
+pub epoch_accepts : (run : Run) (m : ℕ) (r : Report) → epoch (Accepts m r ∷ run) ≡ epoch run
 unfolding epoch
 epoch_accepts run m r = refl
 
-epoch_settles : (run : Run) (failed : List ℕ) (line : List Position) (cut : Cut) → epoch (Settles failed line cut ∷ run) ≡ suc (epoch run)
+pub epoch_settles : (run : Run) (failed : List ℕ) (line : List Position) (cut : Cut) → epoch (Settles failed line cut ∷ run) ≡ suc (epoch run)
 unfolding epoch
 epoch_settles run failed line cut = refl
 
-accepted_made : (run : Run) (e : ℕ) (s : Step) → accepted (Made e s ∷ run) ≡ accepted run
+pub accepted_made : (run : Run) (e : ℕ) (s : Step) → accepted (Made e s ∷ run) ≡ accepted run
 unfolding accepted
 accepted_made run e s = refl
 

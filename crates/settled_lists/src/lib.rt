@@ -3,7 +3,7 @@
 //! `BEGIN` is kept, and each report at or before the line in its process. What is kept is folded, has just the elements up to
 //! the line, and agrees with what is kept of the history. So the greatest stamp-consistent cut of what is accepted is the greatest
 //! closed cut of the current history, as it is without settlements.
-//! No call makes a settlement yet: these are laws of definitions.
+//! These are laws of definitions: `propagate` makes a settlement.
 #![tactic(auto)]
 
 ghost use Rattle.settled_lists.specs.Agreeing.{EachLineHasEvents, SettledAgrees};

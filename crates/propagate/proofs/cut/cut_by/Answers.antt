@@ -15,8 +15,8 @@ use Rattle.propagate.proofs.Cutting.{same_tops, few_tops, line_in_order, line_po
 use Rattle.propagate.proofs.Choosing.{given_reasons}
 use Rattle.propagate.proofs.cut.cut_by.Goals as goal
 
-pub settle-requires-clause-few : goal.settle-requires-clause-few
-settle-requires-clause-few c =
+pub last_stage-requires-clause-few : goal.last_stage-requires-clause-few
+last_stage-requires-clause-few c =
     rw c.deref-2.ensures.value (few_tops c.in_ok-tops.tops.items (omega (arith, c.in_ok-tops.ensures.tops.complete, c.lawful.ensures.few_known)) c.in_ok-tops.ensures.few)
 
 module _ (c : goal.After-drop-tops-2) where
@@ -26,20 +26,20 @@ module _ (c : goal.After-drop-tops-2) where
   laws : IsLawful c.args.chains.now.accepted
   laws = lawful c.args.chains.now.accepted c.lawful.ensures.folded
 
-  line : c.in_ok-line.line ≡ places_from c.args.chains.now.accepted 0 c.in_ok-settled.settled.stage.cut.items
+  line : c.in_ok-line.line ≡ places_from c.args.chains.now.accepted 0 c.in_ok-last.last.stage.cut.items
   line = c.in_ok-line.ensures ∙ ap (places_from c.args.chains.now.accepted 0) c.deref-3.ensures.value
 
-  positions : positions_from c.args.chains.now.accepted 0 c.in_ok-settled.settled.stage.cut.items ≡ positions_of c.in_ok-line.line
-  positions = sym (line_positions c.args.chains.now.accepted c.in_ok-settled.settled.stage.cut.items c.in_ok-line.line line)
+  positions : positions_from c.args.chains.now.accepted 0 c.in_ok-last.last.stage.cut.items ≡ positions_of c.in_ok-line.line
+  positions = sym (line_positions c.args.chains.now.accepted c.in_ok-last.last.stage.cut.items c.in_ok-line.line line)
 
   greatest : IsGreatestCut c.args.chains.now.accepted c.args.failed.now (positions_of c.in_ok-line.line)
   greatest =
-      let rounds = c.in_ok-settled.ensures.rounds in
+      let rounds = c.in_ok-last.ensures.rounds in
       subst (IsGreatestCut c.args.chains.now.accepted c.args.failed.now) positions
-      (settled_is_greatest c.args.chains.now.accepted c.args.failed.now c.deref-2.result.now c.in_ok-settled.settled.stage.cut.items rounds.0 laws tops rounds.2 c.in_ok-settled.ensures.settled)
+      (settled_is_greatest c.args.chains.now.accepted c.args.failed.now c.deref-2.result.now c.in_ok-last.last.stage.cut.items rounds.0 laws tops rounds.2 c.in_ok-last.ensures.still)
 
 pub returns-clause-in_order : goal.returns-clause-in_order
-returns-clause-in_order c = line_in_order c.args.chains.now.accepted c.in_ok-settled.settled.stage.cut.items c.in_ok-line.line c.in_ok-settled.ensures.standing.complete (line c)
+returns-clause-in_order c = line_in_order c.args.chains.now.accepted c.in_ok-last.last.stage.cut.items c.in_ok-line.line c.in_ok-last.ensures.standing.complete (line c)
 
 pub returns-clause-line : goal.returns-clause-line
 returns-clause-line c = greatest c
@@ -47,37 +47,37 @@ returns-clause-line c = greatest c
 pub returns-clause-of_histories : goal.returns-clause-of_histories
 returns-clause-of_histories c = line_of_histories c.args.chains.now.accepted c.args.failed.now (positions_of c.in_ok-line.line) c.lawful.ensures.folded (greatest c)
 
-due : (c : goal.After-drop-tops-2) → let s = c.in_ok-settled.settled in c.in_ok-reasons.reasons ≡ chains_due c.deref-2.result.now s.stage.cut.items (chains_at s.arena s.stage.heads.items)
+due : (c : goal.After-drop-tops-2) → let s = c.in_ok-last.last in c.in_ok-reasons.reasons ≡ chains_due c.deref-2.result.now s.stage.cut.items (chains_at s.arena s.stage.heads.items)
 due c =
-    let s = c.in_ok-settled.settled in
+    let s = c.in_ok-last.last in
     c.in_ok-reasons.ensures ∙ ap (λ (xs : List ℕ). chains_due xs s.stage.cut.items (chains_at s.arena s.stage.heads.items)) (c.deref-4.ensures.value ∙ sym c.deref-2.ensures.value)
 
-stage : (c : goal.After-drop-tops-2) → let s = c.in_ok-settled.settled in IsStage c.args.chains.now.accepted c.args.failed.now c.deref-2.result.now s.stage.cut.items (chains_at s.arena s.stage.heads.items)
+stage : (c : goal.After-drop-tops-2) → let s = c.in_ok-last.last in IsStage c.args.chains.now.accepted c.args.failed.now c.deref-2.result.now s.stage.cut.items (chains_at s.arena s.stage.heads.items)
 stage c =
-    let s = c.in_ok-settled.settled in
-    stage_of c.args.chains.now.accepted c.args.failed.now c.deref-2.result.now s.stage.cut.items s.stage.heads.items s.stage.fell.items s.arena (tops c) c.in_ok-settled.ensures.standing c.in_ok-settled.ensures.grounded
+    let s = c.in_ok-last.last in
+    stage_of c.args.chains.now.accepted c.args.failed.now c.deref-2.result.now s.stage.cut.items s.stage.heads.items s.stage.fell.items s.arena (tops c) c.in_ok-last.ensures.standing c.in_ok-last.ensures.grounded
 
 pub returns-clause-reasons : goal.returns-clause-reasons
 returns-clause-reasons c =
-    let s = c.in_ok-settled.settled in
+    let s = c.in_ok-last.last in
     subst (λ (reasons : List (List Place)). AreReasons c.args.chains.now.accepted c.args.failed.now (positions_of c.in_ok-line.line) reasons) (sym (due c))
     (subst (λ cut. AreReasons c.args.chains.now.accepted c.args.failed.now cut (chains_due c.deref-2.result.now s.stage.cut.items (chains_at s.arena s.stage.heads.items))) (positions c)
     (are_reasons c.args.chains.now.accepted c.args.failed.now c.deref-2.result.now s.stage.cut.items (chains_at s.arena s.stage.heads.items) (tops c) (stage c)))
 
 pub returns-clause-rounds : goal.returns-clause-rounds
 returns-clause-rounds c =
-    let rounds = c.in_ok-settled.ensures.rounds in
+    let rounds = c.in_ok-last.ensures.rounds in
     subst (λ (n : ℕ). AreRounds c.args.chains.now.accepted c.args.failed.now n (positions_of c.in_ok-line.line)) (sym rounds.1)
     (subst (AreRounds c.args.chains.now.accepted c.args.failed.now (rounds.0 + 1)) (positions c)
-    (are_rounds c.args.chains.now.accepted c.args.failed.now c.deref-2.result.now c.in_ok-settled.settled.stage.cut.items rounds.0 (laws c) (tops c) rounds.2 c.in_ok-settled.ensures.settled))
+    (are_rounds c.args.chains.now.accepted c.args.failed.now c.deref-2.result.now c.in_ok-last.last.stage.cut.items rounds.0 (laws c) (tops c) rounds.2 c.in_ok-last.ensures.still))
 
 pub returns-clause-few : goal.returns-clause-few
-returns-clause-few c = λ ts h. omega (arith, c.in_ok-settled.ensures.few, ap sum (same_tops c.args.chains.now.accepted c.args.failed.now ts c.deref-2.result.now h (tops c)))
+returns-clause-few c = λ ts h. omega (arith, c.in_ok-last.ensures.few, ap sum (same_tops c.args.chains.now.accepted c.args.failed.now ts c.deref-2.result.now h (tops c)))
 
 pub returns-clause-chosen : goal.returns-clause-chosen
 returns-clause-chosen c =
-    let s = c.in_ok-settled.settled in
-    let rounds = c.in_ok-settled.ensures.rounds in
+    let s = c.in_ok-last.last in
+    let rounds = c.in_ok-last.ensures.rounds in
     let chains = shown c.deref-2.result.now s.stage.cut.items (chains_at s.arena s.stage.heads.items) in
     record {
       in_order = returns-clause-in_order c;
@@ -89,5 +89,5 @@ returns-clause-chosen c =
       reasons_are = due c ∙ given_reasons c.args.chains.now.accepted c.args.failed.now c.deref-2.result.now s.stage.cut.items (chains_at s.arena s.stage.heads.items) (stage c);
     }
 
-pub settle-requires-clause-table : goal.settle-requires-clause-table
-settle-requires-clause-table c = rw (c.deref-2.ensures.value ∙ sym c.deref.ensures.value) (c.at_last.ensures c.args.chains.now.accepted c.requires)
+pub last_stage-requires-clause-table : goal.last_stage-requires-clause-table
+last_stage-requires-clause-table c = rw (c.deref-2.ensures.value ∙ sym c.deref.ensures.value) (c.at_last.ensures c.args.chains.now.accepted c.requires)

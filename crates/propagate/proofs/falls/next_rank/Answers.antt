@@ -1,4 +1,4 @@
-use Rattle.std.proofs.Common.{length, refl, sym, arith}
+use Rattle.std.proofs.Common.{length, refl, sym}
 use Rattle.std.proofs.lemmas.Bool.{true≢false}
 use Rattle.knows_row.proofs.Lawful.{lawful}
 use Rattle.propagate.proofs.Staging.{below_last}

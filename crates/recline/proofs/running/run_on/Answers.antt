@@ -7,7 +7,7 @@ returns-in-Ok g c =
     inl (record {
       desk = c.in-Ok.desk;
       after = c.run_over-status.new.desk;
-      opened = record { records = opened.records; any_moment = opened.any_moment; fresh = opened.fresh; premise = opened.premise };
+      opened = record { records = opened.records; opened = opened.opened; any_moment = opened.any_moment; fresh = opened.fresh; premise = opened.premise };
       runs = c.run_over-status.ensures;
       lawful = c.lawful.ensures.lawful;
       disk_is = c.close.ensures.disk;

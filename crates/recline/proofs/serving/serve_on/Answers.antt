@@ -7,7 +7,7 @@ returns-in-Ok-serve_desk g c =
     let opened = c.in-Ok.ensures in
     inl (record {
       desk = c.in-Ok.desk;
-      opened = record { records = opened.records; any_moment = opened.any_moment; fresh = opened.fresh; premise = opened.premise };
+      opened = record { records = opened.records; opened = opened.opened; any_moment = opened.any_moment; fresh = opened.fresh; premise = opened.premise };
       serves = inl (record { disk = c.in-Ok-serve_desk.disk; is_back = refl; served = c.in-Ok-serve_desk.ensures.ok; no_fault = refl; status_is = refl });
     })
 
@@ -17,6 +17,6 @@ returns-in-Err-serve_desk g c =
     let told = subst (λ (l : List ℕ). Tells (g.F.Link.told c.args.faults.now) (g.F.Link.told c.tell.new.faults) l) c.line_of.ensures c.tell.ensures in
     inl (record {
       desk = c.in-Ok.desk;
-      opened = record { records = opened.records; any_moment = opened.any_moment; fresh = opened.fresh; premise = opened.premise };
+      opened = record { records = opened.records; opened = opened.opened; any_moment = opened.any_moment; fresh = opened.fresh; premise = opened.premise };
       serves = inr (record { stop = c.in-Err-serve_desk.field-0.stop; stops_so = c.in-Err-serve_desk.ensures.err; faults_are = told; status_is = refl });
     })

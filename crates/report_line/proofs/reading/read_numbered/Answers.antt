@@ -1,6 +1,4 @@
-use Rattle.std.specs.Prelude.{Result, Err}
 use Rattle.std.proofs.lemmas.Result.{err_from_is_err_and}
-use Rattle.report_line.specs.declared.fault.LineFault.TheVariants.{Grammar, Memory}
 use Rattle.report_line.proofs.OneCall.{marked_fault}
 use Rattle.report_line.proofs.reading.read_numbered.Goals as goal
 

@@ -11,7 +11,7 @@ returns-in-Err c =
 
 pub loop-line-init : goal.loop-line-init
 loop-line-init c =
-    first_taken c.args.script.now c.in-Some.first.now c.in-Some.behind.now c.in-Ok.begun.1.items c.in-Ok.begun.0 c.in-Some.ensures.0 c.in-Some.ensures.1 c.in-Ok.ensures.spells c.in-Ok.ensures.first c.in-Ok.ensures.text_is
+    first_taken c.args.script.now c.in-Some.first.now c.in-Some.behind.now c.in-Ok.begun.1.items c.in-Ok.begun.0 c.in-Some.ensures.0 c.in-Some.ensures.1 c.in-Ok.ensures.spells c.in-Ok.ensures.epoch c.in-Ok.ensures.first c.in-Ok.ensures.text_is
 
 pub overflow_add-taken : goal.overflow_add-taken
 overflow_add-taken c =

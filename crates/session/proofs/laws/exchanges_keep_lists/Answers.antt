@@ -1,8 +1,8 @@
-use Rattle.session.proofs.Places.{places_admitted, places_reached}
+use Rattle.session.proofs.Places.{comes_reachable, comes_reached}
 use Rattle.session.proofs.laws.exchanges_keep_lists.Goals as goal
 
 pub returns-clause-folded : goal.returns-clause-folded
-returns-clause-folded c = places_reached
+returns-clause-folded c = comes_reached
 
 pub returns-clause-reachable : goal.returns-clause-reachable
-returns-clause-reachable c = places_admitted
+returns-clause-reachable c = comes_reachable

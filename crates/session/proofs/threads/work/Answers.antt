@@ -1,5 +1,4 @@
 -- `work`: what `serve_link` said of the link and of its new pass is kept.
-use Rattle.session.specs.Sessions.{WasServed}
 use Rattle.session.proofs.threads.work.Goals as goal
 
 pub invariant_of-push_reserved : goal.invariant_of-push_reserved

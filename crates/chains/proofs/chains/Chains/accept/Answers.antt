@@ -1,5 +1,7 @@
-use Rattle.std.proofs.Common.{map, ◌≡◌, ℕ, ◌+◌, [], ◌∷◌, length, ap, ◌∙◌, subst, refl, arith}
+use Rattle.std.proofs.Common.{map, ◌≡◌, ℕ, ◌≤◌, sym, [], ◌∷◌, length, ap, ◌∙◌, subst, refl, arith}
+use Rattle.std.specs.Prelude.{All}
 use Rattle.std.proofs.lemmas.List.{length-append}
+use Rattle.std.proofs.lemmas.List.Elements.{All-push}
 use Rattle.report_line.specs.declared.report.Report.{Report}
 use Rattle.chains.specs.Fitting.{MayBePut}
 use Rattle.chains.specs.Keeping.{view_of}
@@ -31,6 +33,7 @@ invariant_of-self c =
           ready.fit (omega (arith, ready.few, c.self.invariant.counted)) ready.few_known
           ready.process c.push_reserved.ensures.items (c.keep.ensures.names ∙ ap (names_after a.names.keys) c.deref.ensures) views;
       marked = omega (arith, ap length c.push_reserved.ensures.items, ap length c.push_reserved-2.ensures.items, length-append a.reports.items (r ∷ []), length-append a.epochs.items (m.epoch ∷ []), c.self.invariant.marked);
+      past = subst (All (λ e. e ≤ a.epoch)) (sym c.push_reserved-2.ensures.items) (All-push (λ e. e ≤ a.epoch) a.epochs.items m.epoch c.self.invariant.past ready.past);
       counted = omega (arith, ap length c.push_reserved.ensures.items, length-append a.reports.items (r ∷ []), c.self.invariant.counted);
       within = omega (arith, ready.few);
       first = c.self.invariant.first;

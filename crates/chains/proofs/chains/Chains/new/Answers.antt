@@ -1,4 +1,5 @@
-use Rattle.std.proofs.Common.{sym, refl, subst, arith}
+use Rattle.std.proofs.Common.{◌≤◌, sym, refl, subst, arith}
+use Rattle.std.proofs.lemmas.List.Elements.{All-nil}
 use Rattle.chains.specs.Folded.{IsFolded, nothing_folded}
 use Rattle.chains.proofs.chains.Chains.new.Goals as goal
 
@@ -15,6 +16,7 @@ invariant_of-result c =
         kept = rw (none, c.new-4.ensures.items) refl;
       };
       marked = rw (none, c.new-2.ensures.items) refl;
+      past = rw c.new-2.ensures.items (All-nil (λ e. e ≤ 0));
       counted = rw none (omega arith);
       within = omega arith;
       first = c.first.ensures;

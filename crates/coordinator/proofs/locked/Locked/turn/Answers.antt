@@ -25,7 +25,7 @@ returns-clause-ok g c =
     let last : last_turn es ≡ c.last_turn-last.result = ap (λ (v : PassState). last_turn v.entries) c.pass.view_is ∙ sym c.last_turn-last.ensures in
     rw (← c.pass.view_is, c.seen_after.ensures)
     (turn-one c.args.self.now.desk c.turn.new.self _ c.args.call c.args.copy c.in-Ok.receipt c.add.new.share.amount c.push_reserved.new.self.items
-    c.lawful.ensures.lawful.admitted
-    (record { step = c.in-Ok.ensures.step; turns = c.in-Ok.ensures.turns; number = c.in-Ok.ensures.number; opening = c.turn.ensures.opening })
+    (_, c.lawful-2.ensures.lawful.admitted)
+    (record { step = c.in-Ok.ensures.step; turns = c.in-Ok.ensures.turns; number = c.in-Ok.ensures.number; opening = c.turn.ensures.opening; found = c.turn.ensures.found })
     (omega (arith, c.if-pass-front.false, c.front-front.ensures)) (omega (arith, last, c.if-last-turns.false, ap length c.turns.ensures, c.lawful.ensures.lawful.few))
     c.pass.invariant.3 c.requires.copy c.add.ensures.amount added)

@@ -1,0 +1,5 @@
+use Rattle.desk.proofs.OtherEpochs.{other_epoch_unmoved}
+use Rattle.desk.proofs.laws.other_epochs_change_nothing.Goals as goal
+
+pub returns : goal.returns
+returns c = other_epoch_unmoved

@@ -1,0 +1,136 @@
+//! Adding the steps of a line to new tables.
+
+ghost use Rattle.std.specs.Prelude.{◌≡◌, ◌≢◌, ◌<◌, ◌+◌, ◌∷◌, true, IfOk, IfErr, OnOk, reverse, take, length};
+ghost use Rattle.std.specs.Str.{bytes_eq};
+ghost use Rattle.indexmap.specs.IndexMap.{get};
+ghost use Rattle.report_line.specs.Lawful.{IsLawful};
+ghost use Rattle.settled_histories.specs.Kept.{IsClosed};
+ghost use Rattle.driver.specs.Keeping.{AreKept, bears, is_due, is_waiting};
+ghost use Rattle.driver.specs.Making.{Adds};
+ghost use Rattle.driver.specs.Marks.{cut_by};
+ghost use Rattle.driver.specs.Tables.{AreSound, history_in};
+
+use crate::beginning::begun;
+use crate::fault::StepFault;
+use crate::known::Known;
+use crate::making::living;
+use crate::mark::Mark;
+use crate::marking::is_reached;
+use crate::noting::{add, reserve};
+use crate::remaking::remade;
+use crate::tables::Tables;
+use indexmap::IndexMap;
+use report_line::{Deed, Name, Step as Taken};
+use std::alloc::Global;
+
+// Whether a retirement of the process waits.
+fn waits(tables: &Tables, process: &Name) -> bool
+    ensures { result ≡ is_waiting (get bytes_eq tables.now.known process.now) }
+{
+    match tables.known.get(process) {
+        None => false,
+        Some(Known::Lives { .. }) => false,
+        Some(Known::Waits { .. }) => true,
+        Some(Known::Gone) => false,
+    }
+}
+
+// Whether by these tables what is received was sent, and what is absorbed retired.
+fn is_due(tables: &Tables, deed: &Deed) -> bool
+    ensures { result ≡ is_due tables.now deed.now }
+{
+    match deed {
+        Deed::Work => true,
+        Deed::Check => true,
+        Deed::Present => true,
+        Deed::Send { .. } => true,
+        Deed::Receive { message } => tables.messages.contains_key(message),
+        Deed::Fork { .. } => true,
+        Deed::Retire { .. } => true,
+        Deed::Absorb { retired } => waits(tables, retired),
+    }
+}
+
+// Whether the deed is a fork, by this event, of a child whose birth is in the line.
+fn bears(marks: &IndexMap<Name, Mark>, deed: &Deed, number: usize) -> bool
+    ensures { result ≡ bears (get bytes_eq marks.now) deed.now number }
+{
+    match deed {
+        Deed::Work => false,
+        Deed::Check => false,
+        Deed::Present => false,
+        Deed::Send { .. } => false,
+        Deed::Receive { .. } => false,
+        Deed::Fork { child, .. } => is_reached(marks, child, number),
+        Deed::Retire { .. } => false,
+        Deed::Absorb { .. } => false,
+    }
+}
+
+// Adds a step that is lawful.
+fn keep(alloc: Global, tables: &mut Tables, step: &Taken) -> Result<(), StepFault>
+    requires sound { AreSound tables.old }
+    requires lawful { IsLawful tables.old.root (step.now ∷ history_in tables.old) }
+    ensures ok { OnOk result (Adds tables.old step.now tables.new) }
+    ensures err { IfErr result (λ f. f ≡ StepFault.Memory) }
+{
+    let reports = match living(tables, &step.process) {
+        Ok(alive) => alive.reports,
+        Err(_) => unreachable!(),
+    };
+    let made = match remade(alloc, step, reports) {
+        Ok(made) => made,
+        Err(fault) => return Err(fault),
+    };
+    reserve(tables)?;
+    let _none = add(tables, made);
+    Ok(())
+}
+
+// Goes over one step more: adds it where it is in the line.
+fn go_over(
+    alloc: Global,
+    tables: &mut Tables,
+    marks: &IndexMap<Name, Mark>,
+    steps: &[Taken],
+    i: usize,
+) -> Result<(), StepFault>
+    requires within { i < length steps.now }
+    requires lawful { IsLawful tables.old.root (reverse (take (i + 1) steps.now)) }
+    requires so_far { AreKept tables.old.root tables.old.epoch (cut_by (get bytes_eq marks.now)) (reverse (take i steps.now)) tables.old }
+    ensures ok { OnOk result (AreKept tables.old.root tables.old.epoch (cut_by (get bytes_eq marks.now)) (reverse (take (i + 1) steps.now)) tables.new) }
+    ensures err { IfErr result (λ f. f ≢ StepFault.Memory → (f ≡ StepFault.NotClosed) × (¬ IsClosed tables.old.root (reverse (take (i + 1) steps.now)) (cut_by (get bytes_eq marks.now)))) }
+{
+    let step = &steps[i];
+    if !is_reached(marks, &step.process, i + 1) {
+        if bears(marks, &step.deed, i + 1) {
+            return Err(StepFault::NotClosed);
+        }
+        return Ok(());
+    }
+    if !is_due(tables, &step.deed) {
+        return Err(StepFault::NotClosed);
+    }
+    keep(alloc, tables, step)
+}
+
+// New tables, of the steps in the line.
+pub(crate) fn kept_tables(
+    alloc: Global,
+    old: &Tables,
+    marks: &IndexMap<Name, Mark>,
+    epoch: u32,
+) -> Result<Tables, StepFault>
+    requires { AreSound old.now }
+    ensures ok { IfOk result (AreKept old.now.root epoch (cut_by (get bytes_eq marks.now)) (history_in old.now)) }
+    ensures err { IfErr result (λ f. f ≢ StepFault.Memory → (f ≡ StepFault.NotClosed) × (¬ IsClosed old.now.root (history_in old.now) (cut_by (get bytes_eq marks.now)))) }
+{
+    let mut tables = begun(alloc, old.root.copy(), epoch)?;
+    for i in 0..old.steps.len() {
+        match go_over(alloc, &mut tables, marks, &old.steps, i) {
+            Ok(()) => {}
+            Err(fault) => return Err(fault),
+        }
+    }
+    Ok(tables)
+}

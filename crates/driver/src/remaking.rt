@@ -1,0 +1,155 @@
+//! A step that was made, as it is added to other tables.
+
+ghost use Rattle.std.specs.Prelude.{◌≡◌, ◌+◌, IfOk, IfErr, if◌then◌else◌};
+ghost use Rattle.report_line.specs.StepReports.{is_reported};
+ghost use Rattle.driver.specs.Tables.{kept_of_other, kept_of_message};
+ghost use Rattle.driver.specs.Keeping.{after_by, IsRemade};
+
+use crate::fault::StepFault;
+use crate::known::Known;
+use crate::making::next_number;
+use crate::tables::{Made, Other, Sent};
+use report_line::{Deed, Name, Step as Taken};
+use stamp::Stamp;
+use std::alloc::{AllocError, Global};
+
+fn copy_of(alloc: Global, deed: &Deed) -> Result<Deed, AllocError>
+    ensures { IfOk result (λ d. d ≡ deed.now) }
+{
+    match deed {
+        Deed::Work => Ok(Deed::Work),
+        Deed::Check => Ok(Deed::Check),
+        Deed::Present => Ok(Deed::Present),
+        Deed::Send { message } => Ok(Deed::Send {
+            message: message.copy(),
+        }),
+        Deed::Receive { message } => Ok(Deed::Receive {
+            message: message.copy(),
+        }),
+        Deed::Fork { child, given } => {
+            let given = given.copy(alloc)?;
+            Ok(Deed::Fork {
+                child: child.copy(),
+                given,
+            })
+        }
+        Deed::Retire { target } => Ok(Deed::Retire {
+            target: target.copy(),
+        }),
+        Deed::Absorb { retired } => Ok(Deed::Absorb {
+            retired: retired.copy(),
+        }),
+    }
+}
+
+// How many reports it made, with that of the deed.
+fn reports_with(deed: &Deed, reports: u32) -> Result<u32, StepFault>
+    ensures ok { IfOk result (λ n. n ≡ (if is_reported deed.now then reports + 1 else reports)) }
+    ensures err { IfErr result (λ f. f ≡ StepFault.Memory) }
+{
+    match deed {
+        Deed::Work => Ok(reports),
+        Deed::Check => next_number(reports),
+        Deed::Present => next_number(reports),
+        Deed::Send { .. } => Ok(reports),
+        Deed::Receive { .. } => Ok(reports),
+        Deed::Fork { .. } => next_number(reports),
+        Deed::Retire { .. } => next_number(reports),
+        Deed::Absorb { .. } => next_number(reports),
+    }
+}
+
+// What is kept of the process, with so many reports.
+fn after_of(deed: &Deed, stamp: Stamp, reports: u32) -> Known
+    ensures { result ≡ after_by deed.now stamp reports }
+{
+    match deed {
+        Deed::Work => Known::Lives { stamp, reports },
+        Deed::Check => Known::Lives { stamp, reports },
+        Deed::Present => Known::Lives { stamp, reports },
+        Deed::Send { .. } => Known::Lives { stamp, reports },
+        Deed::Receive { .. } => Known::Lives { stamp, reports },
+        Deed::Fork { .. } => Known::Lives { stamp, reports },
+        Deed::Retire { target } => Known::Waits {
+            stamp,
+            target: target.copy(),
+        },
+        Deed::Absorb { .. } => Known::Lives { stamp, reports },
+    }
+}
+
+fn other_of(alloc: Global, step: &Taken) -> Result<Option<Other>, AllocError>
+    ensures { IfOk result (λ o. o ≡ kept_of_other step.now.deed step.now.stamp) }
+{
+    match &step.deed {
+        Deed::Work => Ok(None),
+        Deed::Check => Ok(None),
+        Deed::Present => Ok(None),
+        Deed::Send { .. } => Ok(None),
+        Deed::Receive { .. } => Ok(None),
+        Deed::Fork { child, given } => {
+            let id = given.copy(alloc)?;
+            let events = step.stamp.events.copy(alloc)?;
+            Ok(Some(Other {
+                name: child.copy(),
+                known: Known::Lives {
+                    stamp: Stamp { id, events },
+                    reports: 0,
+                },
+            }))
+        }
+        Deed::Retire { .. } => Ok(None),
+        Deed::Absorb { retired } => Ok(Some(Other {
+            name: retired.copy(),
+            known: Known::Gone,
+        })),
+    }
+}
+
+fn message_of(alloc: Global, step: &Taken) -> Result<Option<Sent>, AllocError>
+    ensures { IfOk result (λ m. m ≡ kept_of_message step.now.deed step.now.stamp) }
+{
+    match &step.deed {
+        Deed::Work => Ok(None),
+        Deed::Check => Ok(None),
+        Deed::Present => Ok(None),
+        Deed::Send { message } => {
+            let events = step.stamp.events.copy(alloc)?;
+            Ok(Some(Sent {
+                name: message.copy(),
+                events,
+            }))
+        }
+        Deed::Receive { .. } => Ok(None),
+        Deed::Fork { .. } => Ok(None),
+        Deed::Retire { .. } => Ok(None),
+        Deed::Absorb { .. } => Ok(None),
+    }
+}
+
+// The step, with what it changes where its process made so many reports before.
+pub(crate) fn remade(alloc: Global, step: &Taken, reports: u32) -> Result<Made, StepFault>
+    ensures ok { IfOk result (λ made. IsRemade step.now reports made) }
+    ensures err { IfErr result (λ f. f ≡ StepFault.Memory) }
+{
+    let reports = match reports_with(&step.deed, reports) {
+        Ok(reports) => reports,
+        Err(fault) => return Err(fault),
+    };
+    let stamp = step.stamp.copy(alloc)?;
+    let own = step.stamp.copy(alloc)?;
+    let deed = copy_of(alloc, &step.deed)?;
+    let other = other_of(alloc, step)?;
+    let message = message_of(alloc, step)?;
+    Ok(Made {
+        after: after_of(&step.deed, own, reports),
+        step: Taken {
+            process: step.process.copy(),
+            deed,
+            stamp,
+        },
+        other,
+        message,
+        report: None,
+    })
+}

@@ -1,0 +1,62 @@
+//! Settlements, which return all processes to a line.
+
+ghost use Rattle.std.specs.Prelude.{◌≡◌, ◌<◌, All, ℕ, List, IfOk};
+ghost use Rattle.report_line.specs.declared.report.Report.{Report};
+ghost use Rattle.chains.specs.declared.position.Position.{Position};
+ghost use Rattle.chains.specs.Processes.{Name as AnyName, IsKnown};
+ghost use Rattle.chains.specs.Positions.{positions_of};
+ghost use Rattle.chains.specs.Admission.{report_limit};
+ghost use Rattle.chains.specs.Held.{Held, held_of};
+ghost use Rattle.chains.specs.Settled.{kept_at, CanBeKept, IsSettledFor, IsSettled};
+ghost use Rattle.propagate.specs.Greatest.{IsGreatestCut};
+
+use crate::cut::greatest_cut;
+use chains::{Chains, Failed, FailedFault, KeepFault, Line};
+use report_line::Name;
+use std::alloc::AllocError;
+
+/// What a line keeps that can be kept.
+fn keep(chains: &Chains, line: &Line) -> Result<Chains, AllocError>
+    requires { CanBeKept chains.now.accepted line.now }
+    ensures { IfOk result (λ kept. held_of kept ≡ kept_at (held_of chains.now) (positions_of line.now)) }
+{
+    match chains.keep(line) {
+        Ok(kept) => Ok(kept),
+        Err(KeepFault::Unfit) => unreachable!(),
+        Err(KeepFault::Memory) => Err(AllocError),
+    }
+}
+
+/// The chains once all processes returned to the line of these failed ones: what the line keeps, with one more line and one more
+/// settlement counted. Its caller tested that there is room for one more line.
+pub fn settle(chains: &Chains, failed: &Failed) -> Result<Chains, AllocError>
+    requires { chains.now.front < report_limit }
+    ensures { IfOk result (λ kept. IsSettledFor (held_of chains.now) failed.now (held_of kept)) }
+{
+    chains.lawful();
+    let cut = greatest_cut(chains, failed)?;
+    let mut kept = keep(chains, &cut.line)?;
+    kept.count_settlement();
+    kept.lawful();
+    Ok(kept)
+}
+
+/// The same of the failed processes with these names, which its caller knows to be known.
+pub fn settle_named(chains: &Chains, names: &[Name]) -> Result<Chains, AllocError>
+    requires room { chains.now.front < report_limit }
+    requires known { All (IsKnown chains.now.accepted) names.now }
+    ensures { IfOk result (λ kept. IsSettled (held_of chains.now) names.now (held_of kept)) }
+{
+    match Failed::from_names(chains, names) {
+        Ok(failed) => settle(chains, &failed),
+        Err(FailedFault::Unknown(_)) => unreachable!(),
+        Err(FailedFault::Memory) => Err(AllocError),
+    }
+}
+
+/// There is one greatest cut for a failed set, so what is held after a settlement is determined by what was held before and by the
+/// names of the failed processes.
+pub fn settlements_have_one_outcome()
+    ensures cuts { (accepted : List Report) (failed : List ℕ) (a b : List Position) → IsGreatestCut accepted failed a → IsGreatestCut accepted failed b → a ≡ b }
+    ensures outcome { (held : Held) (names : List AnyName) (a b : Held) → IsSettled held names a → IsSettled held names b → a ≡ b }
+{}

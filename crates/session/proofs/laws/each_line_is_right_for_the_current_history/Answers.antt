@@ -1,0 +1,8 @@
+use Rattle.session.proofs.OverRuns.{each_line_is_right_now, no_line_is_below_garbage}
+use Rattle.session.proofs.laws.each_line_is_right_for_the_current_history.Goals as goal
+
+pub returns-clause-now : goal.returns-clause-now
+returns-clause-now c = each_line_is_right_now
+
+pub returns-clause-garbage : goal.returns-clause-garbage
+returns-clause-garbage c = no_line_is_below_garbage

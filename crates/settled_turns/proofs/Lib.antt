@@ -1,0 +1,5 @@
+pub mod TurnCases
+pub mod Growing
+pub mod Following
+pub mod Parted
+pub mod Written

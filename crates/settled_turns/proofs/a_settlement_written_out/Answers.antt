@@ -1,0 +1,12 @@
+-- The clauses are proved in `Written`.
+use Rattle.settled_turns.proofs.Written.{settled_once_is_taken, settled_once_is_right, its_run_is_once_settled}
+use Rattle.settled_turns.proofs.a_settlement_written_out.Goals as goal
+
+pub returns-clause-turns : goal.returns-clause-turns
+returns-clause-turns c = settled_once_is_taken
+
+pub returns-clause-processes : goal.returns-clause-processes
+returns-clause-processes c = settled_once_is_right
+
+pub returns-clause-run : goal.returns-clause-run
+returns-clause-run c = its_run_is_once_settled

@@ -1,0 +1,3 @@
+pub mod Traces
+pub mod Obeyed
+pub mod Example

@@ -1,22 +1,31 @@
-"""A client of `recline serve`: one process that stamps its steps, reports them and asks for lines.
+"""A client of `recline serve`: one process that stamps its steps, reports them, asks for lines and returns to them.
 
     process = Process(Connection(port), "a")
     process.begin()
-    child = process.fork("b")         # name, stamp and number of reports of the new process, to be handed to it
-    process.checkpoint()              # the position of the checkpoint; its state has to be on disk before
-    message = process.send()          # the events that the message has to carry
+    child = process.fork("b")               # the stamp of the new process, to be handed to it
+    process.checkpoint(store)               # store(position, kept) has the state on disk, and what is kept of the process with it
+    message = process.send()                # the events that the message has to carry
     process.receive(events)
-    line = process.line(["b"])        # for each process its position, 0 where it is unborn, or "retired"
+    line = process.line(["b"])              # for each process its position, 0 where it is unborn, or "retired"
+
+After a failure one process settles, and each process returns to its position:
+
+    epoch, line = process.settle(["b"])     # the number of this settlement, and the line to which all return
+    process.return_to(position, kept, epoch)
 """
 
 import json
 import socket
 
-from stamps import Stamp, text
+from stamps import Stamp, parse, text
 
 
 class Refused(Exception):
     """A reply that is not the one that was hoped for. What it says stands in docs/FORMATS.md."""
+
+
+def names_of(names):
+    return ",".join(names) if names else "-"
 
 
 class Connection:
@@ -45,11 +54,24 @@ class Connection:
 
     def line(self, names):
         """The certificate for these failed processes, or for nobody."""
-        return self.certificate("LINE " + (",".join(names) if names else "-"))
+        return self.certificate("LINE " + names_of(names))
 
     def garbage(self):
         """The certificate with every process failed."""
         return self.certificate("GARBAGE")
+
+    def settle(self, names):
+        """Has all processes return to the line for these failed processes. Answers the number of the settlement, which is the epoch of what
+        is reported behind it, and the certificate of the line."""
+        while True:
+            certificate = self.line(names)
+            reply = self.ask("SETTLE %d %s" % (certificate["front"], names_of(names)))
+            words = reply.split(" ")
+            if words[0] == "SETTLED":
+                return int(words[1]), certificate
+            # Something was accepted behind the line that was asked, so another one may be right.
+            if words[:2] != ["NO", "18"]:
+                raise Refused(reply)
 
     def certificate(self, question):
         reply = self.ask(question)
@@ -68,23 +90,25 @@ class Connection:
 
 
 class Process:
-    """A process of a computation: its name, its stamp, and how many reports it made."""
+    """A process of a computation: its name, its stamp, how many reports it made, its newest position and its epoch."""
 
-    def __init__(self, connection, name, stamp=None, number=0, position=1):
+    def __init__(self, connection, name, stamp=None, number=0, position=1, epoch=0):
         self.connection = connection
         self.name = name
         self.stamp = stamp or Stamp()
         self.number = number
         self.position = position
+        self.epoch = epoch
 
     def begin(self):
         """Reports the birth of the root."""
         self.connection.report("BEGIN " + self.name)
 
-    def report(self, kind, rest=""):
+    def report(self, kind, rest="", stamp=None):
+        """Reports a step. Behind a settlement the report bears its mark."""
         self.number += 1
-        line = "%s %s %d %s%s" % (kind, self.name, self.number, self.stamp, rest)
-        return self.connection.report(line)
+        mark = "@%d" % self.epoch if self.epoch else ""
+        return self.connection.report("%s%s %s %d %s%s" % (kind, mark, self.name, self.number, stamp or self.stamp, rest))
 
     def work(self):
         self.stamp.event()
@@ -96,21 +120,21 @@ class Process:
     def receive(self, events):
         self.stamp.receive(events)
 
-    def checkpoint(self):
-        """Reports a checkpoint, and answers its position."""
+    def checkpoint(self, store=None):
+        """Takes a checkpoint and answers its position. Before it is reported, store(position, kept) has to have its state on disk, and with it
+        what is kept of the process."""
         self.stamp.event()
+        if store:
+            store(self.position + 1, {"stamp": str(self.stamp), "number": self.number + 1})
         self.report("CHECK")
         self.position += 1
         return self.position
 
     def fork(self, name):
-        """Reports a fork, and answers the stamp of the child, whose position 1 is its birth."""
+        """Reports a fork, and answers the stamp of the child, whose position 1 is its birth, and whose epoch is this one's."""
         before = self.stamp.id
         child = self.stamp.fork()
-        self.number += 1
-        whole = Stamp(before, self.stamp.events)
-        self.connection.report("FORK %s %d %s %s %s %s" % (
-            self.name, self.number, whole, text(self.stamp.id), name, text(child.id)))
+        self.report("FORK", " %s %s %s" % (text(self.stamp.id), name, text(child.id)), Stamp(before, self.stamp.events))
         return child
 
     def retire(self, into):
@@ -126,3 +150,16 @@ class Process:
     def line(self, failed):
         """For each process the position to which it returns, 0 for unborn, or "retired"."""
         return dict(self.connection.line(failed)["line"])
+
+    def settle(self, failed):
+        """Settles, and answers the epoch and the line as line() does. This process has to return to its position, too."""
+        epoch, certificate = self.connection.settle(failed)
+        return epoch, dict(certificate["line"])
+
+    def return_to(self, position, kept, epoch):
+        """Returns to a checkpoint with what was kept there. All that comes behind it is of this epoch."""
+        i, events = kept["stamp"].split(";")
+        self.stamp = Stamp(parse(i), parse(events))
+        self.number = kept["number"]
+        self.position = position
+        self.epoch = epoch

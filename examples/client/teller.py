@@ -1,21 +1,23 @@
 #!/usr/bin/env python3
 """One teller of the demonstration: it sends money to the next teller and takes money from the one before, round for round.
 
-Usage: teller.py FOLDER NAME FROM TO STATE RESEND [PORT STAMP]
+Usage: teller.py FOLDER NAME FROM TO POSITION HAS [PORT EPOCH [ROUND]]
 
-FROM and TO are the descriptors of two pipes. STATE is the number of the checkpoint to begin with, and RESEND the number of the last
-message that the next teller has by then. With a port and a stamp the teller reports to recline.
+FROM and TO are the descriptors of two pipes. POSITION is the number of the checkpoint to begin with, and HAS the number of the last
+message that the next teller has received by the checkpoint that it begins with. With a port and an epoch the teller reports to recline,
+and with a round it waits behind that one, to be killed there.
 """
 
 import json
 import os
 import random
+import signal
 import sys
 
 from client import Connection, Process
-from stamps import Stamp, parse, text
+from stamps import parse, text
 
-ROUNDS = 24
+ROUNDS = 32
 
 
 def write_state(folder, name, position, state):
@@ -34,24 +36,30 @@ def read_state(folder, name, position):
 
 
 class Teller:
-    def __init__(self, folder, name, source, target, position, process):
+    """A teller at a checkpoint: its state is what was stored there, and its process goes on with what was kept of it."""
+
+    def __init__(self, folder, name, source, target, position, process, epoch):
         self.folder = folder
         self.name = name
         self.source = source
         self.target = target
         self.process = process
         self.state = read_state(folder, name, position)
+        if process:
+            process.return_to(position, self.state["kept"], epoch)
 
-    def send(self, number, amount):
-        events = text(self.process.send()) if self.process else ""
+    def send(self, number):
+        """Hands over a message that was sent. It carries the events of its sending, also where it is handed over once more."""
+        amount, events = self.state["sent"][number - 1]
         print(json.dumps([number, amount, events]), file=self.target, flush=True)
 
     def pay(self):
-        """Sends what chance says to the next teller. What was sent stays known, so that it can be sent once more."""
+        """Sends what chance says to the next teller. What was sent stays known, so that it can be handed over once more."""
         amount = random.SystemRandom().randrange(1_000_000)
+        events = text(self.process.send()) if self.process else ""
         self.state["balance"] -= amount
-        self.state["sent"].append(amount)
-        self.send(len(self.state["sent"]), amount)
+        self.state["sent"].append([amount, events])
+        self.send(len(self.state["sent"]))
 
     def collect(self):
         """Takes the next message. One that it has already is passed over."""
@@ -68,35 +76,33 @@ class Teller:
             self.state["received"] = number
             return
 
-    def checkpoint(self):
-        """Takes a checkpoint to disk, and reports it."""
-        write_state(self.folder, self.name, self.process.position + 1, self.state)
-        self.process.checkpoint()
+    def store(self, position, kept):
+        """Has the state of a checkpoint on disk, with the stamp and the number of reports that the process has there."""
+        write_state(self.folder, self.name, position, dict(self.state, kept=kept))
 
-    def run(self, resend):
-        for number, amount in enumerate(self.state["sent"], 1):
-            if number > resend:
-                self.send(number, amount)
-        while len(self.state["sent"]) < ROUNDS or self.state["received"] < ROUNDS:
-            if len(self.state["sent"]) < ROUNDS:
+    def run(self, has, last_round):
+        # What was sent before this checkpoint, and not received before that of the next teller, is in flight on the line.
+        for number in range(has + 1, len(self.state["sent"]) + 1):
+            self.send(number)
+        while self.state["received"] < ROUNDS:
+            # A checkpoint lies between a payment and the receipt of the same round.
+            if len(self.state["sent"]) == self.state["received"]:
                 self.pay()
-            if self.state["received"] < ROUNDS:
-                self.collect()
-            round_number = self.state["received"]
-            if self.process and round_number % self.state["every"] == 0:
-                self.checkpoint()
-            print("round %d" % round_number, flush=True)
+                if self.process and len(self.state["sent"]) % self.state["every"] == 0:
+                    self.process.checkpoint(self.store)
+            self.collect()
+            print("round %d" % self.state["received"], flush=True)
+            if self.state["received"] == last_round:
+                signal.pause()
         print("balance %d" % self.state["balance"], flush=True)
 
 
 def main():
-    folder, name, source, target, position, resend = sys.argv[1:7]
-    process = None
-    if len(sys.argv) > 7:
-        i, events = sys.argv[8].split(";")
-        process = Process(Connection(int(sys.argv[7])), name, Stamp(parse(i), parse(events)))
+    folder, name, source, target, position, has = sys.argv[1:7]
+    port, epoch, last_round = (int(word) for word in (sys.argv[7:] + ["0"] * 3)[:3])
+    process = Process(Connection(port), name) if port else None
     with os.fdopen(int(source), "r") as reader, os.fdopen(int(target), "w") as writer:
-        Teller(folder, name, reader, writer, int(position), process).run(int(resend))
+        Teller(folder, name, reader, writer, int(position), process, epoch).run(int(has), last_round)
 
 
 if __name__ == "__main__":

@@ -1,0 +1,1 @@
+cat "$rows/../../examples/settled.lines"

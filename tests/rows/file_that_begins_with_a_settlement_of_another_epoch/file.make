@@ -1,0 +1,1 @@
+$records_of_epochs '1 SETTLE 1 a' >"$file"

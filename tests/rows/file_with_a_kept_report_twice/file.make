@@ -1,0 +1,1 @@
+$records_of_epochs '0 BEGIN a' '0 CHECK a 1 1;1' '0 SETTLE 2 a' '0 CHECK a 1 1;1' >"$file"

@@ -1,0 +1,1 @@
+$records_of_epochs '0 BEGIN a' '0 SETTLE 1 a' '1 BEGIN a' >"$file"

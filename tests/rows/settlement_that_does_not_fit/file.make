@@ -1,0 +1,2 @@
+mapfile -t checkpoints < <(for number in {1..46}; do echo "CHECK a $number 1;$number"; done)
+$records 'BEGIN a' "${checkpoints[@]}" >"$file"

@@ -5,13 +5,17 @@ use Rattle.std.proofs.lemmas.Bool.{cases_Bool, eqb-true, eqb-false}
 use Rattle.std.proofs.lemmas.List.{append-nil, length-append}
 use Rattle.std.proofs.lemmas.List.Concat.{flat_map-append}
 use Rattle.report_line.specs.Cutting.{ended, NoBreak}
+use Rattle.report_line.specs.declared.call.Call.{Call}
+use Rattle.report_line.specs.declared.call.Call.TheVariants as calls
+use Rattle.report_line.specs.declared.report.Report.TheVariants.{Begin}
+use Rattle.report_line.specs.Reports.{unmarked}
 use Rattle.driver.specs.Chronicle.{Chronicle}
 use Rattle.script.specs.declared.end.End.TheVariants.{Done}
 use Rattle.script.specs.declared.driving.Stop.{Stop}
 use Rattle.script.specs.declared.driving.Stop.TheVariants as stops
-use Rattle.script.specs.Spelling.{SpellsRoot}
-use Rattle.script.specs.Driven.{AreLinesOf, Drives, none, begins, goes_on, printed, reports_of, EndsAt, IsDriven}
-use Rattle.script.specs.Driving.{end_by, StopTold, IsTaken, AreTaken}
+use Rattle.script.specs.declared.printing.Printout.{Printout}
+use Rattle.script.specs.Driven.{AreLinesOf, Drives, none, begins, EndsAt, IsDriven}
+use Rattle.script.specs.Driving.{end_by, StopTold, IsPrinted, Begins, IsTaken, AreTaken}
 
 -- ---- lines
 
@@ -54,48 +58,53 @@ line_first rest line behind later whole is w =
 -- ---- how it ends
 
 -- nothing is left but a rest
-pub done : (script rest text : List ℕ) (world : Chronicle) (count : ℕ) → AreTaken script rest text world count → NoBreak rest → IsDriven script text Done
-done script rest text world count w whole = record {
+pub done : (script rest text : List ℕ) (p : Printout) (world : Chronicle) (count : ℕ) → AreTaken script rest p world count → NoBreak rest → text ≡ p.text.items → IsDriven script text Done
+done script rest text p world count w whole same = record {
   front = w.front;
   later = [];
   lines = front_lines script rest w.front [] w.whole w.script_is (rest, tt, whole, refl);
   world = Some world;
+  told = w.told;
   driven = w.driven;
-  text_is = w.text_is;
+  text_is = same ∙ w.prints.text_is;
   ends = refl;
 }
 
 -- a line stops it
-ends_by : (stop : Stop) (n k : ℕ) (line : List ℕ) (more : List (List ℕ)) (world : Option Chronicle) → k ≡ n + 1 → StopTold world line stop → EndsAt (end_by stop k) n (line ∷ more) world
-ends_by (stops.Refused cause) n k line more world is told = (line, more, refl, is, told)
-ends_by stops.Memory n k line more world is told = λ e. cc
+ends_by : (stop : Stop) (n k : ℕ) (line : List ℕ) (more : List (List ℕ)) (world : Option Chronicle) (told : List Call) → k ≡ n + 1 → StopTold world told line stop
+    → EndsAt (end_by stop k) n (line ∷ more) world told
+ends_by (stops.Refused cause) n k line more world told is why = (line, more, refl, is, why)
+ends_by stops.Memory n k line more world told is why = λ e. cc
 
-pub stopped : (script rest line behind text after : List ℕ) (world : Chronicle) (count k : ℕ) (stop : Stop) → AreTaken script rest text world count → NoBreak line
-    → rest ≡ line ++ 10 ∷ behind → after ≡ text → StopTold (Some world) line stop → k ≡ count + 1 → IsDriven script after (end_by stop k)
-stopped script rest line behind text after world count k stop w whole is same told counted =
+pub stopped : (script rest line behind text : List ℕ) (p after : Printout) (world : Chronicle) (count k : ℕ) (stop : Stop) → AreTaken script rest p world count → NoBreak line
+    → rest ≡ line ++ 10 ∷ behind → text ≡ after.text.items → after.text.items ≡ p.text.items → ((told : List Call) → IsPrinted told p → StopTold (Some world) told line stop)
+    → k ≡ count + 1 → IsDriven script text (end_by stop k)
+stopped script rest line behind text p after world count k stop w whole is text_is same why counted =
     let later = some_lines behind in
     record {
       front = w.front;
       later = line ∷ later.0;
       lines = front_lines script rest w.front (line ∷ later.0) w.whole w.script_is (line_first rest line behind later.0 whole is later.1);
       world = Some world;
+      told = w.told;
       driven = w.driven;
-      text_is = same ∙ w.text_is;
-      ends = ends_by stop (length w.front) k line later.0 (Some world) (counted ∙ ap (λ (n : ℕ). n + 1) w.counted) told;
+      text_is = text_is ∙ (same ∙ w.prints.text_is);
+      ends = ends_by stop (length w.front) k line later.0 (Some world) w.told (counted ∙ ap (λ (n : ℕ). n + 1) w.counted) (why w.told w.prints);
     }
 
 -- the first line stops it
-pub stopped_first : (script line behind : List ℕ) (stop : Stop) → NoBreak line → script ≡ line ++ 10 ∷ behind → StopTold None line stop → IsDriven script [] (end_by stop 1)
-stopped_first script line behind stop whole is told =
+pub stopped_first : (script line behind : List ℕ) (stop : Stop) → NoBreak line → script ≡ line ++ 10 ∷ behind → StopTold None [] line stop → IsDriven script [] (end_by stop 1)
+stopped_first script line behind stop whole is why =
     let later = some_lines behind in
     record {
       front = [];
       later = line ∷ later.0;
       lines = line_first script line behind later.0 whole is later.1;
       world = None;
+      told = [];
       driven = none;
       text_is = refl;
-      ends = ends_by stop 0 1 line later.0 None refl told;
+      ends = ends_by stop 0 1 line later.0 None [] refl why;
     }
 
 -- there is no line
@@ -105,6 +114,7 @@ no_line script whole = record {
   later = [];
   lines = (script, tt, whole, refl);
   world = None;
+  told = [];
   driven = none;
   text_is = refl;
   ends = refl;
@@ -112,33 +122,36 @@ no_line script whole = record {
 
 -- ---- what was taken
 
-pub first_taken : (script line behind text : List ℕ) (world : Chronicle) → NoBreak line → script ≡ line ++ 10 ∷ behind → SpellsRoot world.root line → world.epoch ≡ 0 → world.history ≡ []
-    → text ≡ printed (reports_of (Some world)) → AreTaken script behind text world 1
-first_taken script line behind text world whole is spells epoch first printed_is = record {
+pub first_taken : (script line behind : List ℕ) (p : Printout) (world : Chronicle) → NoBreak line → script ≡ line ++ 10 ∷ behind → Begins line world p → AreTaken script behind p world 1
+first_taken script line behind p world whole is begun = record {
   front = line ∷ [];
   whole = (whole, tt);
   script_is = is ∙ (sym (append_assoc line (10 ∷ []) behind) ∙ ap (λ (l : List ℕ). l ++ behind) (sym (append-nil (ended line))));
+  told = calls.Report (unmarked (Begin world.root)) ∷ [];
   driven =
-      subst (λ (n : ℕ). Drives (line ∷ []) (Some (record { root = world.root; epoch = n; history = world.history }))) (sym epoch)
-      (subst (λ (h : _). Drives (line ∷ []) (Some (record { root = world.root; epoch = 0; history = h }))) (sym first) (begins spells));
-  text_is = printed_is;
+      subst (λ (n : ℕ). Drives (line ∷ []) (Some (record { root = world.root; epoch = n; history = world.history })) (calls.Report (unmarked (Begin world.root)) ∷ [])) (sym begun.epoch)
+      (subst (λ (h : _). Drives (line ∷ []) (Some (record { root = world.root; epoch = 0; history = h })) (calls.Report (unmarked (Begin world.root)) ∷ [])) (sym begun.first) (begins begun.spells));
+  prints = begun.prints;
   counted = refl;
 }
 
-pub one_more : (script rest line behind text after : List ℕ) (old new : Chronicle) (count : ℕ) → AreTaken script rest text old count → NoBreak line → rest ≡ line ++ 10 ∷ behind
-    → IsTaken old new line → (text ≡ printed (reports_of (Some old)) → after ≡ printed (reports_of (Some new))) → AreTaken script behind after new (count + 1)
-one_more script rest line behind text after old new count w whole is taken prints = record {
-  front = w.front ++ line ∷ [];
-  whole = both_whole w.front (line ∷ []) w.whole (whole, tt);
-  script_is =
-      w.script_is
-      ∙ (ap (λ (l : List ℕ). flat_map ended w.front ++ l) (is ∙ sym (append_assoc line (10 ∷ []) behind))
-      ∙ (sym (append_assoc (flat_map ended w.front) (ended line) behind)
-      ∙ ap (λ (l : List ℕ). l ++ behind) (ap (λ (l : List ℕ). flat_map ended w.front ++ l) (sym (append-nil (ended line))) ∙ sym (flat_map-append ended w.front (line ∷ [])))));
-  driven = goes_on w.driven taken.spells taken.takes;
-  text_is = prints w.text_is;
-  counted = omega (arith, w.counted, length-append w.front (line ∷ []));
-}
+pub next_taken : (script rest line behind : List ℕ) (before after : Printout) (old new : Chronicle) (count : ℕ) → AreTaken script rest before old count → NoBreak line → rest ≡ line ++ 10 ∷ behind
+    → ((lines : List (List ℕ)) (told : List Call) → Drives lines (Some old) told → IsPrinted told before → IsTaken (lines ++ line ∷ []) new after) → AreTaken script behind after new (count + 1)
+next_taken script rest line behind before after old new count w whole is takes =
+    let taken = takes w.front w.told w.driven w.prints in
+    record {
+      front = w.front ++ line ∷ [];
+      whole = both_whole w.front (line ∷ []) w.whole (whole, tt);
+      script_is =
+          w.script_is
+          ∙ (ap (λ (l : List ℕ). flat_map ended w.front ++ l) (is ∙ sym (append_assoc line (10 ∷ []) behind))
+          ∙ (sym (append_assoc (flat_map ended w.front) (ended line) behind)
+          ∙ ap (λ (l : List ℕ). l ++ behind) (ap (λ (l : List ℕ). flat_map ended w.front ++ l) (sym (append-nil (ended line))) ∙ sym (flat_map-append ended w.front (line ∷ [])))));
+      told = taken.told;
+      driven = taken.driven;
+      prints = taken.prints;
+      counted = omega (arith, w.counted, length-append w.front (line ∷ []));
+    }
 
 -- ---- how many they are
 
@@ -151,8 +164,8 @@ lines_within (line ∷ lines) =
     omega (arith, later, here, all)
 
 -- with one line more there are still no more than bytes
-pub few : (script rest line behind text : List ℕ) (world : Chronicle) (count : ℕ) → AreTaken script rest text world count → rest ≡ line ++ 10 ∷ behind → count + 1 ≤ length script
-few script rest line behind text world count w is =
+pub few : (script rest line behind : List ℕ) (p : Printout) (world : Chronicle) (count : ℕ) → AreTaken script rest p world count → rest ≡ line ++ 10 ∷ behind → count + 1 ≤ length script
+few script rest line behind p world count w is =
     let lines = lines_within w.front in
     let counted = w.counted in
     let all = ap length w.script_is ∙ length-append (flat_map ended w.front) rest in

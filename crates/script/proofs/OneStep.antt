@@ -4,12 +4,15 @@ use Rattle.std.specs.Prelude.{codes}
 use Rattle.std.specs.List.{join_with_byte, AllByRecursion}
 use Rattle.report_line.specs.Names.{is_name}
 use Rattle.report_line.specs.Cuts.{Lacks, words_in}
+use Rattle.report_line.specs.Spelling.{names_text}
+use Rattle.report_line.specs.declared.call.Call.TheVariants as calls
 use Rattle.report_line.proofs.Parting.{words_joined, joined_words}
-use Rattle.report_line.proofs.Plain.{Lacks-name, byte_32, letter_32}
+use Rattle.report_line.proofs.Plain.{Lacks-name, byte_32, letter_32, plain_words}
+use Rattle.report_line.proofs.Rows.{row_again}
 use Rattle.driver.specs.declared.step.Act.{Act}
 use Rattle.driver.specs.declared.step.Act.TheVariants.{Work, Check, Present, Send, Receive, Fork, Retire, Absorb}
 use Rattle.driver.specs.declared.step.Step.{Step}
-use Rattle.script.specs.Spelling.{act_word, act_names, HasNames, step_words, root_words, SpellsStep, SpellsRoot, FindsOne, IsStepOf, IsRootOf}
+use Rattle.script.specs.Spelling.{act_word, act_names, HasNames, step_words, root_words, settle_words, SpellsStep, SpellsRoot, SpellsSettle, FindsOne, IsStepOf, IsRootOf}
 
 -- ---- no word has a space
 
@@ -45,6 +48,10 @@ words_of_step line s is =
 words_of_root : (line p : List ℕ) → SpellsRoot p line → words_in line ≡ root_words p
 words_of_root line p is = ap words_in is.1 ∙ joined_words (codes "root") (p ∷ []) ((refl, (refl, (refl, (refl, tt)))), (plain_name p is.0, tt))
 
+pub words_of_settle : (line : List ℕ) (names : List (List ℕ)) → SpellsSettle names line → words_in line ≡ settle_words names
+words_of_settle line names is =
+    ap words_in is.1 ∙ joined_words (codes "settle") (names_text names ∷ []) ((refl, (refl, (refl, (refl, (refl, (refl, tt)))))), ((plain_words (calls.Line names) is.0).1.0, tt))
+
 pub found_step : (line : List ℕ) (r : Option Step) → FindsOne r (IsStepOf (words_in line)) → FindsOne r (λ s. SpellsStep s line)
 found_step line (Some s) w = (w.0, w.1, sym (words_joined line) ∙ ap (join_with_byte 32) w.2)
 found_step line None none = λ s is. none s (is.0, is.1, words_of_step line s is)
@@ -62,7 +69,7 @@ mark (x ∷ []) = 0
 mark (x ∷ y ∷ []) = 0
 mark (x ∷ y ∷ z ∷ zs) = (x * 256 + y) * 256 + z
 
-parts : (x y : List ℕ) (xs ys : List (List ℕ)) → x ∷ xs ≡ y ∷ ys → (x ≡ y) × (xs ≡ ys)
+pub parts : (x y : List ℕ) (xs ys : List (List ℕ)) → x ∷ xs ≡ y ∷ ys → (x ≡ y) × (xs ≡ ys)
 parts x y xs ys e = (cc, cc)
 
 same_act : (a b : Act) → mark (act_word a) ≡ mark (act_word b) → act_word a ≡ act_word b → act_names a ≡ act_names b → a ≡ b
@@ -102,3 +109,33 @@ pub root_or_step : (line p : List ℕ) (s : Step) → SpellsRoot p line → ¬ S
 root_or_step line p s is also =
     let both = parts _ _ _ _ (sym (words_of_root line p is) ∙ words_of_step line s also) in
     no_root_word s.act (ap mark both.0)
+
+-- ---- settlements
+
+pub one_settle : (line : List ℕ) (names others : List (List ℕ)) → SpellsSettle names line → SpellsSettle others line → names ≡ others
+one_settle line names others is also =
+    let both = parts _ _ _ _ (sym (words_of_settle line names is) ∙ words_of_settle line others also) in
+    row_again names others is.0 also.0 (parts _ _ _ _ both.1).0
+
+no_settle_word : (a : Act) → mark (codes "settle") ≡ mark (act_word a) → ⊥
+no_settle_word Work k = omega (arith, k)
+no_settle_word Check k = omega (arith, k)
+no_settle_word Present k = omega (arith, k)
+no_settle_word (Send m) k = omega (arith, k)
+no_settle_word (Receive m) k = omega (arith, k)
+no_settle_word (Fork c) k = omega (arith, k)
+no_settle_word (Retire q) k = omega (arith, k)
+no_settle_word (Absorb r) k = omega (arith, k)
+
+pub settle_or_step : (line : List ℕ) (names : List (List ℕ)) (s : Step) → SpellsSettle names line → ¬ SpellsStep s line
+settle_or_step line names s is also =
+    let both = parts _ _ _ _ (sym (words_of_settle line names is) ∙ words_of_step line s also) in
+    no_settle_word s.act (ap mark both.0)
+
+no_root_there : mark (codes "settle") ≡ mark (codes "root") → ⊥
+no_root_there k = omega (arith, k)
+
+pub settle_or_root : (line : List ℕ) (names : List (List ℕ)) (p : List ℕ) → SpellsSettle names line → ¬ SpellsRoot p line
+settle_or_root line names p is also =
+    let both = parts _ _ _ _ (sym (words_of_settle line names is) ∙ words_of_root line p also) in
+    no_root_there (ap mark both.0)

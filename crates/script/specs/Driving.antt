@@ -1,52 +1,80 @@
 -- Working definitions: a script is driven line by line.
-use Rattle.std.specs.Prelude.{◌≡◌, ℕ, List, [], ◌++◌, length, Option, Some, Result, Ok, Err, ⊤}
+use Rattle.std.specs.Prelude.{◌≡◌, ℕ, ◌+◌, List, [], ◌∷◌, ◌++◌, length, Option, Some, Result, Ok, Err, ⊤}
 use Rattle.std.specs.List.{flat_map, AllByRecursion}
 use Rattle.report_line.specs.declared.report.Report.{Report}
+use Rattle.report_line.specs.declared.report.Report.TheVariants.{Begin}
+use Rattle.report_line.specs.declared.call.Call.{Call}
+use Rattle.report_line.specs.declared.call.Call.TheVariants as calls
+use Rattle.report_line.specs.declared.reply.Reply.{Reply}
 use Rattle.report_line.specs.Cutting.{ended, NoBreak}
-use Rattle.driver.specs.declared.step.Step.{Step}
+use Rattle.report_line.specs.Reports.{unmarked}
+use Rattle.report_line.specs.Spelling.{spelling}
+use Rattle.chains.specs.Held.{held_of}
+use Rattle.chains.specs.Turns.{fine, IsTurnWith}
 use Rattle.driver.specs.Chronicle.{Chronicle}
-use Rattle.driver.specs.Stamping.{Takes}
 use Rattle.script.specs.declared.driving.Stop.{Stop}
 use Rattle.script.specs.declared.driving.Stop.TheVariants as stops
 use Rattle.script.specs.declared.end.End.{End}
 use Rattle.script.specs.declared.end.End.TheVariants.{Refused, Memory}
-use Rattle.script.specs.Spelling.{SpellsStep, SpellsRoot}
-use Rattle.script.specs.Driven.{Drives, Refuses, printed, reports_of}
+use Rattle.script.specs.declared.printing.Printout.{Printout}
+use Rattle.script.specs.Driven.{Drives, Refuses}
+use Rattle.script.specs.Printed.{printed, report_lines, IsHeldBehind}
+use Rattle.script.specs.Spelling.{SpellsRoot}
+
+-- these lines were printed: their text, how many they are, and what the chains hold on which they took their turns
+pub record IsPrinted (told : List Call) (p : Printout) : Type 0 where
+  pub text_is : p.text.items ≡ printed told
+  pub counted : p.lines ≡ length told
+  pub behind : IsHeldBehind told (held_of p.chains)
+
+-- one more line is printed, and takes its turn
+pub record Prints (old : Printout) (line : Call) (new : Printout) : Type 0 where
+  pub text_is : new.text.items ≡ old.text.items ++ ended (spelling line)
+  pub counted : new.lines ≡ old.lines + 1
+  pub reply : Reply
+  pub turn : IsTurnWith fine (held_of old.chains) line reply (held_of new.chains)
 
 -- why the next line stops the script
-abbrev pub StopTold : Option Chronicle → List ℕ → Stop → Type 0
-StopTold world line (stops.Refused cause) = Refuses world line cause
-StopTold world line stops.Memory = ⊤
+abbrev pub StopTold : Option Chronicle → List Call → List ℕ → Stop → Type 0
+StopTold world told line (stops.Refused cause) = Refuses world told line cause
+StopTold world told line stops.Memory = ⊤
 
 -- the end of a script that this line stops
 abbrev pub end_by : Stop → ℕ → End
 end_by (stops.Refused cause) k = Refused k cause
 end_by stops.Memory k = Memory
 
--- the line begins the world, whose report is this text
-pub record Begins (line : List ℕ) (world : Chronicle) (text : List ℕ) : Type 0 where
+-- the line begins the world, and its report is printed
+pub record Begins (line : List ℕ) (world : Chronicle) (p : Printout) : Type 0 where
   pub spells : SpellsRoot world.root line
   pub epoch : world.epoch ≡ 0
   pub first : world.history ≡ []
-  pub text_is : text ≡ printed (reports_of (Some world))
+  pub prints : IsPrinted (calls.Report (unmarked (Begin world.root)) ∷ []) p
 
--- the world took the step of this line
-pub record IsTaken (old new : Chronicle) (line : List ℕ) : Type 0 where
-  pub step : Step
-  pub spells : SpellsStep step line
-  pub given : Option Report
-  pub takes : Takes old step new given
+-- the world took the line, whichever lines it took before, and what it prints is printed
+pub record IsTaken (lines : List (List ℕ)) (new : Chronicle) (p : Printout) : Type 0 where
+  pub told : List Call
+  pub driven : Drives lines (Some new) told
+  pub prints : IsPrinted told p
 
--- the line is taken, and its report, if it has one, is printed behind the others; or it stops, and nothing is printed
-abbrev pub StepTold : Chronicle → Chronicle → List ℕ → List ℕ → List ℕ → Result (Unit {0}) Stop → Type 0
-StepTold old new before after line (Ok u) = IsTaken old new line × (before ≡ printed (reports_of (Some old)) → after ≡ printed (reports_of (Some new)))
-StepTold old new before after line (Err stop) = (after ≡ before) × StopTold (Some old) line stop
+-- the report of a step, if it has one, is printed with this epoch; or for want of memory nothing is
+abbrev pub GivenTold : Printout → Printout → ℕ → Option Report → Result (Unit {0}) Stop → Type 0
+GivenTold before after epoch given (Ok u) = (told : List Call) → IsPrinted told before → IsPrinted (told ++ report_lines epoch given) after
+GivenTold before after epoch given (Err stop) = (after.text.items ≡ before.text.items) × (stop ≡ stops.Memory)
+
+-- the line is taken; or it stops, and nothing is printed
+abbrev pub StepTold : Chronicle → Chronicle → Printout → Printout → List ℕ → Result (Unit {0}) Stop → Type 0
+StepTold old new before after line (Ok u) =
+    (lines : List (List ℕ)) (told : List Call) → Drives lines (Some old) told → IsPrinted told before → IsTaken (lines ++ line ∷ []) new after
+StepTold old new before after line (Err stop) =
+    (after.text.items ≡ before.text.items) × ((told : List Call) → IsPrinted told before → StopTold (Some old) told line stop)
 
 -- these lines were taken, and this is left of the script
-pub record AreTaken (script rest text : List ℕ) (world : Chronicle) (count : ℕ) : Type 0 where
+pub record AreTaken (script rest : List ℕ) (p : Printout) (world : Chronicle) (count : ℕ) : Type 0 where
   pub front : List (List ℕ)
   pub whole : AllByRecursion NoBreak front
   pub script_is : script ≡ flat_map ended front ++ rest
-  pub driven : Drives front (Some world)
-  pub text_is : text ≡ printed (reports_of (Some world))
+  pub told : List Call
+  pub driven : Drives front (Some world) told
+  pub prints : IsPrinted told p
   pub counted : count ≡ length front

@@ -1,4 +1,5 @@
 pub mod Spelling
 pub mod Causes
+pub mod Printed
 pub mod Driven
 pub mod Driving

@@ -1,7 +1,8 @@
--- The one line of each step.
+-- The one line of each step, and of a settlement.
 use Rattle.std.specs.Prelude.{◌≡◌, ℕ, List, [], ◌∷◌, IsTrue, codes, Option, Some, None, ⊤}
 use Rattle.std.specs.List.{join_with_byte}
-use Rattle.report_line.specs.Names.{is_name}
+use Rattle.report_line.specs.Names.{is_name, AreNames}
+use Rattle.report_line.specs.Spelling.{names_text}
 use Rattle.driver.specs.declared.step.Act.{Act}
 use Rattle.driver.specs.declared.step.Act.TheVariants.{Work, Check, Present, Send, Receive, Fork, Retire, Absorb}
 use Rattle.driver.specs.declared.step.Step.{Step}
@@ -47,6 +48,10 @@ step_words s = act_word s.act ∷ s.process ∷ act_names s.act
 abbrev pub root_words : List ℕ → List (List ℕ)
 root_words p = codes "root" ∷ p ∷ []
 
+-- the words of the line that settles for these failed processes
+abbrev pub settle_words : List (List ℕ) → List (List ℕ)
+settle_words names = codes "settle" ∷ names_text names ∷ []
+
 -- the step is one of names, and this is its line: its words, parted by one space
 abbrev pub SpellsStep : Step → List ℕ → Type 0
 SpellsStep s line = IsTrue (is_name s.process) × HasNames s.act × (line ≡ join_with_byte 32 (step_words s))
@@ -54,6 +59,10 @@ SpellsStep s line = IsTrue (is_name s.process) × HasNames s.act × (line ≡ jo
 -- this is the line that begins a world with this root
 abbrev pub SpellsRoot : List ℕ → List ℕ → Type 0
 SpellsRoot p line = IsTrue (is_name p) × (line ≡ join_with_byte 32 (root_words p))
+
+-- This is the line that settles for these failed processes: it has their names as the line has that asks where all recover from.
+abbrev pub SpellsSettle : List (List ℕ) → List ℕ → Type 0
+SpellsSettle names line = AreNames names × (line ≡ join_with_byte 32 (settle_words names))
 
 -- one is found for which P holds, or P holds for none
 abbrev pub FindsOne : {X : Type 0} → Option X → (X → Type 0) → Type 0

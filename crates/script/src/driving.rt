@@ -1,24 +1,28 @@
 //! Driving a world by a script.
 
-ghost use Rattle.std.specs.Prelude.{◌≡◌, ◌<◌, ◌^◌, ℕ, [], ◌∷◌, ◌++◌, OnOk, OnErr, MatchOption, MatchResult, IfOk, None};
-ghost use Rattle.std.specs.List.{cons_option};
+ghost use Rattle.std.specs.Prelude.{◌≡◌, ◌++◌, ◌∷◌, [], List, ℕ, MatchOption, MatchResult, None};
 ghost use Rattle.report_line.specs.Cutting.{NoBreak};
-ghost use Rattle.script.specs.Driven.{IsDriven, printed};
-ghost use Rattle.script.specs.Driving.{Begins, StepTold, StopTold, end_by};
+ghost use Rattle.driver.specs.declared.step.Step.{Step as AnyStep};
+ghost use Rattle.script.specs.Driven.{IsDriven, PrintsReports};
+ghost use Rattle.script.specs.Driving.{Begins, GivenTold, StepTold, StopTold, end_by};
+ghost use Rattle.script.specs.Spelling.{SpellsStep, SpellsSettle};
 
 use crate::end::{Cause, End};
+use crate::naming::line_for;
+use crate::printing::{Printout, print_made, print_settlement};
 use crate::reading::{read_root, read_step};
-use driver::{StepFault, World};
+use crate::settle_lines::read_settle;
+use driver::{Step, StepFault, World};
 use memchr::memchr;
-use report_line::{PackedReport, Report, write_line};
-use std::alloc::{AllocError, Global};
+use report_line::{Names, Report};
+use std::alloc::Global;
 
 /// Why a line stops the script.
 #[derive(Clone, Copy)]
 enum Stop {
     /// It is refused.
     Refused(Cause),
-    /// Its report could not be printed for want of memory.
+    /// Memory did not suffice to read it, or to print what it prints.
     Memory,
 }
 
@@ -30,33 +34,9 @@ pub fn cut_line(bytes: &[u8]) -> Option<(&[u8], &[u8])>
     Some((&bytes[..at], &bytes[at + 1..]))
 }
 
-// The line of the report.
-fn printed(alloc: Global, report: Report) -> Result<Vec<u8>, AllocError>
-    ensures { IfOk result (λ line. line.items ≡ printed (report ∷ [])) }
-{
-    let report = PackedReport::of(report);
-    let mut line = write_line(alloc, &report)?;
-    line.push(b'\n')?;
-    Ok(line)
-}
-
-// Appends the line of the report, if there is one.
-fn print(alloc: Global, text: &mut Vec<u8>, given: Option<Report>) -> Result<(), AllocError>
-    ensures ok { OnOk result (text.new.items ≡ text.old.items ++ printed (cons_option given [])) }
-    ensures err { OnErr result (text.new.items ≡ text.old.items) }
-{
-    match given {
-        None => Ok(()),
-        Some(report) => {
-            let line = printed(alloc, report)?;
-            text.extend_from_slice(&line)
-        }
-    }
-}
-
 // The world that the first line begins, and what is printed then.
-fn begin(alloc: Global, line: &[u8]) -> Result<(World, Vec<u8>), Stop>
-    ensures { MatchResult result (λ begun. Begins line.now begun.0 begun.1.items) (λ stop. StopTold None line.now stop) }
+fn begin(alloc: Global, line: &[u8]) -> Result<(World, Printout), Stop>
+    ensures { MatchResult result (λ begun. Begins line.now begun.0 begun.1) (λ stop. StopTold None [] line.now stop) }
 {
     let Some(root) = read_root(line) else {
         return Err(Stop::Refused(Cause::Grammar));
@@ -64,27 +44,102 @@ fn begin(alloc: Global, line: &[u8]) -> Result<(World, Vec<u8>), Stop>
     let Ok((world, report)) = World::start(alloc, root) else {
         return Err(Stop::Refused(Cause::Fault(StepFault::Memory)));
     };
-    match printed(alloc, report) {
-        Ok(text) => Ok((world, text)),
+    let mut printout = Printout::new(alloc);
+    match print_made(alloc, &mut printout, 0, report) {
+        Ok(()) => Ok((world, printout)),
         Err(_) => Err(Stop::Memory),
     }
 }
 
-// The world takes the step of a line, and its report, if it has one, is printed.
-fn go_on(alloc: Global, world: &mut World, line: &[u8], text: &mut Vec<u8>) -> Result<(), Stop>
-    ensures { StepTold world.old world.new text.old.items text.new.items line.now result }
+// Prints the report of a step, if it has one, with the world's epoch.
+fn print_given(
+    alloc: Global,
+    printout: &mut Printout,
+    epoch: u32,
+    given: Option<Report>,
+) -> Result<(), Stop>
+    ensures { GivenTold printout.old printout.new epoch given result }
 {
-    let Some(step) = read_step(line) else {
-        return Err(Stop::Refused(Cause::Grammar));
+    let Some(report) = given else {
+        return Ok(());
     };
+    match print_made(alloc, printout, epoch, report) {
+        Ok(()) => Ok(()),
+        Err(_) => Err(Stop::Memory),
+    }
+}
+
+// The world takes this step, and its report, if it has one, is printed.
+fn take_step(
+    alloc: Global,
+    world: &mut World,
+    step: Step,
+    printout: &mut Printout,
+) -> Result<(), Stop>
+    ensures { (line : List ℕ) → SpellsStep step line → StepTold world.old world.new printout.old printout.new line result }
+{
     let given = match world.step(step) {
         Ok(given) => given,
         Err(fault) => return Err(Stop::Refused(Cause::Fault(fault))),
     };
-    match print(alloc, text, given) {
+    print_given(alloc, printout, world.epoch(), given)
+}
+
+// The world returns to the line of these failed processes, and that is printed.
+fn settle(
+    alloc: Global,
+    world: &mut World,
+    names: &Names,
+    printout: &mut Printout,
+) -> Result<(), Stop>
+    ensures { (line : List ℕ) → SpellsSettle names.now line → StepTold world.old world.new printout.old printout.new line result }
+{
+    let Ok(line) = line_for(&printout.chains, names.as_slice()) else {
+        return Err(Stop::Memory);
+    };
+    match world.settle(names.as_slice(), &line) {
+        Ok(()) => {}
+        Err(refused) => return Err(Stop::Refused(Cause::Fault(refused))),
+    }
+    match print_settlement(alloc, printout, names) {
         Ok(()) => Ok(()),
         Err(_) => Err(Stop::Memory),
     }
+}
+
+// The world takes a line that is no step.
+fn take_other(
+    alloc: Global,
+    world: &mut World,
+    line: &[u8],
+    printout: &mut Printout,
+) -> Result<(), Stop>
+    requires { (step : AnyStep) → ¬ SpellsStep step line.now }
+    ensures { StepTold world.old world.new printout.old printout.new line.now result }
+{
+    match read_settle(alloc, line) {
+        Ok(Some(names)) => settle(alloc, world, &names, printout),
+        Ok(None) => Err(Stop::Refused(Cause::Grammar)),
+        Err(_) => Err(Stop::Memory),
+    }
+}
+
+// The world takes a line, and what it prints is printed.
+fn go_on(alloc: Global, world: &mut World, line: &[u8], printout: &mut Printout) -> Result<(), Stop>
+    ensures { StepTold world.old world.new printout.old printout.new line.now result }
+{
+    match read_step(line) {
+        Some(step) => take_step(alloc, world, step, printout),
+        None => take_other(alloc, world, line, printout),
+    }
+}
+
+// What was printed.
+fn text_of(printout: Printout) -> Vec<u8>
+    ensures { result.items ≡ printout.text.items }
+{
+    let Printout { text, .. } = printout;
+    text
 }
 
 // The end of a script that this line stops, by the line's number.
@@ -97,15 +152,17 @@ fn end_by(stop: Stop, step: u64) -> End
     }
 }
 
-/// Drives a world by the lines of a script, and answers what is printed, with how it ended. The first line begins the
-/// world, each later one is a step of it, and the first line that is refused is the last one.
+/// Drives a world by the lines of a script, and answers what is printed, with how it ended. The first line begins the world, each later
+/// one is a step of it or settles it, and the first line that is refused is the last one. Each line that is printed takes its turn on
+/// chains, and a settlement returns the world to the line that is answered over them. A script that would print more than 4,294,967,295
+/// lines ends there, as for want of memory.
 pub fn drive(alloc: Global, script: &[u8]) -> (Vec<u8>, End)
     ensures { IsDriven script.now result.0.items result.1 }
 {
     let Some((first, behind)) = cut_line(script) else {
         return (Vec::new(alloc), End::Done);
     };
-    let (mut world, mut text) = match begin(alloc, first) {
+    let (mut world, mut printout) = match begin(alloc, first) {
         Ok(begun) => begun,
         Err(stop) => return (Vec::new(alloc), end_by(stop, 1)),
     };
@@ -113,11 +170,16 @@ pub fn drive(alloc: Global, script: &[u8]) -> (Vec<u8>, End)
     let mut taken = 1u64;
     while let Some((line, behind)) = cut_line(rest) {
         taken += 1;
-        match go_on(alloc, &mut world, line, &mut text) {
+        match go_on(alloc, &mut world, line, &mut printout) {
             Ok(()) => {}
-            Err(stop) => return (text, end_by(stop, taken)),
+            Err(stop) => return (text_of(printout), end_by(stop, taken)),
         }
         rest = behind;
     }
-    (text, End::Done)
+    (text_of(printout), End::Done)
 }
+
+/// A script without settlements prints the reports of its world.
+pub fn a_script_without_settlements_prints_the_reports()
+    ensures { PrintsReports }
+{}

@@ -4,7 +4,7 @@ ghost use Rattle.std.specs.Prelude.{◌≡◌, ◌≢◌, ◌∷◌, [], IsTrue,
 ghost use Rattle.report_line.specs.Names.{is_name};
 ghost use Rattle.report_line.specs.Cuts.{words_in};
 ghost use Rattle.driver.specs.declared.step.Step.{Step as AnyStep};
-ghost use Rattle.script.specs.Spelling.{FindsOne, SpellsRoot, SpellsStep, IsActOf, IsRootOf, IsStepOf};
+ghost use Rattle.script.specs.Spelling.{FindsOne, SpellsRoot, SpellsStep, SpellsSettle, IsActOf, IsRootOf, IsStepOf};
 
 use driver::{Act, Step};
 use report_line::{Name, Words};
@@ -121,8 +121,12 @@ pub fn read_step(line: &[u8]) -> Option<Step>
     step_of(&mut words)
 }
 
-/// No line is that of two steps, and none that begins a world is that of a step.
+/// No line is that of two steps, nor that of two settlements; and none is of two of these kinds: it begins a world, is a step, or
+/// settles.
 pub fn a_line_has_one_step()
     ensures step { (line : List ℕ) (s t : AnyStep) → SpellsStep s line → SpellsStep t line → s ≡ t }
     ensures root { (line : List ℕ) (p : List ℕ) (s : AnyStep) → SpellsRoot p line → ¬ SpellsStep s line }
+    ensures settle { (line : List ℕ) (names others : List (List ℕ)) → SpellsSettle names line → SpellsSettle others line → names ≡ others }
+    ensures settle_or_step { (line : List ℕ) (names : List (List ℕ)) (s : AnyStep) → SpellsSettle names line → ¬ SpellsStep s line }
+    ensures settle_or_root { (line : List ℕ) (names : List (List ℕ)) (p : List ℕ) → SpellsSettle names line → ¬ SpellsRoot p line }
 {}

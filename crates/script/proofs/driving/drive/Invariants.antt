@@ -3,7 +3,7 @@ use Rattle.script.specs.Driving.{AreTaken}
 use Rattle.script.proofs.driving.drive.Given as goal
 
 abbrev pub invariant-loop-line : goal.invariant-loop-line
-invariant-loop-line l = AreTaken l.script l.rest l.text.items l.world l.taken
+invariant-loop-line l = AreTaken l.script l.rest l.printout l.world l.taken
 
 abbrev pub decreases-loop-line : goal.decreases-loop-line
 decreases-loop-line l = length l.rest

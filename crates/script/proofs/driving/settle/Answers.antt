@@ -1,0 +1,20 @@
+use Rattle.std.proofs.Common.{subst}
+use Rattle.driver.specs.Settling.{IsClosedLine, Settles, RefusesLine}
+use Rattle.script.specs.Printed.{IsLineFor}
+use Rattle.script.proofs.Taking.{settle_told, settle_refused}
+use Rattle.script.proofs.driving.settle.Goals as goal
+
+pub returns-in-Err : goal.returns-in-Err
+returns-in-Err c =
+    settle_refused c.args.world.now c.args.names.now c.in-Ok.line.items c.args.printout.now c.in-Err.refused
+    (subst (λ names. IsLineFor c.args.printout.now.chains.accepted names c.in-Ok.line.items) c.as_slice.ensures.value c.in-Ok.ensures)
+    (subst (λ names. RefusesLine c.args.world.now names c.in-Ok.line.items c.in-Err.refused) c.as_slice-2.ensures.value
+    (subst (λ line. RefusesLine c.args.world.now c.as_slice-2.result.now line c.in-Err.refused) c.deref.ensures.value c.in-Err.ensures.refused))
+
+pub returns-in-Ok-print_settlement : goal.returns-in-Ok-print_settlement
+returns-in-Ok-print_settlement c =
+    settle_told c.args.world.now c.settle.new.self c.args.names.now c.in-Ok.line.items c.args.printout.now c.print_settlement.new.printout
+    (subst (λ names. IsLineFor c.args.printout.now.chains.accepted names c.in-Ok.line.items) c.as_slice.ensures.value c.in-Ok.ensures)
+    (subst (λ names. IsClosedLine c.args.world.now names c.in-Ok.line.items) c.as_slice-2.ensures.value
+    (subst (λ line. IsClosedLine c.args.world.now c.as_slice-2.result.now line) c.deref.ensures.value c.in-Ok-settle.ensures.closed))
+    (subst (λ line. Settles c.args.world.now line c.settle.new.self) c.deref.ensures.value c.in-Ok-settle.ensures.settled) c.in-Ok-print_settlement.ensures.ok

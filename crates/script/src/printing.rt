@@ -1,0 +1,164 @@
+//! What a script prints, line by line.
+
+ghost use Rattle.std.specs.Prelude.{◌≡◌, ◌≢◌, ◌+◌, ◌<◌, ◌++◌, [], All, OnOk, OnErr, IfOk};
+ghost use Rattle.report_line.specs.Cutting.{ended};
+ghost use Rattle.report_line.specs.Spelling.{spelling};
+ghost use Rattle.report_line.specs.declared.call.Call.TheVariants as calls;
+ghost use Rattle.report_line.specs.declared.reply.Reply.{Reply as AnyReply};
+ghost use Rattle.chains.specs.Admission.{report_limit};
+ghost use Rattle.chains.specs.Held.{counting, held_of};
+ghost use Rattle.chains.specs.Processes.{IsKnown};
+ghost use Rattle.chains.specs.Settled.{IsSettled};
+ghost use Rattle.chains.specs.Turns.{fine, IsTurnWith};
+ghost use Rattle.script.specs.Driving.{Prints};
+
+use chains::{Chains, No};
+use propagate::settle_named;
+use report_line::{Code, Names, PackedReport, Report, write_marked, write_settle};
+use std::alloc::{AllocError, Global};
+
+/// What was printed so far: the text, how many lines it has, and the chains on which each of them took its turn.
+#[derive(Drop)]
+pub(crate) struct Printout {
+    pub(crate) text: Vec<u8>,
+    pub(crate) lines: u32,
+    pub(crate) chains: Chains,
+}
+
+// A refusal is passed over, but for want of memory.
+fn pass_over(refusal: &No) -> Result<(), AllocError>
+    ensures { OnOk result (refusal.now.code ≢ Code.OutOfMemory) }
+{
+    if refusal.code == Code::OutOfMemory {
+        return Err(AllocError);
+    }
+    Ok(())
+}
+
+// A report takes its turn on the chains, memory aside.
+fn take_report(chains: &mut Chains, epoch: u32, report: &PackedReport) -> Result<(), AllocError>
+    ensures { OnOk result ((reply : AnyReply) × IsTurnWith fine (held_of chains.old) (calls.Report (record { epoch = epoch; report = report.now })) reply (held_of chains.new)) }
+{
+    match chains.admit(report, epoch) {
+        Ok(_) => Ok(()),
+        Err(refusal) => pass_over(&refusal),
+    }
+}
+
+// All return to the line of these failed processes.
+fn return_all(chains: &mut Chains, names: &Names) -> Result<(), AllocError>
+    requires room { chains.old.front < report_limit }
+    requires known { All (IsKnown chains.old.accepted) names.now }
+    ensures { OnOk result (IsSettled (held_of chains.old) names.now (held_of chains.new)) }
+{
+    *chains = settle_named(chains, names.as_slice())?;
+    Ok(())
+}
+
+// A settlement takes its turn on the chains, memory aside.
+fn take_settlement(chains: &mut Chains, front: u32, names: &Names) -> Result<(), AllocError>
+    ensures { OnOk result ((reply : AnyReply) × IsTurnWith fine (held_of chains.old) (calls.Settle front names.now) reply (held_of chains.new)) }
+{
+    match chains.may_settle(front, names.as_slice()) {
+        Ok(()) => return_all(chains, names),
+        Err(refusal) => pass_over(&refusal),
+    }
+}
+
+// The line with its LF.
+fn with_end(line: Vec<u8>) -> Result<Vec<u8>, AllocError>
+    ensures { IfOk result (λ whole. whole.items ≡ ended line.items) }
+{
+    let mut whole = line;
+    whole.push(b'\n')?;
+    Ok(whole)
+}
+
+// The line of a report, with its LF.
+fn report_line(alloc: Global, epoch: u32, report: &PackedReport) -> Result<Vec<u8>, AllocError>
+    ensures { IfOk result (λ line. line.items ≡ ended (spelling (calls.Report (record { epoch = epoch; report = report.now })))) }
+{
+    let line = write_marked(alloc, epoch, report)?;
+    with_end(line)
+}
+
+// The line of a settlement, with its LF.
+fn settle_line(alloc: Global, front: u32, names: &Names) -> Result<Vec<u8>, AllocError>
+    ensures { IfOk result (λ line. line.items ≡ ended (spelling (calls.Settle front names.now))) }
+{
+    let line = write_settle(alloc, front, names)?;
+    with_end(line)
+}
+
+impl Printout {
+    /// Nothing, which takes no memory.
+    pub(crate) fn new(alloc: Global) -> Printout
+        ensures text { result.text.items ≡ [] }
+        ensures lines { result.lines ≡ 0 }
+        ensures chains { held_of result.chains ≡ counting [] }
+    {
+        Printout {
+            text: Vec::new(alloc),
+            lines: 0,
+            chains: Chains::new(alloc),
+        }
+    }
+}
+
+// A line is printed behind the others and counted, if 2^32 - 1 were not printed yet.
+fn add_line(text: &mut Vec<u8>, lines: &mut u32, line: &[u8]) -> Result<(), AllocError>
+    ensures text { OnOk result (text.new.items ≡ text.old.items ++ line.now) }
+    ensures counted { OnOk result (lines.new ≡ lines.old + 1) }
+    ensures err { OnErr result (text.new.items ≡ text.old.items) }
+{
+    if *lines == u32::MAX {
+        return Err(AllocError);
+    }
+    text.extend_from_slice(line)?;
+    *lines += 1;
+    Ok(())
+}
+
+// Prints this report.
+fn print_report(
+    alloc: Global,
+    printout: &mut Printout,
+    epoch: u32,
+    report: &PackedReport,
+) -> Result<(), AllocError>
+    ensures ok { OnOk result (Prints printout.old (calls.Report (record { epoch = epoch; report = report.now })) printout.new) }
+    ensures err { OnErr result (printout.new.text.items ≡ printout.old.text.items) }
+{
+    let line = report_line(alloc, epoch, report)?;
+    take_report(&mut printout.chains, epoch, report)?;
+    add_line(&mut printout.text, &mut printout.lines, &line)
+}
+
+/// Prints a report with the mark of its epoch.
+pub(crate) fn print_made(
+    alloc: Global,
+    printout: &mut Printout,
+    epoch: u32,
+    report: Report,
+) -> Result<(), AllocError>
+    ensures ok { OnOk result (Prints printout.old (calls.Report (record { epoch = epoch; report = report })) printout.new) }
+    ensures err { OnErr result (printout.new.text.items ≡ printout.old.text.items) }
+{
+    let report = PackedReport::of(report);
+    print_report(alloc, printout, epoch, &report)
+}
+
+/// Prints a settlement for these failed processes, with the number of lines before it.
+pub(crate) fn print_settlement(
+    alloc: Global,
+    printout: &mut Printout,
+    names: &Names,
+) -> Result<(), AllocError>
+    ensures ok { OnOk result (Prints printout.old (calls.Settle printout.old.lines names.now) printout.new) }
+    ensures err { OnErr result (printout.new.text.items ≡ printout.old.text.items) }
+{
+    let front = printout.lines;
+    let line = settle_line(alloc, front, names)?;
+    take_settlement(&mut printout.chains, front, names)?;
+    add_line(&mut printout.text, &mut printout.lines, &line)
+}

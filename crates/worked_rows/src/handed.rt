@@ -7,7 +7,7 @@ use std::alloc::{AllocError, Global};
 use std::test::Fail;
 
 /// The reports of these lines, up to the first that is none.
-pub fn reports_of(alloc: Global, lines: &[&[u8]]) -> Result<Vec<PackedReport>, AllocError> {
+fn reports_of(alloc: Global, lines: &[&[u8]]) -> Result<Vec<PackedReport>, AllocError> {
     let mut reports = Vec::new(alloc);
     for line in lines {
         let Ok(Call::Report(report)) = read_line(alloc, line) else {

@@ -8,8 +8,6 @@ mod command;
 #[cfg(test)]
 mod handed;
 #[cfg(test)]
-mod kept;
-#[cfg(test)]
 mod lines;
 #[cfg(test)]
 mod links;

@@ -13,10 +13,10 @@ pub struct No {
     pub value: Option<Text>,
 }
 
-/// A report that was not refused, with the number of accepted reports.
+/// A report that was not refused, with the front then.
 #[derive(Clone, Copy, Debug, PartialEq, Eq)]
 pub enum Admitted {
-    /// It was accepted, and the number counts it.
+    /// It was accepted, and the front counts it.
     Accepted(u32),
     /// It is the last accepted one of its process, or the `BEGIN` that was accepted: nothing changed.
     Old(u32),

@@ -52,6 +52,7 @@ pub shown_line : (held : Held) (call : Call) (text : List ℕ) → IsOpened (uns
 shown_line held call text opened reach fits = record {
   opened = opened;
   front = λ n is. cc is;
+  epoch = λ e is. absurd (cc);
   shows = shows_taken held call text held.front fits;
   right = λ other e. (fits.0, fits.1, subst (IsRightLine held fits.0) (same_text text other e) (right_text held fits.0 text reach fits.2));
 }

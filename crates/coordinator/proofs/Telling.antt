@@ -21,7 +21,7 @@ use Rattle.reasons.specs.Shown.{IsLineShown, IsShown}
 use Rattle.desk.specs.Lawful.{unstopped}
 use Rattle.desk.specs.Records.{IsOpened}
 use Rattle.desk.proofs.Recording.{settles_so}
-use Rattle.coordinator.specs.Passes.{front_of, IsShownOver, MayShow}
+use Rattle.coordinator.specs.Passes.{front_of, epoch_of, IsShownOver, MayShow}
 use Rattle.coordinator.specs.Parts.{first_shown}
 
 -- ---- the replies of admission
@@ -75,13 +75,19 @@ module _ (held : Held) (x : Reply) where
 
 -- ---- what is told
 
--- the front that a reply tells is the one then, which never falls
+-- the front that a reply tells is the one then, which never falls, and so is the epoch that it tells
 abbrev pub Tells : Held → Reply → Held → Type 0
-Tells held reply after = ((n : ℕ) → front_of reply ≡ Some n → after.front ≡ n) × (held.front ≤ after.front)
+Tells held reply after =
+    ((n : ℕ) → front_of reply ≡ Some n → after.front ≡ n) × (held.front ≤ after.front) × ((e : ℕ) → epoch_of reply ≡ Some e → after.epoch ≡ e)
+
+-- what tells no front tells no epoch
+no_epoch : (said : Reply) → front_of said ≡ None → (e : ℕ) → epoch_of said ≡ Some e → ⊥
+no_epoch (Settled epoch front) none e is = cc
+no_epoch _ none e is = cc
 
 silent : (held after : Held) (reply said : Reply) → front_of said ≡ None → reply ≡ said → after.front ≡ held.front → Tells held reply after
 silent held after reply said none e same =
-    ((λ n is. let told : front_of said ≡ Some n = ap front_of (sym e) ∙ is in absurd (cc (none, told))), omega (arith, same))
+    ((λ n is. let told : front_of said ≡ Some n = ap front_of (sym e) ∙ is in absurd (cc (none, told))), omega (arith, same), λ k is. absurd (no_epoch said none k (ap epoch_of (sym e) ∙ is)))
 
 still : (held after : Held) (reply said : Reply) → front_of said ≡ None → reply ≡ said → after ≡ held → Tells held reply after
 still held after reply said none e same = silent held after reply said none e (ap (λ (h : Held). h.front) same)
@@ -100,8 +106,8 @@ tells_no held m (Taken f) never = absurd never
 
 tells_kind : (held : Held) (m : MarkedReport) (reply : Reply) → Kinds held reply → Tells held reply (held_after held m reply)
 tells_kind held m reply (inl refused) = tells_no held m reply refused
-tells_kind held m reply (inr (inl e)) = rw e ((λ n is. cc is), omega arith)
-tells_kind held m reply (inr (inr e)) = rw e ((λ n is. cc is), omega arith)
+tells_kind held m reply (inr (inl e)) = rw e ((λ n is. cc is), omega arith, λ k is. cc is)
+tells_kind held m reply (inr (inr e)) = rw e ((λ n is. cc is), omega arith, λ k is. cc is)
 
 tells_reported : (b : Bool) (fate : Fate) (held after : Held) (m : MarkedReport) (reply : Reply) → IsReported b fate held m reply after → Tells held reply after
 tells_reported true fate held after m reply step = still held after reply (Fail Stopped) refl step.1 step.2
@@ -116,7 +122,12 @@ tells_settled held after front names (Settled k f) settling left =
     let is = settles_so held front names (Settled k f) (λ code name value e. cc) settling in
     let there = ap (λ (h : Held). h.front) left.2.is_kept in
     let told : f ≡ held.front + 1 = cc is in
-    ((λ n e. let same : f ≡ n = cc e in omega (arith, there, told, same)), omega (arith, there))
+    let then_epoch = ap (λ (h : Held). h.epoch) left.2.is_kept in
+    let told_epoch : k ≡ held.epoch + 1 = cc is in (
+      (λ n e. let same : f ≡ n = cc e in omega (arith, there, told, same)),
+      omega (arith, there),
+      λ n e. let same : k ≡ n = cc e in omega (arith, then_epoch, told_epoch, same),
+    )
 tells_settled held after front names (No code name value) settling left = still held after (No code name value) (No code name value) refl refl left
 tells_settled held after front names (Accepted f) settling left = absurd (let e = settles_so held front names (Accepted f) (λ code name value e. cc) settling in cc)
 tells_settled held after front names (Old f) settling left = absurd (let e = settles_so held front names (Old f) (λ code name value e. cc) settling in cc)
@@ -137,11 +148,11 @@ tells_settlement false unknown held after front names reply step = silent held a
 tells_line : (held : Held) (names : List Name) (reply : Reply) → IsLineReply held names reply → Tells held reply held
 tells_line held names reply (inl (q, e)) = silent held held reply _ refl e refl
 tells_line held names reply (inr (q, inl (name, first, e))) = silent held held reply _ refl e refl
-tells_line held names reply (inr (q, inr (all, e))) = rw e ((λ n is. cc is), omega arith)
+tells_line held names reply (inr (q, inr (all, e))) = rw e ((λ n is. cc is), omega arith, λ k is. cc is)
 
 tells_garbage : (held : Held) (reply : Reply) → IsGarbageReply held reply → Tells held reply held
 tells_garbage held reply (inl (q, e)) = silent held held reply _ refl e refl
-tells_garbage held reply (inr (q, e)) = rw e ((λ n is. cc is), omega arith)
+tells_garbage held reply (inr (q, e)) = rw e ((λ n is. cc is), omega arith, λ k is. cc is)
 
 tells_told : (held : Held) (p : Name) (target : Option Name) (reply : Reply) → reply ≡ state_by target held.accepted p → Tells held reply held
 tells_told held p None reply e = silent held held reply _ refl e refl
@@ -276,6 +287,7 @@ pub shown_first : (held after : Held) (call : Call) (reply : Reply) → IsOpened
 shown_first held after call reply opened t = record {
   opened = opened;
   front = (tells held after call reply t).0;
+  epoch = (tells held after call reply t).2;
   shows = shows_first held after after call reply t;
   right = λ text e. absurd (never_first held after call reply text t e);
 }

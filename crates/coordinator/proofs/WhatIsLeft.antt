@@ -23,5 +23,7 @@ ended keeps view opening passes desk disk turns front lawful same audited made c
   front_is = counted;
   running = λ runs here c leaves. lawful.running runs (subst keeps is here) c (subst (λ d. Leaves (view d) c) is leaves);
   left = left;
+  admitted = lawful.admitted;
+  pending = lawful.pending;
   audited = subst (λ (o : Held). IsAudited o desk.turns passes) same audited;
 }

@@ -1,5 +1,5 @@
 -- What passes have to show at the end.
-use Rattle.std.specs.Prelude.{◌≡◌, ◌≢◌, ◌⊎◌, ℕ, ◌-◌, ◌<◌, ◌≤◌, ◌==◌, ◌++◌, false, List, length, take, All, Contains, Some, slice_get, ⊤}
+use Rattle.std.specs.Prelude.{◌≡◌, ◌≢◌, ◌⊎◌, ℕ, ◌-◌, ◌<◌, ◌≤◌, ◌==◌, ◌++◌, false, true, List, length, take, All, Contains, Some, slice_get, ⊤}
 use Rattle.std.specs.List.{count_by, flat_map}
 use Rattle.line_disk.specs.Disk.{View, Leaves}
 use Rattle.report_line.specs.declared.reply.Reply.TheVariants.{Line}
@@ -7,8 +7,9 @@ use Rattle.chains.specs.Held.{Held}
 use Rattle.desk.specs.declared.turn.Turn.{Turn}
 use Rattle.desk.specs.Desks.{DeskState}
 use Rattle.record_file.specs.File.{Said, Stands}
-use Rattle.desk.specs.Files.{MayStandFor}
-use Rattle.desk.specs.Records.{Opens, recorded}
+use Rattle.desk.specs.Files.{MayStandFor, IsPending}
+use Rattle.desk.specs.Records.{Admits, Opens, recorded}
+use Rattle.desk.specs.Lawful.{unstopped}
 use Rattle.desk.specs.Replays.{Replays}
 use Rattle.coordinator.specs.declared.fault.CloseFault.{CloseFault}
 use Rattle.coordinator.specs.declared.fault.CloseFault.TheVariants.{Stranger, Missing, Memory}
@@ -87,7 +88,8 @@ IsAuditCause opening desk passes Memory = ⊤
 
 -- The coordinator has ended. Its turns replay from what was held at the opening and are those of the passes. A crash leaves a file of
 -- records that opening comes to what was held then by, and behind them those of the turns that were answered OK or SETTLED, in order,
--- with all that was undone; or after FAIL unknown of these, or of these and the one that is pending.
+-- with all that was undone; or after FAIL unknown of these, or of these and the one that is pending, which opening admits behind them.
+-- Opening all these records comes to what is held at the end.
 pub record IsEnded {D : Type 0} (keeps : D → Type 0) (view : D → View) (opening : Held) (passes : List PassState) (turns front : ℕ) (disk : D) : Type 0 where
   pub list : List Turn
   pub held : Held
@@ -98,4 +100,6 @@ pub record IsEnded {D : Type 0} (keeps : D → Type 0) (view : D → View) (open
   pub front_is : front ≡ held.front
   pub running : held.stopped ≡ false → keeps disk → (c : List ℕ) → Leaves (view disk) c → Stands (found ++ recorded list) c
   pub left : keeps disk → (c : List ℕ) → Leaves (view disk) c → MayStandFor (found ++ recorded list) held.epoch list c
+  pub admitted : Opens (found ++ recorded list) (unstopped held)
+  pub pending : (one : Said) → IsPending held.epoch list one → (held.stopped ≡ true) × ((after : Held) × Admits (unstopped held) one after)
   pub audited : IsAudited opening list passes

@@ -58,6 +58,11 @@ front_of (Taken front) = Some front
 front_of (Settled epoch front) = Some front
 front_of _ = None
 
+-- the epoch that a reply tells
+abbrev pub epoch_of : Reply → Option ℕ
+epoch_of (Settled epoch front) = Some epoch
+epoch_of _ = None
+
 -- A reply is shown as it is. Where it says that a line was taken, what is shown in its place is that memory was wanting, or a line.
 abbrev pub MayShow : Reply → Reply → Type 0
 MayShow (Taken front) shown = (shown ≡ no_memory) ⊎ ((text : List ℕ) × (shown ≡ Line text))
@@ -73,11 +78,12 @@ AsksForLine held _ names = ⊥
 abbrev pub IsLineFor : Held → Call → List ℕ → Type 0
 IsLineFor held call text = (names : List Name) × AsksForLine held call names × IsLineText held names text
 
--- Over what is held, which opening some records comes to and whose front is the one that the reply tells, this is shown for the call and
--- the reply of its turn. A line that is shown is right: it is the greatest closed cut of every lawful history that agrees.
+-- Over what is held, which opening some records comes to and whose front and epoch are those that the reply tells, this is shown for the
+-- call and the reply of its turn. A line that is shown is right: it is the greatest closed cut of every lawful history that agrees.
 pub record IsShownOver (held : Held) (call : Call) (reply shown : Reply) : Type 0 where
   pub opened : IsOpened (unstopped held)
   pub front : (n : ℕ) → front_of reply ≡ Some n → held.front ≡ n
+  pub epoch : (e : ℕ) → epoch_of reply ≡ Some e → held.epoch ≡ e
   pub shows : IsShown held call reply shown
   pub right : (text : List ℕ) → shown ≡ Line text → (names : List Name) × AsksForLine held call names × IsRightLine held names text
 

@@ -75,7 +75,7 @@ impl<L: Ledger, D: Disk> Locked<L, D> {
     pub fn pass(&mut self, alloc: Global) -> Option<Pass<L>>
         ensures some { IfSome result (λ p. p ≡ new_pass (self.old.passes + 1)) }
         ensures counted { OnSome result (self.new.passes ≡ self.old.passes + 1) }
-        ensures none { IfNone result (self.new.passes ≡ 8192) }
+        ensures none { IfNone result ((self.old.passes ≡ 8192) × (self.new ≡ self.old)) }
         ensures desk { self.new.desk ≡ self.old.desk }
     {
         if self.passes >= PASSES {
@@ -98,6 +98,7 @@ impl<L: Ledger, D: Disk> Locked<L, D> {
         ensures ok { OnOk result (IsTurnFor self.old.desk self.new.desk pass.old call pass.new) }
         ensures err { OnErr result ((self.new.desk ≡ self.old.desk) × (pass.new ≡ pass.old)) }
         ensures due { IfErr result (λ f. IsDue self.old.desk pass.old f) }
+        ensures passes { self.new.passes ≡ self.old.passes }
     {
         self.desk.lawful();
         let front = self.desk.front();
@@ -145,6 +146,7 @@ impl<L: Ledger, D: Disk> Locked<L, D> {
         ensures ok { IfOk result (λ s. IsTakenFor self.old.desk self.new.desk pass.old call s pass.new) }
         ensures err { OnErr result ((self.new.desk ≡ self.old.desk) × (pass.new ≡ pass.old)) }
         ensures due { IfErr result (λ f. IsDue self.old.desk pass.old f) }
+        ensures passes { self.new.passes ≡ self.old.passes }
     {
         self.turn(pass, call, copy)?;
         let Some(_front) = pass.taken() else {

@@ -9,7 +9,6 @@ pub mod Accepting
 pub mod Admitting
 pub mod OneOpening
 pub mod OneTurn
-pub mod OtherEpochs
 pub mod Reachables
 pub mod OwnFile
 pub mod Reopening

@@ -137,7 +137,7 @@ impl<D: Disk> Desk<D> {
         ensures lawful { IsLawful D.keeps D.view self.now }
         ensures reached { IsReached self.now.held }
         ensures opening { IsReached self.now.opening }
-        // The reports of a lawful history, handed over in order, are accepted up to the first refusal.
+        // The reports of a lawful history, handed over in order, are accepted up to the first refusal; those of other epochs are set aside.
         ensures of_histories { AreTurnsOfHistories self.now.opening self.now.turns self.now.held }
     {
         self.chains.lawful();

@@ -23,7 +23,7 @@ use report_line::{Name, Report};
 use std::alloc::{AllocError, Global};
 use std::marker::Model;
 
-/// Processes that stamp their steps by the rules, from one root on; seen as the root and the history.
+/// Processes that stamp their steps by the rules, from one root on; seen as the root, the present epoch and the history.
 #[derive(Drop)]
 pub struct World {
     alloc: Global,

@@ -1,13 +1,14 @@
 -- The history with every kind of step can be reported.
 use Rattle.std.proofs.Common.{◌≡◌, ◌+◌, ◌≤◌, ℕ, min, max, false, All, refl, sym, subst, arith}
-use Rattle.std.specs.Prelude.{◌==◌, drop, IsTrue}
-use Rattle.std.proofs.lemmas.List.Elements.{All-from_recursion}
+use Rattle.std.specs.Prelude.{◌==◌, Contains, drop, IsTrue}
+use Rattle.std.proofs.lemmas.List.Elements.{All-from_recursion, All-weaker, All-contains_itself}
 use Rattle.id_tree.specs.IdTree.{IdTree, One}
 use Rattle.id_tree.specs.NormalForm.{IsId}
 use Rattle.event_tree.specs.EventTree.{EventTree, Leaf}
 use Rattle.event_tree.specs.NormalForm.{IsEvents, value_limit}
 use Rattle.report_line.specs.declared.report.Action.{Action}
 use Rattle.report_line.specs.declared.report.Action.TheVariants as acts
+use Rattle.report_line.specs.declared.report.Report.{Report}
 use Rattle.report_line.specs.declared.step.Deed.TheVariants.{Retire}
 use Rattle.report_line.specs.declared.step.Step.{Step}
 use Rattle.report_line.specs.Names.{is_letter, is_name_byte, is_name}
@@ -16,7 +17,7 @@ use Rattle.report_line.specs.History.{Name, status}
 use Rattle.report_line.specs.Lawful.{IsLawful, next}
 use Rattle.histories.specs.Example.{a, b, c, d, left, right, halves, act, every_step}
 use Rattle.histories.proofs.Example.{below, every_step_is_lawful}
-use Rattle.lawful_reports.specs.HandedOver.{handed_over, HasLine, AreTargetsBorn, IsReportable}
+use Rattle.lawful_reports.specs.HandedOver.{handed_over, HasLine, IsTargetBorn, IsReportable}
 use Rattle.lawful_reports.specs.Example.{reported_steps, told, forked, its_reports}
 use Rattle.lawful_reports.proofs.Changes.{living_not_unborn}
 use Rattle.lawful_reports.proofs.Next.{before_last}
@@ -28,11 +29,11 @@ gives_these = refl
 
 -- ---- lines
 
-name_a : IsTrue (is_name a)
+pub name_a : IsTrue (is_name a)
 unfolding is_letter is_name_byte is_name
 name_a = refl
 
-name_b : IsTrue (is_name b)
+pub name_b : IsTrue (is_name b)
 unfolding is_letter is_name_byte is_name
 name_b = refl
 
@@ -40,22 +41,22 @@ name_c : IsTrue (is_name c)
 unfolding is_letter is_name_byte is_name
 name_c = refl
 
-one : IsId One
+pub one : IsId One
 one = record { normal = tt; shallow = omega arith }
 
-on_left : IsId left
+pub on_left : IsId left
 on_left = record { normal = (tt, tt, refl); shallow = omega arith }
 
-on_right : IsId right
+pub on_right : IsId right
 on_right = record { normal = (tt, tt, refl); shallow = omega arith }
 
-leaf : (n : ℕ) → n ≤ value_limit → IsEvents (Leaf n)
+pub leaf : (n : ℕ) → n ≤ value_limit → IsEvents (Leaf n)
 leaf n few = record { normal = tt; shallow = omega arith; small = few }
 
-halved : (n x y : ℕ) → min x y ≡ 0 → (x == y) ≡ false → n + max x y ≤ value_limit → IsEvents (halves n x y)
+pub halved : (n x y : ℕ) → min x y ≡ 0 → (x == y) ≡ false → n + max x y ≤ value_limit → IsEvents (halves n x y)
 halved n x y least differs few = record { normal = (tt, tt, least, differs); shallow = omega arith; small = few }
 
-line : (p : Name) (n : ℕ) (i : IdTree) (e : EventTree) (x : Action) → IsTrue (is_name p) → IsCount n → IsId i → IsEvents e → IsAction x → HasLine (told p n i e x)
+pub line : (p : Name) (n : ℕ) (i : IdTree) (e : EventTree) (x : Action) → IsTrue (is_name p) → IsCount n → IsId i → IsEvents e → IsAction x → HasLine (told p n i e x)
 line p n i e x name count id events action = (omega arith, record { name = name; count = count; stamped = record { id = id; events = events }; acted = action })
 
 lines : All HasLine its_reports
@@ -87,9 +88,12 @@ lines = All-from_recursion HasLine its_reports (
 
 -- ---- targets and rules
 
-targets : AreTargetsBorn a reported_steps
+target_born : (r : Report) → IsTargetBorn a reported_steps r
 unfolding status
-targets = (((((((((((((tt, tt), tt), tt), tt), tt), tt), tt), tt), living_not_unborn _), tt), tt), tt), living_not_unborn _)
+target_born r = (((((((((((((tt, λ is. tt), λ is. tt), λ is. tt), λ is. tt), λ is. tt), λ is. tt), λ is. tt), λ is. tt), λ is. living_not_unborn _), λ is. tt), λ is. tt), λ is. tt), λ is. living_not_unborn _)
+
+pub targets : All (IsTargetBorn a reported_steps) its_reports
+targets = All-weaker (Contains its_reports) (IsTargetBorn a reported_steps) (λ r at. target_born r) its_reports (All-contains_itself its_reports)
 
 abbrev last : Step
 last = act c (Retire d) right (halves 7 0 1)
@@ -100,4 +104,4 @@ lawful =
     next (before_last every_step_is_lawful last (drop 1 every_step) refl) asks.1 (record { same_id = asks.2.0.same_id; grown = asks.2.0.grown }, below 97 99 (omega arith))
 
 pub can_be_reported : IsReportable a reported_steps
-can_be_reported = record { lawful = lawful; targets = targets; lines = subst (All HasLine) (sym gives_these) lines }
+can_be_reported = record { lawful = lawful; lines = subst (All HasLine) (sym gives_these) lines }

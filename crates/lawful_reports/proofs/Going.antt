@@ -8,7 +8,7 @@ use Rattle.report_line.specs.History.{Name, History}
 use Rattle.chains.specs.Held.{Held, present, with_report}
 use Rattle.chains.specs.Admission.{FitsOrNot, held_after}
 use Rattle.chains.specs.Turns.{Fate, fine, memory, before, unknown, IsReportTurn, IsReported}
-use Rattle.lawful_reports.specs.HandedOver.{handed_over, IsReportable}
+use Rattle.lawful_reports.specs.HandedOver.{handed_over, IsTargetBorn, IsReportable}
 use Rattle.lawful_reports.specs.Accepting.{IsRoomTurn, IsRefusalForRoom, AreTurns, AreAcceptedUpToRefusal}
 use Rattle.lawful_reports.specs.FirstRefusal.{IsTaken}
 use Rattle.lawful_reports.specs.Laws.{TurnsRefuseForRoomAlone, AllAreAcceptedInOrder}
@@ -29,8 +29,8 @@ by_fate held after r reply before tested turn = (turn.1, turn.2)
 by_fate held after r reply unknown tested turn = (turn.1, turn.2)
 
 pub turns_refuse_for_room_alone : TurnsRefuseForRoomAlone
-turns_refuse_for_room_alone root h held after r reply fate w following running turn =
-    by_fate held after r reply fate (λ t. (only_room_is_tested root h held r reply w following).0 t.0)
+turns_refuse_for_room_alone root h held after r reply fate w following born running turn =
+    by_fate held after r reply fate (λ t. (only_room_is_tested root h held r reply w following born).0 t.0)
     (subst (λ (stopped : Bool). IsReported stopped fate held (present held r) reply after) running turn)
 
 -- ---- one turn behind the other
@@ -44,22 +44,22 @@ accepted_or_refused held between r reply before w = inr (inr (inr (inl w.0)))
 accepted_or_refused held between r reply unknown w = inr (inr (inr (inr w.0)))
 
 pub up_to_refusal : (root : Name) (h : History) (held : Held) (rs rest : List Report) (replies : List Reply) (after : Held)
-    → IsReportable root h → held.stopped ≡ false → handed_over root h ≡ held.accepted ++ (rs ++ rest) → AreTurns held rs replies after → AreAcceptedUpToRefusal held rs replies after
-up_to_refusal root h held [] rest [] after w running parts turns = turns
-up_to_refusal root h held [] rest (reply ∷ replies) after w running parts turns = absurd turns
-up_to_refusal root h held (r ∷ rs) rest [] after w running parts turns = absurd turns
-up_to_refusal root h held (r ∷ rs) rest (reply ∷ replies) after w running parts (between, (fate, turn), turns) =
-    elim (accepted_or_refused held between r reply fate (turns_refuse_for_room_alone root h held between r reply fate w (rs ++ rest, parts) running turn)) [
+    → IsReportable root h → held.stopped ≡ false → handed_over root h ≡ held.accepted ++ (rs ++ rest) → All (IsTargetBorn root h) rs → AreTurns held rs replies after → AreAcceptedUpToRefusal held rs replies after
+up_to_refusal root h held [] rest [] after w running parts born turns = turns
+up_to_refusal root h held [] rest (reply ∷ replies) after w running parts born turns = absurd turns
+up_to_refusal root h held (r ∷ rs) rest [] after w running parts born turns = absurd turns
+up_to_refusal root h held (r ∷ rs) rest (reply ∷ replies) after w running parts born (between, (fate, turn), turns) =
+    elim (accepted_or_refused held between r reply fate (turns_refuse_for_room_alone root h held between r reply fate w (rs ++ rest, parts) (All-head (IsTargetBorn root h) r rs born) running turn)) [
       | inl accepted ↦ inl (
         accepted.0,
         up_to_refusal root h (with_report held (present held r)) rs rest replies after w running (parts ∙ sym (append_assoc held.accepted (r ∷ []) (rs ++ rest)))
-            (subst (λ (k : Held). AreTurns k rs replies after) accepted.1 turns),
+            (All-tail (IsTargetBorn root h) r rs born) (subst (λ (k : Held). AreTurns k rs replies after) accepted.1 turns),
       )
       | inr refused ↦ inr refused
     ]
 
 pub all_are_accepted_in_order : AllAreAcceptedInOrder
-all_are_accepted_in_order root h held after reports rest replies w running parts turns = up_to_refusal root h held reports rest replies after w running parts turns
+all_are_accepted_in_order root h held after reports rest replies w running parts born turns = up_to_refusal root h held reports rest replies after w running parts born turns
 
 -- ---- where none is refused
 

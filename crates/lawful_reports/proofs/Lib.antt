@@ -8,3 +8,4 @@ pub mod Next
 pub mod Going
 pub mod OneByOne
 pub mod Example
+pub mod OtherEpochs

@@ -16,7 +16,7 @@ use Rattle.chains.specs.Held.{Held}
 use Rattle.chains.specs.Processes.{known}
 use Rattle.chains.specs.Admission.{IsReportReply, IsBeginReply, FitsOrNot}
 use Rattle.histories.proofs.Rules.{last_step}
-use Rattle.lawful_reports.specs.HandedOver.{handed_over, IsTargetBorn, HasLine, IsReportable}
+use Rattle.lawful_reports.specs.HandedOver.{handed_over, HasLine, IsReportable}
 use Rattle.lawful_reports.specs.Laws.{OnlyRoomIsTested}
 use Rattle.lawful_reports.proofs.Actions.{reported, reported_id, report_with, report_is, unreported}
 use Rattle.lawful_reports.proofs.Tied.{AreTied, first_tied}
@@ -38,7 +38,6 @@ pub record Ends (root : Name) (h : History) (s : Step) : Type 0 where
   pub last : Event
   pub lives : status root h s.process ≡ Living last
   pub allowed : IsAllowed root h last s s.deed
-  pub target : IsTargetBorn root h s.deed
   pub line : (r : Report) → report_of root h s ≡ Some r → HasLine r
 
 pub before_last : {root : Name} {whole : History} → IsLawful root whole → (s : Step) (h : History) → whole ≡ s ∷ h → IsLawful root h
@@ -49,11 +48,10 @@ pub ends : (root : Name) (h : History) (s : Step) → IsReportable root (s ∷ h
 ends root h s w =
     let last = last_step w.lawful s h refl in
     record {
-      before = record { lawful = before_last w.lawful s h refl; targets = w.targets.0; lines = all_left HasLine (handed_over root h) (cons_option (report_of root h s) []) w.lines };
+      before = record { lawful = before_last w.lawful s h refl; lines = all_left HasLine (handed_over root h) (cons_option (report_of root h s) []) w.lines };
       last = last.0;
       lives = last.1;
       allowed = last.2;
-      target = w.targets.1;
       line = λ r is. has_line (handed_over root h) (report_of root h s) r is w.lines;
     }
 
@@ -114,11 +112,11 @@ begins root held r answer is none =
     by accepted e = subst (λ (xs : List Report). IsBeginReply (slice_get (known xs) 0) held held.epoch root answer ↔ FitsOrNot held (Begin root) answer) (sym e) (of_first, λ x. inr (λ other. other refl, x))
 
 pub only_room_is_tested : OnlyRoomIsTested
-only_room_is_tested root [] held r answer w (rest, is) = (let one = one_left (Begin root) r held.accepted rest is in begins root held r answer one.0 one.1)
-only_room_is_tested root (s ∷ h) held r answer w (rest, is) =
+only_room_is_tested root [] held r answer w (rest, is) born = (let one = one_left (Begin root) r held.accepted rest is in begins root held r answer one.0 one.1)
+only_room_is_tested root (s ∷ h) held r answer w (rest, is) born =
     let e = ends root h s w in
     elim (behind (handed_over root h) (report_of root h s) held.accepted r rest is) [
       | newest made all ↦
-          fits_by root h e.last s held (subst (λ (xs : List Report). AreTied xs root h) (sym all) (tied_all root h e.before)) e.lives e.allowed answer s.deed r made e.allowed e.target (e.line r made)
-      | earlier more parts ↦ only_room_is_tested root h held r answer e.before (more, parts)
+          fits_by root h e.last s held (subst (λ (xs : List Report). AreTied xs root h) (sym all) (tied_all root h e.before)) e.lives e.allowed answer s.deed r made e.allowed (born.1 made) (e.line r made)
+      | earlier more parts ↦ only_room_is_tested root h held r answer e.before (more, parts) born.0
     ]

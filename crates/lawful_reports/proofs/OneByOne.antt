@@ -1,7 +1,7 @@
 -- Handing over reports one by one.
-use Rattle.std.proofs.Common.{◌≡◌, ◌≢◌, ◌⊎◌, ◌+◌, ◌<◌, ◌≤◌, ℕ, zero, suc, List, [], ◌∷◌, ◌++◌, length, get_or, take, Option, Some, None, Result, Ok, Err, refl, sym, ◌∙◌, ap, subst, inl, inr, append_assoc, length-append, arith}
-use Rattle.std.specs.Prelude.{slice_get, false, ⊤}
-use Rattle.std.proofs.lemmas.List.Elements.{All-push, All-nil}
+use Rattle.std.proofs.Common.{◌≡◌, ◌≢◌, ◌⊎◌, ◌+◌, ◌<◌, ◌≤◌, ℕ, zero, suc, List, [], ◌∷◌, ◌++◌, All, length, get_or, take, Option, Some, None, Result, Ok, Err, refl, sym, ◌∙◌, ap, subst, inl, inr, append_assoc}
+use Rattle.std.specs.Prelude.{Contains, slice_get, ⊤}
+use Rattle.std.proofs.lemmas.List.Elements.{All-push, All-nil, All-take, All-contains, Contains-append_left, Contains-append_right, Contains-push}
 use Rattle.std.proofs.lemmas.Option.{slice_get-get_or}
 use Rattle.std.proofs.lemmas.List.{take_more, take_all}
 use Rattle.report_line.specs.declared.code.Code.{Code}
@@ -20,7 +20,7 @@ use Rattle.chains.specs.Held.{Held, present, held_of}
 use Rattle.chains.specs.Kept.{Kept}
 use Rattle.chains.specs.Turns.{Fate, fine, memory, before, unknown, IsDeviceFree, IsReportTurn, IsTurn}
 use Rattle.lawful_reports.specs.declared.handing.Refused.{Refused}
-use Rattle.lawful_reports.specs.HandedOver.{handed_over, IsReportable}
+use Rattle.lawful_reports.specs.HandedOver.{handed_over, IsTargetBorn, IsReportable}
 use Rattle.lawful_reports.specs.Accepting.{IsFull, IsRoomTurn, AreTurns}
 use Rattle.lawful_reports.specs.FirstRefusal.{IsTaken, AreTaken, IsFirstRefusal, IsHandedOver, IsFirstRefusalForRoom, AreAcceptedInOrder}
 use Rattle.lawful_reports.proofs.Going.{turns_refuse_for_room_alone, up_to_refusal, HasAccepted, all_accepted}
@@ -109,18 +109,21 @@ behind xs ys zs r rest more is =
     ∙ (ap (λ (l : List Report). xs ++ l) (append_assoc zs (r ∷ rest) more) ∙ sym (append_assoc xs zs (r ∷ (rest ++ more))))
 
 module _ (k j : Kept) (root : Name) (h : History) (rest : List Report) (w : IsReportable root h) where
-  taken_in_order : (rs more : List Report) → handed_over root h ≡ k.accepted ++ (rs ++ more) → AreTaken (held_of k) rs (held_of j) → HasAccepted (held_of k) rs (held_of j)
-  taken_in_order rs more parts (replies, turns, all) =
-      all_accepted (held_of k) rs replies (held_of j) (up_to_refusal root h (held_of k) rs more replies (held_of j) w refl parts turns) all
+  taken_in_order : (rs more : List Report) → handed_over root h ≡ k.accepted ++ (rs ++ more) → All (IsTargetBorn root h) rs → AreTaken (held_of k) rs (held_of j) → HasAccepted (held_of k) rs (held_of j)
+  taken_in_order rs more parts born (replies, turns, all) =
+      all_accepted (held_of k) rs replies (held_of j) (up_to_refusal root h (held_of k) rs more replies (held_of j) w refl parts born turns) all
 
-  refused_in_order : (reports : List Report) (refused : Refused) → handed_over root h ≡ k.accepted ++ (reports ++ rest) → IsFirstRefusal (held_of k) reports refused (held_of j)
+  refused_in_order : (reports : List Report) (refused : Refused) → handed_over root h ≡ k.accepted ++ (reports ++ rest) → All (IsTargetBorn root h) reports → IsFirstRefusal (held_of k) reports refused (held_of j)
       → IsFirstRefusalForRoom (held_of k) reports refused (held_of j)
-  refused_in_order reports refused parts f =
+  refused_in_order reports refused parts born f =
       let place = split_at reports refused.place f.report f.there in
       let front = take refused.place reports in
       let whole : handed_over root h ≡ k.accepted ++ (front ++ (f.report ∷ (place.0 ++ rest))) =
       parts ∙ ap (λ (l : List Report). k.accepted ++ l) (ap (λ (l : List Report). l ++ rest) place.1 ∙ append_assoc front (f.report ∷ place.0) rest) in
-      let all = taken_in_order front (f.report ∷ (place.0 ++ rest)) whole f.taken in
+      let there : Contains reports f.report =
+      subst (λ (l : List Report). Contains l f.report) (sym place.1)
+      (Contains-append_right front (f.report ∷ place.0) f.report (Contains-append_left (f.report ∷ []) place.0 f.report (Contains-push [] f.report))) in
+      let all = taken_in_order front (f.report ∷ (place.0 ++ rest)) whole (All-take (IsTargetBorn root h) refused.place reports born) f.taken in
       let following : handed_over root h ≡ j.accepted ++ f.report ∷ (place.0 ++ rest) =
       whole ∙ (sym (append_assoc k.accepted front (f.report ∷ (place.0 ++ rest))) ∙ ap (λ (l : List Report). l ++ f.report ∷ (place.0 ++ rest)) (sym all.accepted)) in
       record {
@@ -128,10 +131,10 @@ module _ (k j : Kept) (root : Name) (h : History) (rest : List Report) (w : IsRe
         there = f.there;
         accepted_before = all.accepted;
         why = why (held_of j) f.report refused.why f.refusal.0 (held_of j)
-            (turns_refuse_for_room_alone root h (held_of j) (held_of j) f.report _ f.refusal.0 w (place.0 ++ rest, following) refl f.refusal.1);
+            (turns_refuse_for_room_alone root h (held_of j) (held_of j) f.report _ f.refusal.0 w (place.0 ++ rest, following) (All-contains (IsTargetBorn root h) reports f.report born there) refl f.refusal.1);
       }
 
 pub accepted_in_order : (k j : Kept) (reports : List Report) (result : Result ⊤ Refused) → IsHandedOver (held_of k) reports result (held_of j)
     → AreAcceptedInOrder (held_of k) reports result (held_of j)
-accepted_in_order k j reports (Ok done) handed root h rest w parts = (taken_in_order k j root h rest w reports rest parts handed).accepted
-accepted_in_order k j reports (Err refused) handed root h rest w parts = refused_in_order k j root h rest w reports refused parts handed
+accepted_in_order k j reports (Ok done) handed root h rest w parts born = (taken_in_order k j root h rest w reports rest parts born handed).accepted
+accepted_in_order k j reports (Err refused) handed root h rest w parts born = refused_in_order k j root h rest w reports refused parts born handed

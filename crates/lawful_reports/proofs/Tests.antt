@@ -27,7 +27,7 @@ use Rattle.chains.specs.Held.{Held}
 use Rattle.chains.specs.Processes.{last_report, last_events, registered_id, expected_id, Waits}
 use Rattle.chains.specs.Admission.{Decides, IsReportReply, FitsOrNot, AreGrown, IsActionReply, IsStampReply, IsWaitingReply, IsStandingReply}
 use Rattle.histories.proofs.Steps.{never_falls_by, rises_by}
-use Rattle.lawful_reports.specs.HandedOver.{IsTargetBorn, HasLine}
+use Rattle.lawful_reports.specs.HandedOver.{HasBornTarget, HasLine}
 use Rattle.lawful_reports.proofs.Actions.{fork_of, report_with}
 use Rattle.lawful_reports.proofs.Changes.{living_not_unborn}
 use Rattle.lawful_reports.proofs.Tied.{IsHeld, AreTied, then_below}
@@ -112,7 +112,7 @@ module _ (root : Name) (h : History) (b : Event) (s : Step) (held : Held) (tied 
   abbrev IsUntested : Report → Type 0
   IsUntested r = IsReportReply held held.epoch r answer ↔ FitsOrNot held r answer
 
-  pub fits_by : (d : Deed) → (r : Report) → report_by root h s d ≡ Some r → IsAllowed root h b s d → IsTargetBorn root h d → HasLine r → IsUntested r
+  pub fits_by : (d : Deed) → (r : Report) → report_by root h s d ≡ Some r → IsAllowed root h b s d → HasBornTarget root h d → HasLine r → IsUntested r
   fits_by Work r is w target = absurd (none_report r is)
   fits_by (Send m) r is w target = absurd (none_report r is)
   fits_by (Receive m) r is w target = absurd (none_report r is)

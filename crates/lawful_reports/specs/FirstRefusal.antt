@@ -9,7 +9,7 @@ use Rattle.report_line.specs.History.{Name, History}
 use Rattle.chains.specs.Held.{Held, present}
 use Rattle.chains.specs.Turns.{IsTurn}
 use Rattle.lawful_reports.specs.declared.handing.Refused.{Refused}
-use Rattle.lawful_reports.specs.HandedOver.{handed_over, IsReportable}
+use Rattle.lawful_reports.specs.HandedOver.{handed_over, IsTargetBorn, IsReportable}
 use Rattle.lawful_reports.specs.Accepting.{IsFull, AreTurns}
 
 -- the report is accepted, or was before
@@ -41,8 +41,8 @@ pub record IsFirstRefusalForRoom (held : Held) (reports : List Report) (refused 
   pub accepted_before : after.accepted ≡ held.accepted ++ take refused.place reports
   pub why : ((refused.why.code ≡ Full) × IsFull after report) ⊎ (refused.why.code ≡ OutOfMemory)
 
--- Where these reports of a lawful history come next behind the accepted ones, they are accepted, up to the first that is refused.
+-- Where these reports of a lawful history come next behind the accepted ones, and their targets are born, they are accepted, up to the first that is refused.
 abbrev pub AreAcceptedInOrder : Held → List Report → Result ⊤ Refused → Held → Type 0
 AreAcceptedInOrder held reports result after =
     (root : Name) (h : History) (rest : List Report) → IsReportable root h → handed_over root h ≡ held.accepted ++ (reports ++ rest)
-    → MatchResult result (λ _. after.accepted ≡ held.accepted ++ reports) (λ refused. IsFirstRefusalForRoom held reports refused after)
+    → All (IsTargetBorn root h) reports → MatchResult result (λ _. after.accepted ≡ held.accepted ++ reports) (λ refused. IsFirstRefusalForRoom held reports refused after)

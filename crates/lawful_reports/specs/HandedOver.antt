@@ -1,5 +1,5 @@
 -- The reports of a history, handed over in order.
-use Rattle.std.specs.Prelude.{◌≡◌, ◌≢◌, List, [], ◌∷◌, ◌++◌, All, ⊤}
+use Rattle.std.specs.Prelude.{◌≡◌, ◌≢◌, List, [], ◌∷◌, ◌++◌, All, Some, ⊤}
 use Rattle.report_line.specs.Reports.{unmarked}
 use Rattle.report_line.specs.Spelling.{HasSpelling}
 use Rattle.report_line.specs.declared.call.Call.TheVariants as calls
@@ -9,7 +9,7 @@ use Rattle.report_line.specs.declared.step.Deed.{Deed}
 use Rattle.report_line.specs.declared.step.Deed.TheVariants.{Retire}
 use Rattle.report_line.specs.History.{Name, History, Unborn, status}
 use Rattle.report_line.specs.Lawful.{IsLawful}
-use Rattle.report_line.specs.StepReports.{reports}
+use Rattle.report_line.specs.StepReports.{report_of, reports}
 
 -- BEGIN by the root, and then the reports of the history, the oldest first
 abbrev pub handed_over : Name → History → List Report
@@ -20,21 +20,20 @@ abbrev pub IsNext : Name → History → List Report → Report → Type 0
 IsNext root h front r = (rest : List Report) × (handed_over root h ≡ front ++ r ∷ rest)
 
 -- the target of a retirement is born before it
-abbrev pub IsTargetBorn : Name → History → Deed → Type 0
-IsTargetBorn root h (Retire target) = status root h target ≢ Unborn
-IsTargetBorn root h _ = ⊤
+abbrev pub HasBornTarget : Name → History → Deed → Type 0
+HasBornTarget root h (Retire target) = status root h target ≢ Unborn
+HasBornTarget root h _ = ⊤
 
--- so is the target of each retirement of the history
-abbrev pub AreTargetsBorn : Name → History → Type 0
-AreTargetsBorn root [] = ⊤
-AreTargetsBorn root (s ∷ h) = AreTargetsBorn root h × IsTargetBorn root h s.deed
+-- so is the target of the retirement of the history that makes this report, if one does
+abbrev pub IsTargetBorn : Name → History → Report → Type 0
+IsTargetBorn root [] r = ⊤
+IsTargetBorn root (s ∷ h) r = IsTargetBorn root h r × (report_of root h s ≡ Some r → HasBornTarget root h s.deed)
 
 -- The report has a line: its names are names, its number is below 2 ^ 32, and its trees are in normal form and within the limits.
 abbrev pub HasLine : Report → Type 0
 HasLine r = HasSpelling (calls.Report (unmarked r))
 
--- a lawful history in which each target is born before a retirement into it, and within the limits: all its reports have lines
+-- a lawful history within the limits: all its reports have lines
 pub record IsReportable (root : Name) (h : History) : Type 0 where
   pub lawful : IsLawful root h
-  pub targets : AreTargetsBorn root h
   pub lines : All HasLine (handed_over root h)

@@ -14,7 +14,7 @@ pub struct Refused {
 }
 
 /// Admits the reports in order, with the present epoch, up to the first that is refused. Where they come next of a lawful history behind the accepted
-/// ones, each is accepted, or one is refused for want of room or of memory and those before it are accepted.
+/// ones, and their targets are born, each is accepted, or one is refused for want of room or of memory and those before it are accepted.
 pub fn hand_over(chains: &mut Chains, reports: &[PackedReport]) -> Result<(), Refused>
     ensures handed { IsHandedOver (held_of chains.old) reports.now result (held_of chains.new) }
     ensures lawful { AreAcceptedInOrder (held_of chains.old) reports.now result (held_of chains.new) }

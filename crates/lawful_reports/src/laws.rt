@@ -1,8 +1,8 @@
 //! Laws of the reports of lawful histories.
 
-ghost use Rattle.std.specs.Prelude.{◌≡◌};
+ghost use Rattle.std.specs.Prelude.{◌≡◌, All};
 ghost use Rattle.histories.specs.Example.{a};
-ghost use Rattle.lawful_reports.specs.HandedOver.{IsReportable, handed_over};
+ghost use Rattle.lawful_reports.specs.HandedOver.{IsReportable, IsTargetBorn, handed_over};
 ghost use Rattle.lawful_reports.specs.Laws.{OnlyRoomIsTested, TurnsRefuseForRoomAlone, AllAreAcceptedInOrder};
 ghost use Rattle.lawful_reports.specs.Example.{reported_steps, its_reports};
 
@@ -21,4 +21,5 @@ pub fn lawful_reports_are_accepted()
 pub fn the_premises_are_possible()
     ensures premises { IsReportable a reported_steps }
     ensures reports { handed_over a reported_steps ≡ its_reports }
+    ensures targets { All (IsTargetBorn a reported_steps) its_reports }
 {}

@@ -56,7 +56,7 @@ abbrev pub AreServed : List PassState → Type 0
 AreServed passes = All (λ pass. ∥ IsOfSession pass ∥₁) passes
 
 -- Over what was held at the opening so many sessions were served, each with a pass of its own. The coordinator ended with just these
--- passes, and left the disk so. The port and the number of accepted reports were printed.
+-- passes, and left the disk so. The port and the front were printed.
 pub record IsServed {D : Type 0} (keeps : D → Type 0) (view : D → View) (opening : Held) (sessions : ℕ) (old new : LinkState) (disk : D) : Type 0 where
   pub port : ℕ
   pub passes : List PassState

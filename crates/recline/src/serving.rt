@@ -119,7 +119,7 @@ fn write_port<O: Link>(output: &mut O, port: u16) -> Result<(), LinkFault>
     )
 }
 
-/// Tells the number of accepted reports at the end.
+/// Tells the front at the end.
 fn write_end<O: Link>(output: &mut O, front: u32) -> Result<(), LinkFault>
     ensures { Writes (O.told output.old) (O.told output.new) result (end_line front) }
 {

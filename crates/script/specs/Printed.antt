@@ -1,4 +1,4 @@
--- What a script prints: reports and settlements, as lines that may be taken by chains.
+-- What a script prints, and what chains hold that take it.
 use Rattle.std.specs.Prelude.{◌≡◌, ◌⊎◌, ℕ, List, [], ◌∷◌, ◌++◌, All, map, Option}
 use Rattle.std.specs.List.{flat_map, cons_option}
 use Rattle.report_line.specs.declared.report.Report.{Report}

@@ -12,3 +12,4 @@ mod Unfailing
 mod TurnSteps
 pub mod RightLines
 mod OverRuns
+mod FileTurns

@@ -1,5 +1,5 @@
 -- Exchanges over runs: each LINE is right for the current history, and not below an earlier garbage line.
-use Rattle.std.proofs.Common.{◌≡◌, ℕ, ◌<◌, ◌∙◌, ◌++◌, List, [], ◌∷◌, length, sym, subst, inl, inr, append_assoc, arith}
+use Rattle.std.proofs.Common.{◌≡◌, ℕ, ◌+◌, ◌<◌, ◌∙◌, ◌++◌, List, [], ◌∷◌, length, sym, subst, inl, inr, append_assoc, arith}
 use Rattle.std.specs.Prelude.{Contains}
 use Rattle.std.proofs.lemmas.Option.{slice_get_cases}
 use Rattle.report_line.specs.declared.call.Call.{Call}
@@ -9,6 +9,7 @@ use Rattle.chains.proofs.LookUps.{known_from}
 use Rattle.knows_row.proofs.Lawful.{lawful}
 use Rattle.reasons.specs.declared.certificate.Certificate.{Certificate}
 use Rattle.reasons.specs.Certificates.{IsForNames, positions_of}
+use Rattle.reasons.specs.Shown.{IsLineText}
 use Rattle.history_law.specs.Headline.{IsRightLine}
 use Rattle.propagate.proofs.Certified.{certified_is_greatest}
 use Rattle.settled_lists.specs.Runs.{Run, IsObeyed}
@@ -16,10 +17,12 @@ use Rattle.settled_turns.specs.Obeyed.{IsHeldAfter}
 use Rattle.settled_turns.specs.Traces.{Trace, turns_of, AreTurns, Extends, ProcessesObey}
 use Rattle.settled_turns.proofs.Following.{the_run_is_obeyed, turns_make_a_run, headline_of_turns}
 use Rattle.settled_turns.proofs.Parted.{turns_alone, processes_obey_in_parts, no_line_is_below_earlier_garbage, who_is_gone_was_unborn_then}
+use Rattle.desk.specs.declared.turn.Turn.{Turn}
+use Rattle.desk.specs.Replays.{ReplaysFrom}
 use Rattle.session.specs.SessionText.{Exchange}
 use Rattle.session.specs.Turned.{ComeTo}
 use Rattle.session.specs.Headline.{AsksForLine}
-use Rattle.session.specs.Current.{traced, IsRightNow, EachLineIsRightNow, NoLineIsBelowGarbage}
+use Rattle.session.specs.Current.{traced, IsRightNow, EachLineIsRightNow, trace_of, EachSharedLineIsRightNow, NoLineIsBelowGarbage}
 
 -- ---- exchanges as turns of a trace
 
@@ -54,6 +57,32 @@ each_line_is_right_now root run held at exchanges before later exchange text tra
     let now = turns_make_a_run root run held at trace obeyed holds turns happened.processes in
     let there = right before later exchange text at same comes shown in
     (now.0, now.1, (there.0, there.1, right_now root run now.0 held at there.0 text trace obeyed holds turns happened.processes now.1 there.2))
+
+-- ---- clients who share a desk
+
+replayed_turns : (made : ℕ) (held after : Held) (ts : List Turn) → ReplaysFrom made held ts after → AreTurns held (trace_of ts) after
+replayed_turns made held after [] replays = replays
+replayed_turns made held after (t ∷ ts) (number, (between, turn, more)) = (between, turn, replayed_turns (made + 1) between after ts more)
+
+right_text_now : (root : Name) (run now : Run) (held at : Held) (names : List Name) (text : List ℕ) (trace : Trace) → IsObeyed root run → IsHeldAfter run held → AreTurns held trace at → ProcessesObey root run trace
+    → Extends root run trace now → IsLineText at names text → IsRightNow root now at names text
+right_text_now root run now held at names text trace obeyed holds turns processes extends is =
+    let w = headline_of_turns root run now held at trace obeyed holds turns processes extends in
+    record {
+      certificate = is.certificate;
+      text_is = is.text_is;
+      for_names = is.for_names;
+      line = w.1 is.certificate.failed (positions_of is.certificate.line) (certified_is_greatest at is.certificate (lawful at.accepted w.0.folded) is.certifies);
+    }
+
+pub each_shared_line_is_right_now : EachSharedLineIsRightNow
+each_shared_line_is_right_now root run opening ts entry text trace obeyed holds rightly shown front processes =
+    let shows = rightly text shown in
+    let at : Held = shows.0 in
+    let line = shows.2 in
+    let turns = (turns_alone opening at trace).0 (subst (λ (t : Trace). AreTurns opening t at) (sym front) (replayed_turns 0 opening at _ shows.1)) in
+    let now = turns_make_a_run root run opening at trace obeyed holds turns processes in
+    (now.0, now.1, (at, shows.1, (line.0, line.1, right_text_now root run now.0 opening at line.0 text trace obeyed holds turns processes now.1 line.2)))
 
 -- ---- no line is below an earlier garbage line
 

@@ -1,5 +1,5 @@
 -- What exchanges come to, and what each turn keeps of it.
-use Rattle.std.proofs.Common.{◌≡◌, List, [], ◌∷◌, ◌++◌, ◌∙◌, refl, sym, subst}
+use Rattle.std.proofs.Common.{◌≡◌, ◌≤◌, List, [], ◌∷◌, ◌++◌, ◌∙◌, refl, sym, subst, arith}
 use Rattle.report_line.specs.declared.call.Call.{Call}
 use Rattle.report_line.specs.declared.reply.Reply.{Reply}
 use Rattle.chains.specs.Held.{Held}
@@ -10,6 +10,7 @@ use Rattle.chains.proofs.Turning.{turn_reached}
 use Rattle.desk.specs.Lawful.{unstopped}
 use Rattle.desk.proofs.OneTurn.{turn_once}
 use Rattle.desk.proofs.Reachables.{still_reachable}
+use Rattle.coordinator.proofs.Telling.{tells}
 use Rattle.session.specs.SessionText.{Exchange}
 use Rattle.session.specs.Turned.{IsExchange, Served, ComeTo}
 
@@ -41,6 +42,11 @@ comes_reached = kept_by IsReached turn_reached
 
 pub comes_reachable : (held after : Held) (es : List Exchange) → IsReachable (unstopped held) → ComeTo held es after → IsReachable (unstopped after)
 comes_reachable = kept_by (λ held. IsReachable (unstopped held)) still_reachable
+
+-- the front never falls
+pub front_stays : (held after : Held) (es : List Exchange) → ComeTo held es after → held.front ≤ after.front
+front_stays held after es comes =
+    kept_by (λ h. held.front ≤ h.front) (λ h later call reply here turn. let told = (tells h later call reply turn).1 in omega (arith, here, told)) held after es (omega arith) comes
 
 -- what is held at an exchange is what those before it come to
 pub served_at : (held after at : Held) (before later : List Exchange) (exchange : Exchange) → Served held (before ++ exchange ∷ later) after → ComeTo held before at

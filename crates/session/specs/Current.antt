@@ -1,10 +1,11 @@
 -- The headline for each LINE of a session, over the current history: what was made and was not undone by a settlement.
-use Rattle.std.specs.Prelude.{◌≡◌, ℕ, List, [], ◌∷◌, ◌++◌, Some}
+use Rattle.std.specs.Prelude.{◌≡◌, ℕ, ◌-◌, List, [], ◌∷◌, ◌++◌, take, Some}
+use Rattle.record_file.specs.File.{Said}
 use Rattle.report_line.specs.declared.call.Call.TheVariants as calls
 use Rattle.report_line.specs.declared.reply.Reply.TheVariants.{Line}
 use Rattle.chains.specs.declared.position.Position.TheVariants.{At}
 use Rattle.chains.specs.Elements.{name_of}
-use Rattle.chains.specs.Held.{Held}
+use Rattle.chains.specs.Held.{Held, counting}
 use Rattle.chains.specs.Positions.{position_in}
 use Rattle.chains.specs.Processes.{Name, known, IsKnown}
 use Rattle.reasons.specs.declared.certificate.Certificate.{Certificate}
@@ -15,7 +16,12 @@ use Rattle.settled_lists.specs.Garbage.{IsNotAfter}
 use Rattle.settled_lists.specs.Runs.{Run, current, IsObeyed}
 use Rattle.settled_lists.specs.Settled.{position_for}
 use Rattle.settled_turns.specs.Obeyed.{IsHeldAfter}
-use Rattle.settled_turns.specs.Traces.{Trace, Turned, turns_of, Extends, ProcessesObey}
+use Rattle.settled_turns.specs.Traces.{Trace, Stepped, Turned, turns_of, AreTurns, Extends, ProcessesObey}
+use Rattle.desk.specs.declared.turn.Turn.{Turn}
+use Rattle.desk.specs.Records.{recorded_by, Opens}
+use Rattle.desk.specs.Replays.{Replays}
+use Rattle.coordinator.specs.Passes.{PassEntry}
+use Rattle.coordinator.specs.Closing.{ShowsRightly}
 use Rattle.session.specs.SessionText.{Exchange}
 use Rattle.session.specs.Turned.{ComeTo}
 use Rattle.session.specs.Headline.{AsksForLine, EachLineIsRight}
@@ -73,3 +79,39 @@ NoLineIsBelowGarbage =
     → ComeTo held before first → ComeTo first (collected ∷ between) at
     → turns_of earlier ≡ traced before → turns_of trace ≡ traced (collected ∷ between) → ProcessesObey root run (earlier ++ trace)
     → AreInOrder first at lowest text
+
+-- ---- clients who share a desk
+
+-- turns of a desk, as turns of a trace
+abbrev pub trace_of : List Turn → Trace
+trace_of [] = []
+trace_of (t ∷ ts) = Turned t.call t.receipt.reply ∷ trace_of ts
+
+-- Where many share a desk, what a coordinator says of each entry of a pass is said of the turns before the entry's own: these make one
+-- run, and the LINE that the entry shows is right over its current history.
+abbrev pub EachSharedLineIsRightNow : Type 0
+EachSharedLineIsRightNow =
+    (root : Name) (run : Run) (opening : Held) (turns : List Turn) (entry : PassEntry) (text : List ℕ) (trace : Trace)
+    → IsObeyed root run → IsHeldAfter run opening → ShowsRightly opening turns entry → entry.shown ≡ Line text
+    → turns_of trace ≡ trace_of (take (entry.receipt.turn - 1) turns) → ProcessesObey root run trace
+    → (now : Run) × Extends root run trace now
+    × ((at : Held) × Replays opening (take (entry.receipt.turn - 1) turns) at
+    × ((names : List Name) × AsksForLine at entry.call names × IsRightNow root now at names text))
+
+-- ---- files
+
+-- the records of these turns: one for each that was answered OK or SETTLED, in order
+abbrev pub recorded_in : Trace → List Said
+recorded_in [] = []
+recorded_in (Stepped e s ∷ trace) = recorded_in trace
+recorded_in (Turned call reply ∷ trace) = recorded_by call reply ++ recorded_in trace
+
+-- A file that is opened tells a run: its records are those of turns which come, from nothing, to what is held at the opening. And with
+-- whatever steps of processes that obey between these turns, they make a run that is obeyed, and this is what is held behind it: so all
+-- that is said here of exchanges and of shared desks may begin at an opening.
+abbrev pub EachFileTellsARun : Type 0
+EachFileTellsARun =
+    (said : List Said) (held : Held) → Opens said held
+    → (turns : Trace) × (turns_of turns ≡ turns) × (recorded_in turns ≡ said) × AreTurns (counting []) turns held
+    × ((root : Name) (trace : Trace) → turns_of trace ≡ turns → ProcessesObey root [] trace
+    → (run : Run) × Extends root [] trace run × IsObeyed root run × IsHeldAfter run held)

@@ -1,19 +1,12 @@
 -- The headline for each LINE of a session.
+pub use Rattle.coordinator.specs.Passes.{AsksForLine}
 use Rattle.std.specs.Prelude.{◌≡◌, ℕ, List, ◌∷◌, ◌++◌}
-use Rattle.report_line.specs.declared.call.Call.{Call}
-use Rattle.report_line.specs.declared.call.Call.TheVariants as calls
 use Rattle.report_line.specs.declared.reply.Reply.TheVariants as replies
-use Rattle.chains.specs.Processes.{Name, known}
+use Rattle.chains.specs.Processes.{Name}
 use Rattle.chains.specs.Held.{Held}
 use Rattle.history_law.specs.Headline.{IsRightLine}
 use Rattle.session.specs.SessionText.{Exchange}
 use Rattle.session.specs.Turned.{ComeTo}
-
--- the call asks for the line of these failed processes: of those that it names, or for GARBAGE of all that are known
-abbrev pub AsksForLine : Held → Call → List Name → Type 0
-AsksForLine held (calls.Line listed) names = names ≡ listed
-AsksForLine held calls.Garbage names = names ≡ known held.accepted
-AsksForLine held _ names = ⊥
 
 -- Wherever among the exchanges a LINE is shown, a question for a line asked for it, and it is right over what was held at that
 -- place: its line is the greatest closed cut of every lawful history that agrees with what was accepted there.

@@ -1,6 +1,6 @@
 //! Laws of the definitions of sessions.
 
-ghost use Rattle.std.specs.Prelude.{◌≡◌, ◌++◌, ℕ, List, false, map};
+ghost use Rattle.std.specs.Prelude.{◌≡◌, ◌≤◌, ◌++◌, ℕ, List, false, map};
 ghost use Rattle.std.specs.List.{AllByRecursion};
 ghost use Rattle.chains.specs.Processes.{Name as AnyName};
 ghost use Rattle.chains.specs.Held.{Held};
@@ -9,7 +9,7 @@ ghost use Rattle.chains.specs.Folded.{IsReached};
 ghost use Rattle.desk.specs.Lawful.{unstopped};
 ghost use Rattle.session.specs.declared.kind.Kind.TheVariants as kinds;
 ghost use Rattle.session.specs.ChosenText.{IsChosenText};
-ghost use Rattle.session.specs.Current.{EachLineIsRightNow, NoLineIsBelowGarbage};
+ghost use Rattle.session.specs.Current.{EachFileTellsARun, EachLineIsRightNow, EachSharedLineIsRightNow, NoLineIsBelowGarbage};
 ghost use Rattle.session.specs.OneText.{IsUndisturbed};
 ghost use Rattle.session.specs.SessionText.{Exchange, Grounds, IsSession, Mean, joined, session_text};
 ghost use Rattle.session.specs.Turned.{Served, ShowsFailure, ComeTo};
@@ -23,10 +23,11 @@ pub fn exchanges_tell_what_is_accepted()
 {}
 
 /// From a folded list, with an epoch for each report and a front that counts them, exchanges come to such a list; and from what admission
-/// and settlements reach from nothing, to what they reach so.
+/// and settlements reach from nothing, to what they reach so. The front never falls.
 pub fn exchanges_keep_lists()
     ensures folded { (held after : Held) (exchanges : List Exchange) → IsReached held → ComeTo held exchanges after → IsReached after }
     ensures reachable { (held after : Held) (exchanges : List Exchange) → IsReachable (unstopped held) → ComeTo held exchanges after → IsReachable (unstopped after) }
+    ensures front { (held after : Held) (exchanges : List Exchange) → ComeTo held exchanges after → held.front ≤ after.front }
 {}
 
 /// Over processes that obey the rules, with settlements among the exchanges or without, each LINE is right for the current history; and none
@@ -34,6 +35,10 @@ pub fn exchanges_keep_lists()
 pub fn each_line_is_right_for_the_current_history()
     ensures now { EachLineIsRightNow }
     ensures garbage { NoLineIsBelowGarbage }
+    // The same where clients share a desk.
+    ensures shared { EachSharedLineIsRightNow }
+    // What this starts from is there when a file is opened.
+    ensures file { EachFileTellsARun }
 {}
 
 /// Where the store is stopped neither before the exchanges nor behind them, no device failed in between.

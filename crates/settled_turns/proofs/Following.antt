@@ -56,7 +56,7 @@ made_through root (Turned call reply ∷ trace) run held after obeyed holds turn
 pub turns_make_a_run : TurnsMakeARun
 turns_make_a_run root run held after trace obeyed holds turns processes = made_through root trace run held after obeyed holds turns processes
 
-held_at_first : IsHeldAfter [] (counting [])
+pub held_at_first : IsHeldAfter [] (counting [])
 unfolding accepted epoch
 held_at_first = record { list = refl; epoch = refl; unsettled = λ none. refl }
 
@@ -79,7 +79,7 @@ headline_of_turns root run later held after trace obeyed holds turns processes e
 
 -- ---- there is one only
 
-same_test : (x y : Bool) → (x ≡ true → y ≡ true) → (y ≡ true → x ≡ true) → x ≡ y
+pub same_test : (x y : Bool) → (x ≡ true → y ≡ true) → (y ≡ true → x ≡ true) → x ≡ y
 same_test true y there back = sym (there refl)
 same_test false true there back = back refl
 same_test false false there back = refl

@@ -90,7 +90,7 @@ no_push : (xs : List Report) (x : Report) → xs ++ x ∷ [] ≢ []
 no_push [] x e = cc
 no_push (y ∷ ys) x e = cc
 
-accepted_accepts : (run : Run) (m : ℕ) (r : Report) → accepted (Accepts m r ∷ run) ≡ accepted run ++ r ∷ []
+pub accepted_accepts : (run : Run) (m : ℕ) (r : Report) → accepted (Accepts m r ∷ run) ≡ accepted run ++ r ∷ []
 unfolding accepted
 accepted_accepts run m r = refl
 
@@ -126,7 +126,7 @@ settled_begun list line folded some none =
     let lt = at.1 in
     absurd (omega arith)
 
-accepted_settles : (run : Run) (failed : List ℕ) (line : List Position) (cut : Cut) → accepted (Settles failed line cut ∷ run) ≡ settled (accepted run) line
+pub accepted_settles : (run : Run) (failed : List ℕ) (line : List Position) (cut : Cut) → accepted (Settles failed line cut ∷ run) ≡ settled (accepted run) line
 unfolding accepted
 accepted_settles run failed line cut = refl
 

@@ -3,3 +3,6 @@ pub mod Growing
 pub mod Following
 pub mod Parted
 pub mod Written
+pub mod Settling
+pub mod Orderly
+pub mod WrittenInOrder

@@ -65,49 +65,49 @@ settles_parts (settles obeyed greatest has) = (obeyed, greatest, has)
 
 -- ---- the run, piece by piece
 
-abbrev check : NumberedReport
+abbrev pub check : NumberedReport
 check = record { process = a; number = 1; stamp = record { id = One; events = Leaf 1 }; action = reported.Check }
 
-abbrev show : NumberedReport
+abbrev pub show : NumberedReport
 show = record { process = a; number = 2; stamp = record { id = One; events = Leaf 2 }; action = reported.Present }
 
-abbrev fork : NumberedReport
+abbrev pub fork : NumberedReport
 fork = record { process = a; number = 2; stamp = record { id = One; events = Leaf 2 }; action = forked b }
 
-abbrev child_check : NumberedReport
+abbrev pub child_check : NumberedReport
 child_check = record { process = b; number = 1; stamp = record { id = right; events = halves 2 0 1 }; action = reported.Check }
 
-abbrev run1 : Run
+abbrev pub run1 : Run
 run1 = Accepts 0 (Begin a) ∷ []
 
-abbrev run2 : Run
+abbrev pub run2 : Run
 run2 = Made 0 (act a Check One (Leaf 1)) ∷ run1
 
-abbrev run3 : Run
+abbrev pub run3 : Run
 run3 = Accepts 0 (Numbered check) ∷ run2
 
-abbrev run4 : Run
+abbrev pub run4 : Run
 run4 = Made 0 (act a Present One (Leaf 2)) ∷ run3
 
-abbrev run5 : Run
+abbrev pub run5 : Run
 run5 = Accepts 0 (Numbered show) ∷ run4
 
-abbrev run6 : Run
+abbrev pub run6 : Run
 run6 = Settles (0 ∷ []) (At 2 ∷ []) up_to_checkpoint ∷ run5
 
-abbrev run7 : Run
+abbrev pub run7 : Run
 run7 = Made 0 (act a Work One (Leaf 3)) ∷ run6
 
-abbrev run8 : Run
+abbrev pub run8 : Run
 run8 = Made 1 (act a (Fork b right) left (Leaf 2)) ∷ run7
 
-abbrev run9 : Run
+abbrev pub run9 : Run
 run9 = Accepts 1 (Numbered fork) ∷ run8
 
-abbrev run10 : Run
+abbrev pub run10 : Run
 run10 = Made 1 (act b Check right (halves 2 0 1)) ∷ run9
 
-abbrev run11 : Run
+abbrev pub run11 : Run
 run11 = Accepts 1 (Numbered child_check) ∷ run10
 
 w11 : IsAccepted run10 1 child_check
@@ -280,30 +280,30 @@ refused_obeys : (run : Run) (m : MarkedReport) (code : Code) (name : Option Name
     → ProcessesObey a run (Turned (calls.Report m) (No code name value) ∷ trace)
 refused_obeys run m code name value trace rest = (tt, λ between adds. subst (λ (r : Run). ProcessesObey a r trace) (sym adds) rest)
 
-by_line : IsSettledBy a run5 (a ∷ []) run6
+pub by_line : IsSettledBy a run5 (a ∷ []) run6
 unfolding accepted
 by_line = record { failed = 0 ∷ []; just_named = failed_set; line = At 2 ∷ []; greatest = w6.1; cut = up_to_checkpoint; events = w6.2; settles = refl }
 
 -- the trace from each of its turns on, over the run that was made by then
-abbrev from_line : Trace
+abbrev pub from_line : Trace
 from_line = Turned (calls.Line (a ∷ [])) (Taken 6) ∷ []
 
-abbrev from_child : Trace
+abbrev pub from_child : Trace
 from_child = Stepped 1 (act b Check right (halves 2 0 1)) ∷ Turned (marked 1 (Numbered child_check)) (Accepted 6) ∷ from_line
 
-abbrev from_fork : Trace
+abbrev pub from_fork : Trace
 from_fork = Stepped 1 (act a (Fork b right) left (Leaf 2)) ∷ Turned (marked 1 (Numbered fork)) (Accepted 5) ∷ from_child
 
-abbrev from_return : Trace
+abbrev pub from_return : Trace
 from_return = Stepped 0 (act a Work One (Leaf 3)) ∷ Turned (marked 0 (Numbered show)) (No OtherEpoch (Some a) (Some (decimal 1))) ∷ from_fork
 
-abbrev from_settlement : Trace
+abbrev pub from_settlement : Trace
 from_settlement = Turned (calls.Settle 3 (a ∷ [])) (Settled 1 4) ∷ from_return
 
-abbrev from_show : Trace
+abbrev pub from_show : Trace
 from_show = Stepped 0 (act a Present One (Leaf 2)) ∷ Turned (marked 0 (Numbered show)) (Accepted 3) ∷ from_settlement
 
-abbrev from_check : Trace
+abbrev pub from_check : Trace
 from_check = Stepped 0 (act a Check One (Leaf 1)) ∷ Turned (marked 0 (Numbered check)) (Accepted 2) ∷ from_show
 
 line_obeys : ProcessesObey a run11 from_line

@@ -1,5 +1,5 @@
 -- A trace with a settlement among its turns, written out: so the laws of traces speak of something.
-use Rattle.std.specs.Prelude.{ℕ, false, [], ◌∷◌, Some}
+use Rattle.std.specs.Prelude.{ℕ, false, [], ◌∷◌, Some, All, drop}
 use Rattle.std.specs.Fmt.{decimal}
 use Rattle.id_tree.specs.IdTree.{One}
 use Rattle.event_tree.specs.EventTree.{Leaf}
@@ -13,9 +13,12 @@ use Rattle.report_line.specs.declared.report.Report.TheVariants.{Begin}
 use Rattle.report_line.specs.declared.step.Deed.TheVariants.{Work, Check, Present, Fork}
 use Rattle.chains.specs.Held.{Held, counting}
 use Rattle.histories.specs.Example.{a, b, left, right, halves, act}
+use Rattle.lawful_reports.specs.HandedOver.{handed_over, IsNext, IsTargetBorn, HasLine}
 use Rattle.history_law.specs.Example.{told, forked}
+use Rattle.settled_lists.specs.Runs.{Run, current, accepted}
 use Rattle.settled_lists.specs.TwoSettlements.{once_settled}
 use Rattle.settled_turns.specs.Traces.{Trace, Stepped, Turned, AreTurns, Extends, ProcessesObey}
+use Rattle.settled_turns.specs.InOrder.{AllComeNext}
 
 -- the call with this report and its mark
 abbrev pub marked : ℕ → Report → Call
@@ -60,3 +63,17 @@ SettledOnceIsRight = ProcessesObey a [] settled_once
 
 abbrev pub ItsRunIsOnceSettled : Type 0
 ItsRunIsOnceSettled = Extends a [] settled_once once_settled
+
+-- Each of its reports comes next of the current history, also those behind the settlement.
+abbrev pub SettledOnceIsInOrder : Type 0
+SettledOnceIsInOrder = AllComeNext a [] settled_once
+
+-- the run before the last report of b is accepted
+abbrev pub before_last : Run
+before_last = drop 1 once_settled
+
+-- That report comes next behind the settlement, and all that is handed over has lines: so the premises are possible there.
+abbrev pub ItsLastReportCanBeNext : Type 0
+ItsLastReportCanBeNext =
+    IsNext a (current before_last) (accepted before_last) (told b 1 right (halves 2 0 1) reported.Check)
+    × IsTargetBorn a (current before_last) (told b 1 right (halves 2 0 1) reported.Check) × All HasLine (handed_over a (current before_last))

@@ -1,3 +1,4 @@
 pub mod Traces
 pub mod Obeyed
 pub mod Example
+pub mod InOrder

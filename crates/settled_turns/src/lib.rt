@@ -5,7 +5,8 @@
 //! These are laws of definitions: `chains` and `propagate` make the turns.
 #![tactic(auto)]
 
-ghost use Rattle.settled_turns.specs.Example.{ItsRunIsOnceSettled, SettledOnceIsRight, SettledOnceIsTaken};
+ghost use Rattle.settled_turns.specs.Example.{ItsLastReportCanBeNext, ItsRunIsOnceSettled, SettledOnceIsInOrder, SettledOnceIsRight, SettledOnceIsTaken};
+ghost use Rattle.settled_turns.specs.InOrder.{AllStaysOfNow, InOrderFromNothing, InOrderIsObeyed, KeptHandsOverTheSettled, NextIsAccepted, OrderIsKept, OtherEpochsAreSetAside, SettlementKeepsOrder};
 ghost use Rattle.settled_turns.specs.Obeyed.{FromNothing, HeadlineOfTurns, NoLineIsBelowEarlierGarbage, ProcessesObeyInParts, TheRunIsObeyed, TheRunIsOne, TurnsAlone, TurnsInParts, TurnsMakeARun, WhoIsGoneWasUnbornThen};
 
 /// Turns make a run that is obeyed, with the accepted list and the epoch that are held then; and the headline over them.
@@ -30,9 +31,25 @@ pub fn no_line_is_below_earlier_garbage()
     ensures gone { WhoIsGoneWasUnbornThen }
 {}
 
+/// The reports of a lawful history are accepted behind settlements, too: what a settlement keeps of the history hands over what it keeps of
+/// the list; so where the accepted ones came next, they stay in order, what is left is of the present epoch, and the next one is refused
+/// for room alone.
+pub fn lawful_reports_are_accepted_behind_settlements()
+    ensures kept { KeptHandsOverTheSettled }
+    ensures settled { SettlementKeepsOrder }
+    ensures order { OrderIsKept }
+    ensures of_now { AllStaysOfNow }
+    ensures obeyed { InOrderIsObeyed }
+    ensures from_nothing { InOrderFromNothing }
+    ensures next { NextIsAccepted }
+    ensures set_aside { OtherEpochsAreSetAside }
+{}
+
 /// A trace with a settlement among its turns is as the laws ask for; what is held then and its run are written out.
 pub fn a_settlement_written_out()
     ensures turns { SettledOnceIsTaken }
     ensures processes { SettledOnceIsRight }
     ensures run { ItsRunIsOnceSettled }
+    ensures in_order { SettledOnceIsInOrder }
+    ensures can_be_next { ItsLastReportCanBeNext }
 {}

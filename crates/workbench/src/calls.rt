@@ -7,7 +7,8 @@
 //! - stamps: `first`, `stamp S`, `event S`, `peek S`, `fork S`, `receive S E`, `absorb S S`;
 //! - lines: `line TEXT` (a report as it is written again, `call` for another call); any line of a client gets its reply, over
 //!   the desk of the bench; `new` begins with a fresh desk, `keep` keeps a copy of its chains, `keep opening` of those that it was
-//!   opened with, and `kept CALL` makes a call on these;
+//!   opened with, `keep NAME POSITION NAME POSITION ...` what the line of these places keeps of its chains (`Unfit` where no process
+//!   can return to it), and `kept CALL` makes a call on these;
 //! - the disk in memory that the desk is over: `close` closes the desk, `disk HEX` puts a new disk that holds these bytes in place
 //!   of all (`disk` an empty one), and `open` opens a desk over the disk, behind the end of one that is open (its front, or the fault
 //!   as the program tells it). While no desk is open the calls above are answered by `closed`, but for `new` and `kept CALL`, and those

@@ -1,5 +1,6 @@
 //! The desk that calls are made on.
 
+use super::answer::put_fault;
 use super::held::Held;
 use super::{certificates, disks, event_trees, ids, lines, processes, replies, stamps};
 use chains::Chains;
@@ -52,13 +53,40 @@ fn answer_over(chains: &Chains, line: &str, out: &mut Vec<u8>) -> Result<bool, A
     answer_words(chains, &words, out)
 }
 
-// Keeps a copy of chains of the desk aside; whether the call names some.
-fn keep(kept: &mut Chains, desk: &Desk<MemoryDisk>, call: &str) -> Result<bool, AllocError> {
+// Keeps aside what a line keeps of chains, or writes why it keeps nothing.
+fn keep_line(
+    kept: &mut Chains,
+    chains: &Chains,
+    line: &str,
+    out: &mut Vec<u8>,
+) -> Result<(), AllocError> {
+    let words: Vec<&str> = line.split(' ').collect(chains.alloc())?;
+    match processes::kept_of(chains, &words) {
+        Ok(chains) => *kept = chains,
+        Err(fault) => return put_fault(&fault, out),
+    }
+    out.extend_from_slice(b"done")
+}
+
+// Keeps chains of the desk aside, or what a line keeps of them; whether the call is one.
+fn keep(
+    kept: &mut Chains,
+    desk: &Desk<MemoryDisk>,
+    call: &str,
+    out: &mut Vec<u8>,
+) -> Result<bool, AllocError> {
     *kept = match call {
         "keep" => desk.snapshot()?,
         "keep opening" => desk.opening()?,
-        _ => return Ok(false),
+        _ => {
+            let Some(line) = call.strip_prefix("keep ") else {
+                return Ok(false);
+            };
+            keep_line(kept, desk.chains(), line, out)?;
+            return Ok(true);
+        }
     };
+    out.extend_from_slice(b"done")?;
     Ok(true)
 }
 
@@ -89,8 +117,7 @@ impl Bench {
             out.extend_from_slice(b"closed")?;
             return Ok(true);
         };
-        if keep(&mut self.kept, desk, call)? {
-            out.extend_from_slice(b"done")?;
+        if keep(&mut self.kept, desk, call, out)? {
             return Ok(true);
         }
         if answer_over(desk.chains(), call, out)? {

@@ -4,7 +4,7 @@ ghost use Rattle.std.specs.Prelude.{◌<◌, length, IfOk};
 ghost use Rattle.chains.specs.Processes.{known};
 
 use super::answer::{put_fault, put_number, put_whether};
-use chains::{Chains, Failed, Place, Position};
+use chains::{Chains, Failed, KeepFault, Line, Place, Position};
 use knows_row::{knows, last_known, need};
 use propagate::greatest_cut;
 use report_line::Name;
@@ -18,6 +18,8 @@ pub enum WordFault<'a> {
     Unknown(&'a str),
     /// It is not the number that should stand there.
     Number,
+    /// No process can return to the line that the words spell.
+    Unfit,
     /// A growth was refused.
     Memory,
 }
@@ -27,6 +29,7 @@ impl fmt::Debug for WordFault<'_> {
         match self {
             WordFault::Unknown(name) => write!(f, "Unknown({name})"),
             WordFault::Number => write!(f, "?"),
+            WordFault::Unfit => write!(f, "Unfit"),
             WordFault::Memory => write!(f, "Memory"),
         }
     }
@@ -111,6 +114,28 @@ fn place_of<'a>(
         process: process_of(chains, process)?,
         position: position_of(position)?,
     })
+}
+
+// The line of these places, each a name and a position.
+fn line_of<'a>(chains: &Chains, words: &[&'a str]) -> Result<Line, WordFault<'a>> {
+    let mut line = Line::new(chains.alloc());
+    for pair in words.chunks(2) {
+        let [process, position] = *pair else {
+            return Err(WordFault::Number);
+        };
+        line.push(place_of(chains, process, position)?)?;
+    }
+    Ok(line)
+}
+
+/// What the line of these places keeps.
+pub fn kept_of<'a>(chains: &Chains, words: &[&'a str]) -> Result<Chains, WordFault<'a>> {
+    let line = line_of(chains, words)?;
+    match chains.keep(&line) {
+        Ok(kept) => Ok(kept),
+        Err(KeepFault::Unfit) => Err(WordFault::Unfit),
+        Err(KeepFault::Memory) => Err(WordFault::Memory),
+    }
 }
 
 fn put_position(position: Position, out: &mut Vec<u8>) -> Result<(), AllocError> {

@@ -1,4 +1,4 @@
-use Rattle.desk.proofs.OtherEpochs.{other_epoch_unmoved}
+use Rattle.lawful_reports.proofs.OtherEpochs.{other_epoch_unmoved}
 use Rattle.desk.proofs.laws.other_epochs_change_nothing.Goals as goal
 
 pub returns : goal.returns

@@ -1,0 +1,182 @@
+// Shapes and fails the calls that a program makes of the system (put in front of it by LD_PRELOAD), as these variables say:
+//
+//   READ_MOST, WRITE_MOST    so many bytes at most are given by a read of standard input or of a connection, or taken by a write
+//   READ_END, WRITE_END      behind so many bytes in all a read or a write fails
+//   WRITE_NOTHING            in place of failing such a write takes nothing
+//   READ_LINES               standard input has no end: lines of so many letters x
+//   CALL, DONE               the call of this number of those for the record file fails, from 1, and with DONE it is done all the same
+//   CALLS                    the file to which the names of the calls for the record file are written, a line each
+//
+// The calls for the record file are those by which it is read, written, measured, cut and synced.
+typedef unsigned long size_t;
+typedef long ssize_t;
+typedef long off_t;
+
+extern void *dlsym(void *, const char *);
+extern char *getenv(const char *);
+extern int *__errno_location(void);
+extern int open(const char *, int, ...);
+extern int close(int);
+
+enum { FAILED = 5, APPENDED = 02001, MADE = 0100 };
+enum { NO_LIMIT = -1 };
+
+static ssize_t (*given_read)(int, void *, size_t), (*given_recv)(int, void *, size_t, int);
+static ssize_t (*given_write)(int, const void *, size_t), (*given_send)(int, const void *, size_t, int);
+static ssize_t (*given_pread)(int, void *, size_t, off_t), (*given_pwrite)(int, const void *, size_t, off_t);
+static int (*given_fsync)(int), (*given_fdatasync)(int), (*given_ftruncate)(int, off_t);
+static int (*given_statx)(int, const char *, int, unsigned, void *);
+static long read_most, write_most, read_end, write_end, read_lines, call, was_read, was_written, calls;
+
+static long number(const char *name)
+{
+    const char *digits = getenv(name);
+    long value = 0;
+    if (!digits)
+        return NO_LIMIT;
+    while (*digits)
+        value = 10 * value + *digits++ - '0';
+    return value;
+}
+
+__attribute__((constructor)) static void begin(void)
+{
+    void *next = (void *)-1;
+    given_read = dlsym(next, "read");
+    given_recv = dlsym(next, "recv");
+    given_write = dlsym(next, "write");
+    given_send = dlsym(next, "send");
+    given_pread = dlsym(next, "pread");
+    given_pwrite = dlsym(next, "pwrite");
+    given_fsync = dlsym(next, "fsync");
+    given_fdatasync = dlsym(next, "fdatasync");
+    given_ftruncate = dlsym(next, "ftruncate");
+    given_statx = dlsym(next, "statx");
+    read_most = number("READ_MOST");
+    write_most = number("WRITE_MOST");
+    read_end = number("READ_END");
+    write_end = number("WRITE_END");
+    read_lines = number("READ_LINES");
+    call = number("CALL");
+}
+
+static int fail(void)
+{
+    *__errno_location() = FAILED;
+    return -1;
+}
+
+// How many bytes a call may give or take, of so many that are asked for, where so many were before.
+static size_t within(size_t asked, long most, long end, long before)
+{
+    if (most != NO_LIMIT && asked > (size_t)most)
+        asked = most;
+    if (end != NO_LIMIT && asked > (size_t)(end - before))
+        asked = end - before;
+    return asked;
+}
+
+// ---- streams and connections
+
+static ssize_t give_lines(char *bytes, size_t asked)
+{
+    for (size_t i = 0; i < asked; i++)
+        bytes[i] = was_read++ % (read_lines + 1) == read_lines ? '\n' : 'x';
+    return asked;
+}
+
+ssize_t read(int file, void *bytes, size_t asked)
+{
+    if (file != 0)
+        return given_read(file, bytes, asked);
+    size_t most = within(asked, read_most, read_end, was_read);
+    if (asked && !most)
+        return fail();
+    if (read_lines != NO_LIMIT)
+        return give_lines(bytes, most);
+    ssize_t got = given_read(file, bytes, most);
+    was_read += got > 0 ? got : 0;
+    return got;
+}
+
+ssize_t recv(int file, void *bytes, size_t asked, int flags)
+{
+    return given_recv(file, bytes, within(asked, read_most, NO_LIMIT, 0), flags);
+}
+
+ssize_t write(int file, const void *bytes, size_t asked)
+{
+    if (file != 1)
+        return given_write(file, bytes, asked);
+    size_t most = within(asked, write_most, write_end, was_written);
+    if (asked && !most)
+        return getenv("WRITE_NOTHING") ? 0 : fail();
+    ssize_t took = given_write(file, bytes, most);
+    was_written += took > 0 ? took : 0;
+    return took;
+}
+
+ssize_t send(int file, const void *bytes, size_t asked, int flags)
+{
+    return given_send(file, bytes, within(asked, write_most, NO_LIMIT, 0), flags);
+}
+
+// ---- the record file
+
+static void note(const char *name)
+{
+    const char *path = getenv("CALLS");
+    if (!path)
+        return;
+    int file = open(path, APPENDED | MADE, 0600);
+    size_t length = 0;
+    while (name[length])
+        length++;
+    given_write(file, name, length);
+    given_write(file, "\n", 1);
+    close(file);
+}
+
+// Makes a call, and answers what it answers, unless it is the one that fails.
+#define CALLED(name, made)                      \
+    do {                                        \
+        note(name);                             \
+        if (++calls != call)                    \
+            return made;                        \
+        if (getenv("DONE"))                     \
+            (void)!(made);                      \
+        return fail();                          \
+    } while (0)
+
+ssize_t pread(int file, void *bytes, size_t asked, off_t at)
+{
+    CALLED("read", given_pread(file, bytes, asked, at));
+}
+
+ssize_t pwrite(int file, const void *bytes, size_t asked, off_t at)
+{
+    CALLED("write", given_pwrite(file, bytes, asked, at));
+}
+
+int fsync(int file)
+{
+    CALLED("sync", given_fsync(file));
+}
+
+int fdatasync(int file)
+{
+    CALLED("sync", given_fdatasync(file));
+}
+
+int ftruncate(int file, off_t length)
+{
+    CALLED("cut", given_ftruncate(file, length));
+}
+
+// A file that is open is measured by its number, with no path.
+int statx(int file, const char *path, int flags, unsigned asked, void *told)
+{
+    if (path && *path)
+        return given_statx(file, path, flags, asked, told);
+    CALLED("length", given_statx(file, path, flags, asked, told));
+}

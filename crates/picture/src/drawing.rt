@@ -5,12 +5,13 @@ use crate::following::{Followed, follow};
 use crate::frame::Frame;
 use crate::layers::{
     draw_arrows, draw_failures, draw_lives, draw_marks, draw_obsolete, draw_recovery_line,
+    draw_settlements,
 };
 use crate::pen::Piece::{Number, Text};
 use crate::pen::write;
 use crate::scene::Scene;
 use crate::shapes::{close_text, open_text};
-use crate::words::{write_failed, write_lines};
+use crate::words::{write_failed, write_lines, write_settlements};
 use chains::{Chains, Failed, FailedFault};
 use garbage_line::garbage;
 use propagate::certificate;
@@ -31,6 +32,11 @@ const LOOKS: &[u8] = b"<style>text{font:13px sans-serif;fill:#222}.name{font-wei
 markerUnits=\"userSpaceOnUse\" orient=\"auto\"><path d=\"M0 0 L8 4 L0 8 z\" fill=\"#777\"/></marker>\n\
 <pattern id=\"hatch\" width=\"6\" height=\"6\" patternUnits=\"userSpaceOnUse\" patternTransform=\"rotate(45)\">\
 <line x1=\"0\" y1=\"0\" x2=\"0\" y2=\"6\" stroke=\"#c58b00\" stroke-width=\"2\"/></pattern></defs>\n";
+
+/// How settlements look, in pictures that have one.
+const SETTLED_LOOKS: &[u8] =
+    b"<style>.settled{fill:none;stroke:#2e7d32;stroke-width:2;stroke-dasharray:6 4;stroke-linejoin:round}\
+.epoch{fill:#2e7d32;stroke:#2e7d32;stroke-width:1;stroke-dasharray:1 3}</style>\n";
 
 /// Why there is no picture.
 enum Undrawn {
@@ -64,14 +70,10 @@ fn write_words(
     obsolete: &Certificate,
 ) -> Result<(), AllocError> {
     write(svg, &[Text(b"<title id=\"title\">".as_slice())])?;
-    write_failed(svg, &scene.lanes, line.failed.as_slice())?;
+    write_failed(svg, scene, line.failed.as_slice())?;
     write(svg, &[Text(b"</title>\n<desc id=\"words\">".as_slice())])?;
-    write_lines(
-        svg,
-        &scene.lanes,
-        line.line.as_slice(),
-        obsolete.line.as_slice(),
-    )?;
+    write_settlements(svg, scene)?;
+    write_lines(svg, scene, line.line.as_slice(), obsolete.line.as_slice())?;
     write(svg, &[Text(b"</desc>\n".as_slice())])
 }
 
@@ -84,8 +86,11 @@ fn write_ground(svg: &mut Vec<u8>, scene: &Scene, failed: &[u32]) -> Result<(), 
             Text(b"<rect width=\"100%\" height=\"100%\" fill=\"#fff\"/>\n".as_slice()),
         ],
     )?;
+    if !scene.settlements.is_empty() {
+        write(svg, &[Text(SETTLED_LOOKS)])?;
+    }
     open_text(svg, b"title", (12, 24))?;
-    write_failed(svg, &scene.lanes, failed)?;
+    write_failed(svg, scene, failed)?;
     close_text(svg)
 }
 
@@ -98,14 +103,15 @@ fn write_layers(
     obsolete: &Certificate,
 ) -> Result<(), AllocError> {
     let lanes = &scene.lanes;
-    let places = line.line.as_slice();
-    let failed = line.failed.as_slice();
-    draw_obsolete(svg, frame, lanes, obsolete.line.as_slice())?;
-    draw_lives(svg, frame, lanes, places)?;
-    draw_arrows(svg, frame, scene, places)?;
-    draw_marks(svg, frame, lanes, places)?;
-    draw_failures(svg, frame, lanes, places, failed)?;
-    draw_recovery_line(svg, frame, lanes, places)
+    let positions = &scene.positions(line.line.as_slice())?;
+    let garbage = &scene.positions(obsolete.line.as_slice())?;
+    draw_obsolete(svg, frame, lanes, garbage)?;
+    draw_lives(svg, frame, lanes, positions)?;
+    draw_arrows(svg, frame, scene, positions)?;
+    draw_marks(svg, frame, lanes, positions)?;
+    draw_settlements(svg, frame, scene)?;
+    draw_failures(svg, frame, scene, positions, line.failed.as_slice())?;
+    draw_recovery_line(svg, frame, lanes, positions)
 }
 
 /// The picture of these steps with this line and what is obsolete.
@@ -146,8 +152,8 @@ fn try_picture(alloc: Global, followed: &Followed, failed: &[Name]) -> Result<Ve
     }
 }
 
-/// The picture of a script, where the processes of these names failed: the steps that its world takes, the recovery line
-/// through them, and what is obsolete. A script of which not even the first line is taken has no picture.
+/// The picture of a script, where the processes of these names failed: the steps that its world takes, its settlements with what
+/// each undid, the recovery line through what is left, and what is obsolete. A script of which not even the first line is taken has no picture.
 pub fn draw(alloc: Global, script: &[u8], failed: &[Name]) -> (Vec<u8>, Ending) {
     let (followed, ending) = follow(alloc, script);
     let Some(followed) = followed else {

@@ -1,11 +1,12 @@
-//! Following a script: its world, the reports that are accepted of it, and what a picture shows of it.
+//! Following a script: its world, what is accepted of it, and what a picture shows of it.
 
 use crate::ending::Ending;
 use crate::scene::Scene;
 use chains::{Chains, No};
-use driver::{StepFault, World};
-use report_line::{Code, PackedReport, Report};
-use script::{Cause, cut_line, read_root, read_step};
+use driver::{Step, StepFault, World};
+use propagate::settle_named;
+use report_line::{Code, Name, Names, PackedReport, Report};
+use script::{Cause, cut_line, line_for, read_root, read_settle, read_step};
 use std::alloc::Global;
 
 /// A script so far.
@@ -32,7 +33,7 @@ fn ending_by(stop: Stop, step: u64) -> Ending {
     }
 }
 
-/// Why a report of a world was refused: memory or room alone, since a world stamps by the rules.
+/// Why a report or a settlement was refused: memory or room alone, since a world stamps by the rules and returns to its own line.
 fn stop_for(refused: No) -> Stop {
     match refused.code {
         Code::OutOfMemory => Stop::Memory,
@@ -70,11 +71,52 @@ fn begin(alloc: Global, line: &[u8]) -> Result<Followed, Stop> {
     }
 }
 
-/// Takes the step of a line.
-fn go_on(followed: &mut Followed, line: &[u8]) -> Result<(), Stop> {
-    let Some(step) = read_step(line) else {
-        return Err(Stop::Refused(Cause::Grammar));
+/// Has the settlement for these failed processes accepted.
+fn settle_chains(chains: &mut Chains, names: &[Name]) -> Result<(), Stop> {
+    match chains.may_settle(chains.front(), names) {
+        Ok(()) => {}
+        Err(refused) => return Err(stop_for(refused)),
+    }
+    match settle_named(chains, names) {
+        Ok(settled) => {
+            *chains = settled;
+            Ok(())
+        }
+        Err(_) => Err(Stop::Memory),
+    }
+}
+
+/// All return to the line of these failed processes.
+fn settle(followed: &mut Followed, names: &Names) -> Result<(), Stop> {
+    let names = names.as_slice();
+    let Ok(line) = line_for(&followed.chains, names) else {
+        return Err(Stop::Memory);
     };
+    match followed.world.settle(names, &line) {
+        Ok(()) => {}
+        Err(fault) => return Err(Stop::Refused(Cause::Fault(fault))),
+    }
+    match settle_chains(&mut followed.chains, names) {
+        Ok(()) => {}
+        Err(stop) => return Err(stop),
+    }
+    match followed.scene.settle(&line) {
+        Ok(()) => Ok(()),
+        Err(_) => Err(Stop::Memory),
+    }
+}
+
+/// Takes a line that is no step.
+fn take_other(alloc: Global, followed: &mut Followed, line: &[u8]) -> Result<(), Stop> {
+    match read_settle(alloc, line) {
+        Ok(Some(names)) => settle(followed, &names),
+        Ok(None) => Err(Stop::Refused(Cause::Grammar)),
+        Err(_) => Err(Stop::Memory),
+    }
+}
+
+/// Takes a step.
+fn take_step(followed: &mut Followed, step: Step) -> Result<(), Stop> {
     let given = match followed.world.step(step.copy()) {
         Ok(given) => given,
         Err(fault) => return Err(Stop::Refused(Cause::Fault(fault))),
@@ -92,14 +134,22 @@ fn go_on(followed: &mut Followed, line: &[u8]) -> Result<(), Stop> {
     }
 }
 
-/// Takes the steps of these lines, which stand behind the first line of their script, up to one that is refused.
-fn go_through(followed: &mut Followed, lines: &[u8]) -> Ending {
+/// Takes a line.
+fn go_on(alloc: Global, followed: &mut Followed, line: &[u8]) -> Result<(), Stop> {
+    match read_step(line) {
+        Some(step) => take_step(followed, step),
+        None => take_other(alloc, followed, line),
+    }
+}
+
+/// Takes these lines, which stand behind the first line of their script, up to one that is refused.
+fn go_through(alloc: Global, followed: &mut Followed, lines: &[u8]) -> Ending {
     let mut rest = lines;
     for step in 2..u64::MAX {
         let Some((line, behind)) = cut_line(rest) else {
             return Ending::Done;
         };
-        match go_on(followed, line) {
+        match go_on(alloc, followed, line) {
             Ok(()) => {}
             Err(stop) => return ending_by(stop, step),
         }
@@ -116,7 +166,7 @@ pub(crate) fn follow(alloc: Global, script: &[u8]) -> (Option<Followed>, Ending)
     match begin(alloc, first) {
         Ok(begun) => {
             let mut followed = begun;
-            let ending = go_through(&mut followed, behind);
+            let ending = go_through(alloc, &mut followed, behind);
             (Some(followed), ending)
         }
         Err(stop) => (None, ending_by(stop, 1)),

@@ -4,7 +4,7 @@ ghost use Rattle.std.specs.Prelude.{◌<◌, ◌≤◌, ◌^◌};
 
 use crate::lane::{Lane, counted};
 use crate::scene::{Scene, Spot};
-use chains::{Place, Position};
+use chains::Position;
 
 /// The width of a column.
 const COLUMN: u64 = 32;
@@ -31,6 +31,8 @@ pub(crate) struct Row<'a> {
     frame: Frame,
     pub(crate) lane: &'a Lane,
     number: u32,
+    /// Whether its process is known.
+    pub(crate) is_known: bool,
     /// Where the recovery line crosses it.
     pub(crate) crossing: u64,
 }
@@ -82,40 +84,43 @@ impl Frame {
         2 * MARGIN + LANE * self.lanes as u64
     }
 
-    /// Where the recovery line crosses the line of a process that returns to this position: behind it, or in front of the
-    /// birth.
-    fn crossing(self, lane: &Lane, position: Position) -> u64
+    /// Where a line crosses that of a process which returns to what is in this column: behind it, or in front of the birth.
+    pub(crate) fn crossing(self, lane: &Lane, column: Option<u32>) -> u64
         ensures { result < 2 ^ 41 }
     {
-        match lane.column_of(position) {
+        match column {
             Some(column) => self.x(column) + BEHIND,
             None => self.x(lane.birth) - BEHIND,
         }
     }
 
-    /// Where the recovery line through these places crosses the line of the process of this number.
-    fn crossing_of(self, lane: &Lane, places: &[Place], number: u32) -> u64
-        ensures { result < 2 ^ 41 }
-    {
-        match places.get(number as usize) {
-            None => self.x(lane.birth),
-            Some(place) => self.crossing(lane, place.position),
+    /// The position of a row in a line, if its process is known.
+    fn position(self, positions: &[Option<Position>], number: u32) -> Option<Position> {
+        match positions.get(number as usize) {
+            None => None,
+            Some(position) => *position,
         }
     }
 
-    /// The line of the process of this number, crossed by the recovery line through these places.
+    /// The line of the process in the row of this number, crossed by the recovery line through these positions.
     pub(crate) fn row<'a>(
         self,
         lanes: &'a [Lane],
-        places: &[Place],
+        positions: &[Option<Position>],
         number: u32,
     ) -> Option<Row<'a>> {
         let lane = lanes.get(number as usize)?;
-        let crossing = self.crossing_of(lane, places, number);
+        let position = self.position(positions, number);
+        let column = match position {
+            None => None,
+            Some(position) => lane.column_of(position),
+        };
+        let crossing = self.crossing(lane, column);
         Some(Row {
             frame: self,
             lane,
             number,
+            is_known: position.is_some(),
             crossing,
         })
     }
@@ -141,6 +146,17 @@ impl<'a> Row<'a> {
         ensures high { result < 2 ^ 40 }
     {
         self.frame.x(column)
+    }
+
+    /// Where a life begins or ends: in the middle of this column, or behind it.
+    pub(crate) fn turn(self, column: u32, is_behind: bool) -> u64
+        ensures { result < 2 ^ 41 }
+    {
+        if is_behind {
+            self.frame.x(column) + BEHIND
+        } else {
+            self.frame.x(column)
+        }
     }
 
     /// Whether the process's step in this column is undone.

@@ -1,13 +1,18 @@
 //! The layers of a picture.
 
+ghost use Rattle.std.specs.Prelude.{◌<◌, ◌≤◌, ◌^◌};
+
 use crate::frame::{Frame, Row};
-use crate::lane::{Lane, counted};
+use crate::lane::{Lane, Span, counted};
 use crate::pen::Piece::{Number, Text};
 use crate::pen::write;
-use crate::scene::{Arrow, Scene, Tie};
-use crate::shapes::{circle, line, number, rectangle, word};
-use chains::Place;
+use crate::scene::{Arrow, Scene, Settlement, Tie};
+use crate::shapes::{circle, close_text, line, number, open_text, rectangle, word};
+use chains::Position;
 use std::alloc::AllocError;
+
+/// Where the word above a settlement stands.
+const ABOVE: u64 = 44;
 
 /// Hatches what is obsolete of a process: what stands in front of the place at which its line is crossed.
 fn draw_obsolete_part(svg: &mut Vec<u8>, row: Row<'_>) -> Result<(), AllocError> {
@@ -25,10 +30,10 @@ pub(crate) fn draw_obsolete(
     svg: &mut Vec<u8>,
     frame: Frame,
     lanes: &[Lane],
-    places: &[Place],
+    positions: &[Option<Position>],
 ) -> Result<(), AllocError> {
     for i in 0..lanes.len() {
-        match frame.row(lanes, places, counted(i)) {
+        match frame.row(lanes, positions, counted(i)) {
             None => {}
             Some(row) => draw_obsolete_part(svg, row)?,
         }
@@ -36,15 +41,40 @@ pub(crate) fn draw_obsolete(
     Ok(())
 }
 
-/// The name of a process, and its life, whose later part is undone.
-fn draw_life(svg: &mut Vec<u8>, row: Row<'_>) -> Result<(), AllocError> {
+/// A part of a life, whose later part is undone.
+fn draw_span(svg: &mut Vec<u8>, row: Row<'_>, span: Span) -> Result<(), AllocError> {
     let y = row.y();
-    let from = row.x(row.lane.birth);
-    let to = row.x(row.lane.last);
+    let from = row.turn(span.from, span.is_from_behind);
+    let to = row.turn(span.to, span.is_to_behind);
     let turn = row.crossing.max(from).min(to);
-    word(svg, b"name", (12, y + 5), row.lane.name.as_bytes())?;
     line(svg, b"life", (from, y), (turn, y))?;
     line(svg, b"life undone", (turn, y), (to, y))
+}
+
+/// What settlements undid of a life.
+fn draw_undone_lives(svg: &mut Vec<u8>, row: Row<'_>) -> Result<(), AllocError> {
+    let y = row.y();
+    for span in &row.lane.undone.lives {
+        let from = row.turn(span.from, span.is_from_behind);
+        let to = row.turn(span.to, span.is_to_behind);
+        if from < to {
+            line(svg, b"life undone", (from, y), (to, y))?;
+        }
+    }
+    Ok(())
+}
+
+/// The name of a process, and its life, whose later part is undone.
+fn draw_life(svg: &mut Vec<u8>, row: Row<'_>) -> Result<(), AllocError> {
+    word(svg, b"name", (12, row.y() + 5), row.lane.name.as_bytes())?;
+    draw_undone_lives(svg, row)?;
+    for span in &row.lane.lives {
+        draw_span(svg, row, *span)?;
+    }
+    match row.lane.present_life() {
+        None => Ok(()),
+        Some(span) => draw_span(svg, row, span),
+    }
 }
 
 /// The name of each process, and its life.
@@ -52,10 +82,10 @@ pub(crate) fn draw_lives(
     svg: &mut Vec<u8>,
     frame: Frame,
     lanes: &[Lane],
-    places: &[Place],
+    positions: &[Option<Position>],
 ) -> Result<(), AllocError> {
     for i in 0..lanes.len() {
-        match frame.row(lanes, places, counted(i)) {
+        match frame.row(lanes, positions, counted(i)) {
             None => {}
             Some(row) => draw_life(svg, row)?,
         }
@@ -82,7 +112,8 @@ fn draw_arrow(
     row: Row<'_>,
     arrow: Arrow,
 ) -> Result<(), AllocError> {
-    let class = class_of(arrow.tie, row.is_undone(arrow.to.column));
+    let is_undone = arrow.is_undone || row.is_undone(arrow.to.column);
+    let class = class_of(arrow.tie, is_undone);
     line(svg, class, frame.at(arrow.from), frame.at(arrow.to))
 }
 
@@ -91,10 +122,10 @@ pub(crate) fn draw_arrows(
     svg: &mut Vec<u8>,
     frame: Frame,
     scene: &Scene,
-    places: &[Place],
+    positions: &[Option<Position>],
 ) -> Result<(), AllocError> {
     for arrow in &scene.arrows {
-        match frame.row(&scene.lanes, places, arrow.to.lane) {
+        match frame.row(&scene.lanes, positions, arrow.to.lane) {
             None => {}
             Some(row) => draw_arrow(svg, frame, row, *arrow)?,
         }
@@ -112,6 +143,19 @@ fn class_of_mark(is_present: bool, is_undone: bool) -> &'static [u8] {
     }
 }
 
+/// The mark of an element of this class, with its number.
+fn draw_element_as(
+    svg: &mut Vec<u8>,
+    row: Row<'_>,
+    column: u32,
+    class: &[u8],
+    element: u64,
+) -> Result<(), AllocError> {
+    let (x, y) = (row.x(column), row.y());
+    circle(svg, class, (x, y), 6)?;
+    number(svg, b"number", (x, y - 12), element)
+}
+
 /// An element with its number.
 fn draw_element(
     svg: &mut Vec<u8>,
@@ -121,9 +165,7 @@ fn draw_element(
     element: usize,
 ) -> Result<(), AllocError> {
     let class = class_of_mark(is_present, row.is_undone(column));
-    let (x, y) = (row.x(column), row.y());
-    circle(svg, class, (x, y), 6)?;
-    number(svg, b"number", (x, y - 12), element as u64)
+    draw_element_as(svg, row, column, class, element as u64)
 }
 
 /// The marks of the birth and of the checkpoints.
@@ -166,8 +208,26 @@ fn draw_retirement(svg: &mut Vec<u8>, row: Row<'_>) -> Result<(), AllocError> {
     line(svg, class, (x, y - 9), (x, y + 9))
 }
 
+/// The marks of what settlements undid.
+fn draw_undone_marks(svg: &mut Vec<u8>, row: Row<'_>) -> Result<(), AllocError> {
+    let (undone, y) = (&row.lane.undone, row.y());
+    for column in &undone.retirements {
+        let x = row.x(*column);
+        line(svg, b"life undone", (x, y - 9), (x, y + 9))?;
+    }
+    for column in &undone.ended {
+        circle(svg, class_of_mark(true, true), (row.x(*column), y), 4)?;
+    }
+    for element in &undone.elements {
+        let class = class_of_mark(element.is_present, true);
+        draw_element_as(svg, row, element.column, class, u64::from(element.number))?;
+    }
+    Ok(())
+}
+
 /// The marks of a process.
 fn draw_marks_of(svg: &mut Vec<u8>, row: Row<'_>) -> Result<(), AllocError> {
+    draw_undone_marks(svg, row)?;
     draw_retirement(svg, row)?;
     draw_ended(svg, row)?;
     draw_elements(svg, row)?;
@@ -179,10 +239,10 @@ pub(crate) fn draw_marks(
     svg: &mut Vec<u8>,
     frame: Frame,
     lanes: &[Lane],
-    places: &[Place],
+    positions: &[Option<Position>],
 ) -> Result<(), AllocError> {
     for i in 0..lanes.len() {
-        match frame.row(lanes, places, counted(i)) {
+        match frame.row(lanes, positions, counted(i)) {
             None => {}
             Some(row) => draw_marks_of(svg, row)?,
         }
@@ -201,30 +261,33 @@ fn draw_failure(svg: &mut Vec<u8>, row: Row<'_>) -> Result<(), AllocError> {
 pub(crate) fn draw_failures(
     svg: &mut Vec<u8>,
     frame: Frame,
-    lanes: &[Lane],
-    places: &[Place],
+    scene: &Scene,
+    positions: &[Option<Position>],
     failed: &[u32],
 ) -> Result<(), AllocError> {
     for number in failed {
-        match frame.row(lanes, places, *number) {
-            None => {}
-            Some(row) => draw_failure(svg, row)?,
+        if let Some(lane) = scene.lane_of(*number)
+            && let Some(row) = frame.row(&scene.lanes, positions, lane)
+        {
+            draw_failure(svg, row)?;
         }
     }
     Ok(())
 }
 
-/// The part of the recovery line that crosses the line of a process.
-fn draw_crossing(svg: &mut Vec<u8>, row: Row<'_>) -> Result<(), AllocError> {
-    let y = row.y();
+/// The part of a line that crosses that of a process there.
+fn draw_crossing(svg: &mut Vec<u8>, x: u64, y: u64) -> Result<(), AllocError>
+    requires high { 26 ≤ y }
+    requires low { y < 2 ^ 41 }
+{
     write(
         svg,
         &[
-            Number(row.crossing),
+            Number(x),
             Text(b",".as_slice()),
             Number(y - 26),
             Text(b" ".as_slice()),
-            Number(row.crossing),
+            Number(x),
             Text(b",".as_slice()),
             Number(y + 26),
             Text(b" ".as_slice()),
@@ -237,17 +300,90 @@ pub(crate) fn draw_recovery_line(
     svg: &mut Vec<u8>,
     frame: Frame,
     lanes: &[Lane],
-    places: &[Place],
+    positions: &[Option<Position>],
 ) -> Result<(), AllocError> {
     write(
         svg,
         &[Text(b"<polyline class=\"recovery\" points=\"".as_slice())],
     )?;
     for i in 0..lanes.len() {
-        match frame.row(lanes, places, counted(i)) {
+        match frame.row(lanes, positions, counted(i)) {
             None => {}
-            Some(row) => draw_crossing(svg, row)?,
+            Some(row) => {
+                if row.is_known {
+                    draw_crossing(svg, row.crossing, row.y())?;
+                }
+            }
         }
     }
     write(svg, &[Text(b"\"/>\n".as_slice())])
+}
+
+/// The line of a settlement: one stroke through the processes that were known.
+fn draw_settled_line(
+    svg: &mut Vec<u8>,
+    frame: Frame,
+    lanes: &[Lane],
+    settlement: &Settlement,
+) -> Result<(), AllocError> {
+    write(
+        svg,
+        &[Text(b"<polyline class=\"settled\" points=\"".as_slice())],
+    )?;
+    for of_process in &settlement.returns {
+        match lanes.get(of_process.lane as usize) {
+            None => {}
+            Some(lane) => draw_crossing(
+                svg,
+                frame.crossing(lane, of_process.column),
+                frame.y(of_process.lane),
+            )?,
+        }
+    }
+    write(svg, &[Text(b"\"/>\n".as_slice())])
+}
+
+/// The moment of a settlement: a stroke down to the last process that was known, with a mark where each goes on that lives.
+fn draw_settling(
+    svg: &mut Vec<u8>,
+    frame: Frame,
+    settlement: &Settlement,
+    epoch: usize,
+) -> Result<(), AllocError> {
+    let x = frame.x(settlement.column);
+    let lowest = match settlement.returns.last() {
+        None => 0,
+        Some(of_process) => of_process.lane,
+    };
+    line(svg, b"epoch", (x, ABOVE + 6), (x, frame.y(lowest) + 26))?;
+    open_text(svg, b"number", (x, ABOVE))?;
+    write(svg, &[Text(b"epoch ".as_slice()), Number(epoch as u64)])?;
+    close_text(svg)?;
+    for of_process in &settlement.returns {
+        if goes_on(of_process.position) {
+            circle(svg, b"epoch", (x, frame.y(of_process.lane)), 4)?;
+        }
+    }
+    Ok(())
+}
+
+/// Whether a process that returns to this position lives.
+fn goes_on(position: Position) -> bool {
+    match position {
+        Position::At(k) => k != 0,
+        Position::Retired => false,
+    }
+}
+
+/// The settlements, each with its line and its moment.
+pub(crate) fn draw_settlements(
+    svg: &mut Vec<u8>,
+    frame: Frame,
+    scene: &Scene,
+) -> Result<(), AllocError> {
+    for i in 0..scene.settlements.len() {
+        draw_settled_line(svg, frame, &scene.lanes, &scene.settlements[i])?;
+        draw_settling(svg, frame, &scene.settlements[i], i + 1)?;
+    }
+    Ok(())
 }

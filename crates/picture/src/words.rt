@@ -3,14 +3,23 @@
 use crate::lane::Lane;
 use crate::pen::Piece::{Number, Text};
 use crate::pen::write;
+use crate::scene::{Return, Scene};
 use chains::{Place, Position};
 use std::alloc::AllocError;
 
-/// The name of a process, by its number.
-fn write_name(svg: &mut Vec<u8>, lanes: &[Lane], number: u32) -> Result<(), AllocError> {
-    match lanes.get(number as usize) {
+/// The name of the process in this row.
+fn write_name_in(svg: &mut Vec<u8>, lanes: &[Lane], lane: u32) -> Result<(), AllocError> {
+    match lanes.get(lane as usize) {
         None => Ok(()),
         Some(lane) => write(svg, &[Text(lane.name.as_bytes())]),
+    }
+}
+
+/// The name of a process, by its number.
+fn write_name(svg: &mut Vec<u8>, scene: &Scene, number: u32) -> Result<(), AllocError> {
+    match scene.lane_of(number) {
+        None => Ok(()),
+        Some(lane) => write_name_in(svg, &scene.lanes, lane),
     }
 }
 
@@ -24,10 +33,10 @@ fn comma(i: usize) -> &'static [u8] {
 }
 
 /// The names of the processes of these numbers.
-fn write_names(svg: &mut Vec<u8>, lanes: &[Lane], numbers: &[u32]) -> Result<(), AllocError> {
+fn write_names(svg: &mut Vec<u8>, scene: &Scene, numbers: &[u32]) -> Result<(), AllocError> {
     for i in 0..numbers.len() {
         write(svg, &[Text(comma(i))])?;
-        write_name(svg, lanes, numbers[i])?;
+        write_name(svg, scene, numbers[i])?;
     }
     Ok(())
 }
@@ -35,14 +44,14 @@ fn write_names(svg: &mut Vec<u8>, lanes: &[Lane], numbers: &[u32]) -> Result<(),
 /// Which processes failed.
 pub(crate) fn write_failed(
     svg: &mut Vec<u8>,
-    lanes: &[Lane],
+    scene: &Scene,
     failed: &[u32],
 ) -> Result<(), AllocError> {
     if failed.is_empty() {
         return write(svg, &[Text(b"No process failed".as_slice())]);
     }
     write(svg, &[Text(b"Failed:".as_slice())])?;
-    write_names(svg, lanes, failed)
+    write_names(svg, scene, failed)
 }
 
 /// Where a process stands.
@@ -55,11 +64,38 @@ fn write_position(svg: &mut Vec<u8>, position: Position) -> Result<(), AllocErro
 }
 
 /// Where each process stands.
-fn write_places(svg: &mut Vec<u8>, lanes: &[Lane], places: &[Place]) -> Result<(), AllocError> {
+fn write_places(svg: &mut Vec<u8>, scene: &Scene, places: &[Place]) -> Result<(), AllocError> {
     for i in 0..places.len() {
         write(svg, &[Text(comma(i))])?;
-        write_name(svg, lanes, places[i].process)?;
+        write_name(svg, scene, places[i].process)?;
         write_position(svg, places[i].position)?;
+    }
+    Ok(())
+}
+
+/// Where each process returned to by a settlement.
+fn write_returns(svg: &mut Vec<u8>, lanes: &[Lane], returns: &[Return]) -> Result<(), AllocError> {
+    for i in 0..returns.len() {
+        write(svg, &[Text(comma(i))])?;
+        write_name_in(svg, lanes, returns[i].lane)?;
+        write_position(svg, returns[i].position)?;
+    }
+    Ok(())
+}
+
+/// The settlements, in order.
+pub(crate) fn write_settlements(svg: &mut Vec<u8>, scene: &Scene) -> Result<(), AllocError> {
+    for i in 0..scene.settlements.len() {
+        write(
+            svg,
+            &[
+                Text(b"Settlement ".as_slice()),
+                Number(i as u64 + 1),
+                Text(b":".as_slice()),
+            ],
+        )?;
+        write_returns(svg, &scene.lanes, &scene.settlements[i].returns)?;
+        write(svg, &[Text(b". ".as_slice())])?;
     }
     Ok(())
 }
@@ -67,13 +103,13 @@ fn write_places(svg: &mut Vec<u8>, lanes: &[Lane], places: &[Place]) -> Result<(
 /// The recovery line, and the line before which all is obsolete.
 pub(crate) fn write_lines(
     svg: &mut Vec<u8>,
-    lanes: &[Lane],
+    scene: &Scene,
     line: &[Place],
     obsolete: &[Place],
 ) -> Result<(), AllocError> {
     write(svg, &[Text(b"Recovery line:".as_slice())])?;
-    write_places(svg, lanes, line)?;
+    write_places(svg, scene, line)?;
     write(svg, &[Text(b". Obsolete before:".as_slice())])?;
-    write_places(svg, lanes, obsolete)?;
+    write_places(svg, scene, obsolete)?;
     write(svg, &[Text(b".".as_slice())])
 }

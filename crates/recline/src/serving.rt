@@ -20,7 +20,7 @@ use std::marker::Brand;
 use std::net::{OpenListener, TcpStream};
 use std::sync::Wait;
 use std::sync::ledger::{Blank, Ledger};
-use std::thread::{Threads, join};
+use std::thread::{Threads, scope, scope_env};
 use std::time::{Clock, Duration};
 
 /// How many clients wait at most for a worker, while others may still connect.
@@ -221,8 +221,8 @@ struct Sessions<L: Ledger> {
     stop: Option<Stop>,
 }
 
-/// Serves so many sessions over a coordinator by so many workers. Answers for each worker its sessions, and why there are no
-/// more, if the service stops.
+/// Serves so many sessions over a coordinator by so many workers, while a thread of its own takes the clients: where there is none, nobody is
+/// served. Answers for each worker its sessions, and why there are no more, if the service stops.
 fn serve_sessions<
     L: Ledger + Send + Sync,
     D: Disk + Send + Drop,
@@ -244,19 +244,28 @@ fn serve_sessions<
         return (Vec::new(alloc), Some(Stop::Memory));
     };
     let n = service.workers as usize;
-    let (taken, served) = join(
+    scope(
+        scope_env(),
         rt,
-        move || -> Result<(), Stop>
-            requires { IsSync R.row × IsSend R.row }
-        { take_clients(rt, alloc, listener, service, links) },
-        move || -> Result<Vec<Vec<Served<L, ClientConnection<R>>>>, AllocError>
+        move |scope| -> (Vec<Vec<Served<L, ClientConnection<R>>>>, Option<Stop>)
             requires { IsSync R.row × IsSend L.row × IsSync L.row × IsSend R.row × IsSend D.row × (0 < n) × (n ≤ 64) }
-        { workers(rt, alloc, coordinator, &OpenGate, n, clients) },
-    );
-    match served {
-        Ok(lists) => (lists, taken.err()),
-        Err(_) => (Vec::new(alloc), Some(Stop::Memory)),
-    }
+        {
+            let taker = scope.spawn(
+                move || -> Result<(), Stop>
+                    requires { IsSync R.row × IsSend R.row }
+                { take_clients(rt, alloc, listener, service, links) },
+            );
+            let Ok(taker) = taker else {
+                return (Vec::new(alloc), Some(Stop::Memory));
+            };
+            let served = workers(rt, alloc, coordinator, &OpenGate, n, clients);
+            let taken = taker.join(rt);
+            match served {
+                Ok(lists) => (lists, taken.err()),
+                Err(_) => (Vec::new(alloc), Some(Stop::Memory)),
+            }
+        },
+    )
 }
 
 /// Adds the passes of the sessions.

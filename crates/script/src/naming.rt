@@ -44,7 +44,7 @@ fn recovery_line(chains: &Chains, failed: &Failed) -> Result<Vec<NamedPosition>,
 
 /// The line to return to for these failed processes, by what these chains hold: their recovery line; or none of it where one of them
 /// is not known.
-pub(crate) fn line_for(chains: &Chains, names: &[Name]) -> Result<Vec<NamedPosition>, AllocError>
+pub fn line_for(chains: &Chains, names: &[Name]) -> Result<Vec<NamedPosition>, AllocError>
     ensures { IfOk result (λ line. IsLineFor chains.now.accepted names.now line.items) }
 {
     match Failed::from_names(chains, names) {

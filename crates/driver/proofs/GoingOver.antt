@@ -24,7 +24,7 @@ use Rattle.driver.specs.declared.mark.Mark.{Mark}
 use Rattle.driver.specs.declared.tables.Tables.{Tables}
 use Rattle.driver.specs.declared.tables.Made.{Made}
 use Rattle.driver.specs.Tables.{AreSound, history_in, shown, carried, kept_of_actor, kept_of_other, kept_of_message}
-use Rattle.driver.specs.Making.{IsNotAlive, IsSame, IsReady, Adds}
+use Rattle.driver.specs.Making.{IsNotAlive, IsSame, IsReady, HasLineOf, Adds}
 use Rattle.driver.specs.Verdicts.{HasRetired}
 use Rattle.driver.specs.Marks.{Marks, last_kept, reaches, reaches_at, reached, cut_by}
 use Rattle.driver.specs.Keeping.{AreKept, IsRemade, is_waiting, is_due, bears}
@@ -82,8 +82,9 @@ pub lives : (root : Name) (h : History) (s : Taken) (f : StepFault) → IsLawful
 lives root h s f lawful (inl w) = (let n = next_of root h s lawful in living_not_unborn n.before (sym n.living ∙ w.1))
 lives root h s f lawful (inr w) = (let n = next_of root h s lawful in subst HasRetired n.living w.1)
 
-pub is_ready : (root : Name) (h : History) (s : Taken) (n : ℕ) (made : Made) → IsLawful root (s ∷ h) → n ≡ reporting_steps s.process h → IsRemade s n made → IsReady root h made
-is_ready root h s n made lawful count remade =
+pub is_ready : (root : Name) (h : History) (s : Taken) (n : ℕ) (made : Made) → IsLawful root (s ∷ h) → n ≡ reporting_steps s.process h → IsRemade s n made → HasLineOf root h s
+    → IsReady root h made
+is_ready root h s n made lawful count remade line =
     let w = next_of root h s lawful in
     record {
       before = w.before;
@@ -94,6 +95,7 @@ is_ready root h s n made lawful count remade =
         other = remade.other ∙ ap (λ (x : Taken). kept_of_other x.deed x.stamp) (sym remade.step);
         message = remade.message ∙ ap (λ (x : Taken). kept_of_message x.deed x.stamp) (sym remade.step);
       };
+      line = subst (HasLineOf root h) (sym remade.step) line;
     }
 
 -- room changes nothing

@@ -1,6 +1,8 @@
 pub mod Verdicts
 pub mod Owners
 pub mod Made
+pub mod Lined
+pub mod Folds
 pub mod Sound
 pub mod Closing
 pub mod ElementEvents
@@ -13,3 +15,5 @@ pub mod Born
 pub mod InLine
 pub mod Unknown
 pub mod Settlement
+pub mod KeptReports
+pub mod Recovery

@@ -1,6 +1,7 @@
 -- What is kept stays in step with the history.
-use Rattle.std.proofs.Common.{◌≡◌, ◌≢◌, ℕ, suc, ◌+◌, Bool, true, false, Option, Some, None, [], ◌∷◌, ◌++◌, refl, sym, ◌∙◌, ap, subst, inl, inr, arith}
-use Rattle.std.specs.Prelude.{if◌then◌else◌, ◌&&◌, reverse}
+use Rattle.std.proofs.Common.{◌≡◌, ◌≢◌, ℕ, suc, ◌+◌, Bool, true, false, Option, Some, None, List, [], ◌∷◌, ◌++◌, All, refl, sym, ◌∙◌, ap, subst, append-nil, inl, inr, arith}
+use Rattle.std.specs.Prelude.{if◌then◌else◌, ◌&&◌, reverse, IsTrue}
+use Rattle.std.specs.List.{cons_option}
 use Rattle.std.specs.Str.{bytes_eq}
 use Rattle.std.proofs.lemmas.Bool.{cases_Bool, cond-true, cond-false, true≢false}
 use Rattle.id_tree.specs.IdTree.{IdTree, One}
@@ -11,9 +12,14 @@ use Rattle.report_line.specs.declared.step.Deed.TheVariants.{Work, Check, Presen
 use Rattle.report_line.specs.declared.step.Step.{Step as Taken}
 use Rattle.report_line.specs.History.{Name, History, Event, Status, Unborn, Living, Absorbed, status_of_actor, status_of_other, status, event_of, birth_by, sends, sending, birth_of_root}
 use Rattle.std.proofs.lemmas.List.{reverse-append}
+use Rattle.std.proofs.lemmas.List.Elements.{All-nil, All-push}
 use Rattle.indexmap.specs.IndexMap.{get}
 use Rattle.report_line.specs.Lawful.{IsAllowed, IsLawful, start, next}
-use Rattle.report_line.specs.StepReports.{is_reported, reporting_steps}
+use Rattle.report_line.specs.StepReports.{is_reported, reporting_steps, report_of}
+use Rattle.report_line.specs.Names.{is_name}
+use Rattle.report_line.specs.declared.report.Report.{Report}
+use Rattle.report_line.specs.declared.report.Report.TheVariants.{Begin}
+use Rattle.lawful_reports.specs.HandedOver.{handed_over, HasLine}
 use Rattle.histories.proofs.Bytes.{bytes_same, bytes_other, bytes_are}
 use Rattle.histories.proofs.Status.{status_acts, status_others}
 use Rattle.histories.proofs.Reported.{unborn_reports}
@@ -24,7 +30,7 @@ use Rattle.driver.specs.declared.tables.Tables.{Tables}
 use Rattle.driver.specs.declared.tables.Other.{Other}
 use Rattle.driver.specs.declared.tables.Sent.{Sent}
 use Rattle.driver.specs.declared.tables.Made.{Made}
-use Rattle.driver.specs.Making.{IsReady, Adds}
+use Rattle.driver.specs.Making.{IsReady, HasLineOf, Adds}
 use Rattle.driver.specs.Tables.{AreSound, history_in, shown, carried, kept_of_actor, kept_of_other, kept_of_message, noted_other, noted_message}
 
 -- the stamp 1;0
@@ -136,6 +142,20 @@ messages_next h s m kept is_kept = ap (noted_message (kept_of_message s.deed s.s
 pub child_is_new : (root : Name) (h : History) (b : Event) (s : Taken) → IsAllowed root h b s s.deed → (c : Name) (i : IdTree) → s.deed ≡ Fork c i → status root h c ≡ Unborn
 child_is_new root h b s allowed c i is = (fork_of root h b s c i allowed is).new_name
 
+-- ---- the lines of reports
+
+-- with the line of the new report, if there is one
+lines_with : (xs : List Report) (o : Option Report) → All HasLine xs → ((r : Report) → o ≡ Some r → HasLine r) → All HasLine (xs ++ cons_option o [])
+lines_with xs None all new = subst (λ (l : List Report). All HasLine l) (sym (append-nil xs)) all
+lines_with xs (Some r) all new = All-push HasLine xs r all (new r refl)
+
+lines_next : (root : Name) (h : History) (s : Taken) → All HasLine (handed_over root h) → HasLineOf root h s → All HasLine (handed_over root (s ∷ h))
+lines_next root h s all new = lines_with (handed_over root h) (report_of root h s) all new
+
+-- the line of BEGIN
+first_line : (root : Name) → IsTrue (is_name root) → All HasLine (handed_over root [])
+first_line root is = All-push HasLine [] (Begin root) (All-nil HasLine) (refl, is)
+
 -- ---- the tables after a step
 
 -- what holds of tables, with the root and the history as variables
@@ -143,11 +163,12 @@ record Holds (t : Tables) (root : Name) (h : History) : Type 0 where
   pub lawful : IsLawful root h
   pub known : (p : Name) → get bytes_eq t.known p ≡ shown (status root h p) (reporting_steps p h)
   pub messages : (m : Name) → get bytes_eq t.messages m ≡ carried (sending h m)
+  pub lines : All HasLine (handed_over root h)
 
 sound_of : (t : Tables) (root : Name) (h : History) → t.root ≡ root → history_in t ≡ h → Holds t root h → AreSound t
 sound_of t root h is_root is_history w =
     let there = subst (λ (r : Name). Holds t r (history_in t)) (sym is_root) (subst (λ (g : History). Holds t root g) (sym is_history) w) in
-    record { lawful = there.lawful; known = there.known; messages = there.messages }
+    record { lawful = there.lawful; known = there.known; messages = there.messages; lines = there.lines }
 
 pub adds : (old new : Tables) (made : Made) (name : Name) (between : Name → Option Known) → AreSound old → IsReady old.root (history_in old) made
     → ((q : Name) → between q ≡ noted_other made.other q (get bytes_eq old.known q))
@@ -183,7 +204,7 @@ adds old new made name between sound ready other is_name actor message items roo
         ∙ messages_next h s m (get bytes_eq old.messages m) (sound.messages m))
 
     after : Holds new old.root (s ∷ h)
-    after = record { lawful = next sound.lawful ready.living ready.allowed; known = known; messages = messages }
+    after = record { lawful = next sound.lawful ready.living ready.allowed; known = known; messages = messages; lines = lines_next old.root h s sound.lines ready.line }
 
 -- ---- the tables at the beginning
 
@@ -201,11 +222,11 @@ none_sent : (m : Name) → carried (sending [] m) ≡ None
 unfolding sending
 none_sent m = refl
 
-pub begins : (t : Tables) (first : Stamp) (name : Name) (before : Name → Option Known) → t.steps.items ≡ [] → first ≡ first_stamp → name ≡ t.root
+pub begins : (t : Tables) (first : Stamp) (name : Name) (before : Name → Option Known) → IsTrue (is_name t.root) → t.steps.items ≡ [] → first ≡ first_stamp → name ≡ t.root
     → ((q : Name) → before q ≡ None)
     → ((q : Name) → get bytes_eq t.known q ≡ (if bytes_eq name q then Some (Lives first 0) else before q))
     → ((q : Name) → get bytes_eq t.messages q ≡ None) → AreSound t
-begins t first name before items is_first is_name none known messages =
+begins t first name before is_named items is_first is_name none known messages =
     sound_of t t.root [] refl (ap reverse items) (record {
       lawful = start;
       known = λ p.
@@ -214,4 +235,5 @@ begins t first name before items is_first is_name none known messages =
           ∙ (ap (λ (n : Name). if bytes_eq n p then Some (Lives first 0) else None) is_name
           ∙ root_shown t.root p first is_first));
       messages = λ m. messages m ∙ sym (none_sent m);
+      lines = first_line t.root is_named;
     })

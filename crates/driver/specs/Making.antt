@@ -1,17 +1,25 @@
 -- Working definitions: what the parts of a step answer.
-use Rattle.std.specs.Prelude.{◌≡◌, ◌≢◌, ◌⊎◌, ◌<◌, ◌≤◌, vec_len, vec_capacity, ◌∷◌, Option, Some, None, Result, Ok, Err}
+use Rattle.std.specs.Prelude.{◌≡◌, ◌≢◌, ◌⊎◌, ◌<◌, ◌≤◌, IsTrue, vec_len, vec_capacity, ◌∷◌, Option, Some, None, Result, Ok, Err, ⊤}
 use Rattle.std.specs.Borrow.{Bor}
-use Rattle.id_tree.specs.NormalForm.{depth_limit}
+use Rattle.id_tree.specs.NormalForm.{IsId, depth_limit}
 use Rattle.event_tree.specs.EventTree.{EventTree}
 use Rattle.event_tree.specs.Event.{PassesLimit}
 use Rattle.event_tree.specs.Grown.{IsGrown}
 use Rattle.stamp.specs.declared.stamp.Stamp.{Stamp}
+use Rattle.stamp.specs.Stamps.{IsStamp}
 use Rattle.id_tree.specs.Split.{IsSplit, parts_depth}
 use Rattle.stamp.specs.Operations.{IsEvent, IsFork, IsReceive, IsAbsorb, IsNormalJoin}
 use Rattle.report_line.specs.History.{Name, History, Event, Status, Unborn, Living, Retired, status, sending}
 use Rattle.report_line.specs.declared.step.Step.{Step as Taken}
 use Rattle.report_line.specs.Lawful.{IsAllowed}
-use Rattle.report_line.specs.StepReports.{reporting_steps}
+use Rattle.report_line.specs.StepReports.{reporting_steps, report_of}
+use Rattle.report_line.specs.declared.report.Report.{Report}
+use Rattle.report_line.specs.declared.report.Report.TheVariants.{Begin, Numbered}
+use Rattle.report_line.specs.declared.step.Deed.{Deed}
+use Rattle.report_line.specs.declared.step.Deed.TheVariants.{Fork, Retire, Absorb}
+use Rattle.report_line.specs.Names.{is_name}
+use Rattle.report_line.specs.Spelling.{AreFields}
+use Rattle.lawful_reports.specs.HandedOver.{HasLine}
 use Rattle.driver.specs.declared.step.Act.{Act}
 use Rattle.driver.specs.declared.fault.StepFault.{StepFault}
 use Rattle.driver.specs.declared.fault.StepFault.TheVariants as faults
@@ -120,12 +128,36 @@ pub record HasRoom (t : Tables) : Type 0 where
   pub known : 2 ≤ spare t.known
   pub messages : 0 < spare t.messages
 
--- the step may be added: its process lives, it is allowed, and with it stands what it changes
+-- the report of the step, if it makes one, has a line
+abbrev pub HasLineOf : Name → History → Taken → Type 0
+HasLineOf root h s = (r : Report) → report_of root h s ≡ Some r → HasLine r
+
+-- what the parts of a step have that is kept: its names are names, and its trees are in normal form and within the limits
+abbrev pub HasParts : Deed → Type 0
+HasParts (Fork c i) = IsTrue (is_name c) × IsId i
+HasParts (Retire q) = IsTrue (is_name q)
+HasParts (Absorb r) = IsTrue (is_name r)
+HasParts _ = ⊤
+
+-- the same of the whole step, and of the stamp before it
+pub record HasWholeParts (s : Taken) (old : Stamp) : Type 0 where
+  pub name : IsTrue (is_name s.process)
+  pub stamp : IsStamp s.stamp
+  pub deed : HasParts s.deed
+  pub before : IsStamp old
+
+-- a report that is counted from 1 has a line
+abbrev pub HasLineIfCounted : Report → Type 0
+HasLineIfCounted (Begin p) = IsTrue (is_name p)
+HasLineIfCounted (Numbered r) = r.number ≢ 0 → AreFields r
+
+-- the step may be added: its process lives, it is allowed, with it stands what it changes, and its report has a line
 pub record IsReady (root : Name) (h : History) (made : Made) : Type 0 where
   pub before : Event
   pub living : status root h made.step.process ≡ Living before
   pub allowed : IsAllowed root h before made.step made.step.deed
   pub changes : Changes h made
+  pub line : HasLineOf root h made.step
 
 -- just this step was added
 pub record Adds (old : Tables) (s : Taken) (new : Tables) : Type 0 where

@@ -1,5 +1,5 @@
 -- Working definitions: what is kept of a history beside it.
-use Rattle.std.specs.Prelude.{◌≡◌, ℕ, ◌+◌, Option, Some, None, if◌then◌else◌, reverse}
+use Rattle.std.specs.Prelude.{◌≡◌, ℕ, ◌+◌, Option, Some, None, if◌then◌else◌, reverse, All}
 use Rattle.std.specs.Option.{option_map}
 use Rattle.std.specs.Str.{bytes_eq}
 use Rattle.indexmap.specs.IndexMap.{get}
@@ -10,6 +10,7 @@ use Rattle.report_line.specs.declared.step.Deed.TheVariants.{Work, Check, Presen
 use Rattle.report_line.specs.History.{Name, History, Event, Status, Unborn, Living, Retired, Absorbed, status, sending}
 use Rattle.report_line.specs.Lawful.{IsLawful}
 use Rattle.report_line.specs.StepReports.{reporting_steps, report_of}
+use Rattle.lawful_reports.specs.HandedOver.{handed_over, HasLine}
 use Rattle.driver.specs.Stamping.{stamp_of}
 use Rattle.driver.specs.declared.known.Known.{Known}
 use Rattle.driver.specs.declared.known.Known.TheVariants.{Lives, Waits, Gone}
@@ -33,11 +34,12 @@ carried sent = option_map (λ e. e.values) sent
 abbrev pub history_in : Tables → History
 history_in t = reverse t.steps.items
 
--- what holds of the tables: the history is lawful, and beside each name stands what it says of it
+-- what holds of the tables: the history is lawful, beside each name stands what it says of it, and all its reports have lines
 pub record AreSound (t : Tables) : Type 0 where
   pub lawful : IsLawful t.root (history_in t)
   pub known : (p : Name) → get bytes_eq t.known p ≡ shown (status t.root (history_in t) p) (reporting_steps p (history_in t))
   pub messages : (m : Name) → get bytes_eq t.messages m ≡ carried (sending (history_in t) m)
+  pub lines : All HasLine (handed_over t.root (history_in t))
 
 -- ---- what a step changes
 

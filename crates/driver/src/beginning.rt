@@ -15,6 +15,7 @@ use std::alloc::{AllocError, Global};
 pub(crate) fn begun(alloc: Global, root: Name, epoch: u32) -> Result<Tables, AllocError>
     ensures { IfOk result (λ t. (t.root ≡ root) × (t.epoch ≡ epoch) × (history_in t ≡ []) × AreSound t) }
 {
+    let _name = root.as_bytes();
     let mut known = IndexMap::new(alloc);
     known.reserve(1)?;
     let now = Known::Lives {

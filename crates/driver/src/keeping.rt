@@ -13,6 +13,7 @@ ghost use Rattle.driver.specs.Tables.{AreSound, history_in};
 use crate::beginning::begun;
 use crate::fault::StepFault;
 use crate::known::Known;
+use crate::lining::know_step;
 use crate::making::living;
 use crate::mark::Mark;
 use crate::marking::is_reached;
@@ -75,7 +76,10 @@ fn keep(alloc: Global, tables: &mut Tables, step: &Taken) -> Result<(), StepFaul
     ensures err { IfErr result (λ f. f ≡ StepFault.Memory) }
 {
     let reports = match living(tables, &step.process) {
-        Ok(alive) => alive.reports,
+        Ok(alive) => {
+            know_step(step, alive.stamp);
+            alive.reports
+        }
         Err(_) => unreachable!(),
     };
     let made = match remade(alloc, step, reports) {

@@ -1,6 +1,6 @@
 //! Making the step that is asked, without changing anything.
 
-ghost use Rattle.std.specs.Prelude.{◌≡◌, ◌≢◌, ◌+◌, ◌↔◌, false, IfOk, IfErr, Some, None};
+ghost use Rattle.std.specs.Prelude.{◌≡◌, ◌≢◌, ◌+◌, ◌<◌, ◌^◌, ◌↔◌, false, IfOk, IfErr, OnOk, Some, None};
 ghost use Rattle.id_tree.specs.Points.{OwnsSome, Overlap};
 ghost use Rattle.report_line.specs.History.{Unborn, status};
 ghost use Rattle.driver.specs.Making.{AliveTold, EventTold, ForkTold, ReceiveTold, AbsorbTold, MessageTold, RetirementTold, MakingTold};
@@ -166,6 +166,7 @@ fn silent(
 // The number of the next report.
 pub(crate) fn next_number(reports: u32) -> Result<u32, StepFault>
     ensures ok { IfOk result (λ n. n ≡ reports + 1) }
+    ensures few { OnOk result (reports + 1 < 2 ^ 32) }
     ensures err { IfErr result (λ f. f ≡ StepFault.Memory) }
 {
     if reports == u32::MAX {

@@ -1,6 +1,6 @@
 //! A step that was made, as it is added to other tables.
 
-ghost use Rattle.std.specs.Prelude.{◌≡◌, ◌+◌, IfOk, IfErr, if◌then◌else◌};
+ghost use Rattle.std.specs.Prelude.{◌≡◌, ◌+◌, ◌<◌, ◌^◌, true, IfOk, IfErr, OnOk, if◌then◌else◌};
 ghost use Rattle.report_line.specs.StepReports.{is_reported};
 ghost use Rattle.driver.specs.Tables.{kept_of_other, kept_of_message};
 ghost use Rattle.driver.specs.Keeping.{after_by, IsRemade};
@@ -45,6 +45,7 @@ fn copy_of(alloc: Global, deed: &Deed) -> Result<Deed, AllocError>
 // How many reports it made, with that of the deed.
 fn reports_with(deed: &Deed, reports: u32) -> Result<u32, StepFault>
     ensures ok { IfOk result (λ n. n ≡ (if is_reported deed.now then reports + 1 else reports)) }
+    ensures few { OnOk result (is_reported deed.now ≡ true → reports + 1 < 2 ^ 32) }
     ensures err { IfErr result (λ f. f ≡ StepFault.Memory) }
 {
     match deed {
@@ -130,6 +131,7 @@ fn message_of(alloc: Global, step: &Taken) -> Result<Option<Sent>, AllocError>
 // The step, with what it changes where its process made so many reports before.
 pub(crate) fn remade(alloc: Global, step: &Taken, reports: u32) -> Result<Made, StepFault>
     ensures ok { IfOk result (λ made. IsRemade step.now reports made) }
+    ensures few { OnOk result (is_reported step.now.deed ≡ true → reports + 1 < 2 ^ 32) }
     ensures err { IfErr result (λ f. f ≡ StepFault.Memory) }
 {
     let reports = match reports_with(&step.deed, reports) {

@@ -4,6 +4,9 @@ ghost use Rattle.std.specs.Prelude.{◌≡◌, ◌≢◌, ◌++◌, [], Some, No
 ghost use Rattle.std.specs.List.{cons_option};
 ghost use Rattle.report_line.specs.Lawful.{IsLawful};
 ghost use Rattle.report_line.specs.StepReports.{reports};
+ghost use Rattle.history_law.specs.Places.{IsPremise};
+ghost use Rattle.lawful_reports.specs.HandedOver.{IsReportable};
+ghost use Rattle.driver.specs.Lines.{reported};
 ghost use Rattle.driver.specs.Stamping.{Takes};
 ghost use Rattle.driver.specs.Verdicts.{IsVerdict};
 ghost use Rattle.driver.specs.Making.{MakingTold};
@@ -14,6 +17,7 @@ ghost use Rattle.driver.specs.Settling.{HasUnknownName, IsClosedLine, Settles, R
 use crate::beginning::begun;
 use crate::fault::StepFault;
 use crate::line::NamedPosition;
+use crate::lining::know_made;
 use crate::making::{absorb, check, fork, present, receive, retire, send, work};
 use crate::noting::{add, reserve};
 use crate::settling::settle_on;
@@ -57,9 +61,12 @@ impl World {
         Ok((World { alloc, tables }, Report::Begin { process }))
     }
 
-    /// Tells a proof what holds of each world: its history is a lawful one of its root.
+    /// Tells a proof what holds of each world: its history is a lawful one of its root, what it reported has lines, and that folds
+    /// and agrees with the history.
     pub fn lawful(&self)
-        ensures { IsLawful self.now.root self.now.history }
+        ensures lawful { IsLawful self.now.root self.now.history }
+        ensures reportable { IsReportable self.now.root self.now.history }
+        ensures premise { IsPremise self.now.root self.now.history (reported self.now) }
     {
         let _tables = &self.tables;
     }
@@ -132,6 +139,7 @@ fn take_step(alloc: Global, tables: &mut Tables, asked: &Step) -> Result<Option<
         Ok(made) => made,
         Err(fault) => return Err(fault),
     };
+    know_made(&made.report);
     reserve(tables)?;
     Ok(add(tables, made))
 }

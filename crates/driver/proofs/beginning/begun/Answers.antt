@@ -14,6 +14,6 @@ returns c = (
   refl,
   refl,
   ap reverse c.new.ensures.items,
-  begins _ c.first.result c.copy.result (λ (q : List ℕ). get bytes_eq c.reserve.new.self q) c.new.ensures.items c.first.ensures c.copy.ensures
+  begins _ c.first.result c.copy.result (λ (q : List ℕ). get bytes_eq c.reserve.new.self q) c.as_bytes-name.ensures.name c.new.ensures.items c.first.ensures c.copy.ensures
       (nothing _ (c.reserve.ensures.entries ∙ c.new-known.ensures.empty)) c.note.ensures (nothing _ c.new-2.ensures.empty),
 )

@@ -21,7 +21,7 @@ use Rattle.report_line.specs.declared.step.Deed.{Deed}
 use Rattle.report_line.specs.declared.step.Deed.TheVariants.{Work, Check, Present, Send, Receive, Fork, Retire, Absorb}
 use Rattle.report_line.specs.declared.step.Step.{Step}
 use Rattle.report_line.specs.History.{Name, History, Event, Unborn, Living, Retired, status, last_of}
-use Rattle.report_line.specs.Lawful.{IsSameId, IsAllowed}
+use Rattle.report_line.specs.Lawful.{IsSameId, IsAllowed, IsLawful}
 use Rattle.report_line.specs.StepReports.{id_of, report_by, report_of, reports}
 use Rattle.chains.specs.Processes.{last_events, registered_id, expected_id}
 use Rattle.chains.specs.Admission.{AreGrown}
@@ -149,7 +149,9 @@ of_steps root h r at =
       | inr there ↦ step_of root h (Numbered r) there
     ]
 
+pub premise_if_folded : (root : Name) (h : History) → IsLawful root h → IsFolded (handed_over root h) → IsPremise root h (handed_over root h)
+premise_if_folded root h lawful folded =
+    record { folded = folded; lawful = lawful; agrees = reports_of_steps_agree root h (handed_over root h) folded (begins_with root h) (of_steps root h) }
+
 pub premise_of : (root : Name) (h : History) → IsReportable root h → IsPremise root h (handed_over root h)
-premise_of root h w =
-    let folded = folds root h w in
-    record { folded = folded; lawful = w.lawful; agrees = reports_of_steps_agree root h (handed_over root h) folded (begins_with root h) (of_steps root h) }
+premise_of root h w = premise_if_folded root h w.lawful (folds root h w)

@@ -7,14 +7,18 @@ use Rattle.std.proofs.lemmas.List.Elements.{All-contains}
 use Rattle.histories.proofs.Bytes.{bytes_same, bytes_other}
 use Rattle.report_line.specs.declared.report.Report.{Report}
 use Rattle.report_line.specs.History.{Name}
+use Rattle.report_line.specs.Lawful.{IsLawful}
 use Rattle.chains.specs.declared.position.Position.{Position}
 use Rattle.chains.specs.Folded.{IsFolded}
+use Rattle.chains.specs.Greatest.{IsConsistentCut}
 use Rattle.chains.specs.Positions.{position_in}
 use Rattle.chains.specs.Processes.{known, IsKnown}
 use Rattle.history_law.proofs.Closing.{closed_is_consistent}
 use Rattle.history_law.proofs.Known.{same_number_of}
 use Rattle.history_law.proofs.Lines.{greatest_is_greatest_closed}
 use Rattle.history_law.proofs.Listed.{first_in, later_in, at_in}
+use Rattle.settled_histories.proofs.Keeping.{kept_is_lawful}
+use Rattle.settled_lists.proofs.Agreeing.{closed as closed_by}
 use Rattle.settled_lists.proofs.Standing.{settled_known}
 use Rattle.driver.specs.declared.fault.StepFault.{StepFault}
 use Rattle.driver.specs.declared.fault.StepFault.TheVariants as faults
@@ -22,12 +26,12 @@ use Rattle.driver.specs.declared.line.NamedPosition.{NamedPosition}
 use Rattle.driver.specs.Chronicle.{Chronicle}
 use Rattle.driver.specs.GreatestLines.{GreatestLineIsClosed, RecoveryLineIsTaken, SettlementKeepsReports}
 use Rattle.driver.specs.Lines.{reported, names_of, IsNamedOnce, position_of, positions_by}
-use Rattle.driver.specs.Settling.{HasUnknownName, IsClosedLine, RefusesLine}
+use Rattle.driver.specs.Settling.{HasUnknownName, IsClosedLine, Settles, RefusesLine}
 use Rattle.driver.proofs.Born.{known_is_born}
 use Rattle.driver.proofs.ElementEvents.{reported_of}
 use Rattle.driver.proofs.InLine.{position_at}
 use Rattle.driver.proofs.KeptReports.{kept_hands_over}
-use Rattle.history_law.specs.Places.{IsClosedCut}
+use Rattle.history_law.specs.Places.{IsPremise, IsClosedCut}
 
 -- ---- the greatest cut is a line to return to
 
@@ -110,12 +114,24 @@ recovery_line_is_taken w failed numbers cut line premise set greatest named plac
 
 -- ---- what a settlement keeps of the reports
 
+consistent_line : (old : Chronicle) (failed : List Name) (line : List NamedPosition) → IsPremise old.root old.history (reported old) → (is_line : IsClosedLine old failed line)
+    → IsConsistentCut (reported old) is_line.numbers (positions_by line (reported old))
+consistent_line old failed line premise is_line = record {
+  is_cut = is_line.closed.is_cut;
+  consistent = (closed_is_consistent old.root old.history (reported old) premise is_line.numbers (positions_by line (reported old)) is_line.closed.is_cut).0 is_line.closed.closed;
+}
+
 pub settlement_keeps_reports : SettlementKeepsReports
 settlement_keeps_reports old new failed line premise is_line settles =
-    let positions = positions_by line (reported old) in
     ap (λ (r : Name). reported_of r new.history) settles.root
     ∙ (ap (reported_of old.root) settles.history
-    ∙ kept_hands_over old.root old.history is_line.numbers positions settles.cut premise (record {
-      is_cut = is_line.closed.is_cut;
-      consistent = (closed_is_consistent old.root old.history (reported old) premise is_line.numbers positions is_line.closed.is_cut).0 is_line.closed.closed;
-    }) settles.has_events)
+    ∙ kept_hands_over old.root old.history is_line.numbers (positions_by line (reported old)) settles.cut premise (consistent_line old failed line premise is_line) settles.has_events)
+
+-- and the history stays lawful
+pub settled_is_lawful : (old new : Chronicle) (failed : List Name) (line : List NamedPosition) → IsPremise old.root old.history (reported old) → IsClosedLine old failed line
+    → Settles old line new → IsLawful new.root new.history
+settled_is_lawful old new failed line premise is_line settles =
+    subst (λ (r : Name). IsLawful r new.history) (sym settles.root)
+    (subst (IsLawful old.root) (sym settles.history)
+    (kept_is_lawful old.root old.history settles.cut premise.lawful
+    (closed_by old.root old.history (reported old) is_line.numbers (positions_by line (reported old)) premise settles.cut (consistent_line old failed line premise is_line) settles.has_events)))

@@ -7,6 +7,7 @@ use Rattle.report_line.specs.declared.report.Report.{Report}
 use Rattle.report_line.specs.declared.step.Deed.TheVariants as deeds
 use Rattle.report_line.specs.declared.step.Step.{Step as Taken}
 use Rattle.report_line.specs.History.{Name, History, Event, Living, Retired, status, sending}
+use Rattle.report_line.specs.Lawful.{IsLawful}
 use Rattle.report_line.specs.StepReports.{report_of}
 use Rattle.driver.specs.declared.step.Act.{Act}
 use Rattle.driver.specs.declared.step.Act.TheVariants.{Work, Check, Present, Send, Receive, Fork, Retire, Absorb}
@@ -40,11 +41,12 @@ pub record IsStepAsked (root : Name) (h : History) (a : Step) (s : Taken) : Type
   pub living : status root h s.process ≡ Living before
   pub stamped : IsStamped root h before a.act s
 
--- just the step asked was added, and its report, if it is reported, was given
+-- just the step asked was added, the history is lawful with it, and its report, if it is reported, was given
 pub record Takes (old : Chronicle) (a : Step) (new : Chronicle) (given : Option Report) : Type 0 where
   pub step : Taken
   pub asked : IsStepAsked old.root old.history a step
   pub root : new.root ≡ old.root
   pub epoch : new.epoch ≡ old.epoch
   pub history : new.history ≡ step ∷ old.history
+  pub lawful : IsLawful new.root new.history
   pub report : given ≡ report_of old.root old.history step

@@ -5,3 +5,6 @@ pub mod Settled
 pub mod Taking
 pub mod Front
 pub mod Unsettled
+pub mod OneTurn
+pub mod Behind
+pub mod Known

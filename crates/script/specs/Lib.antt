@@ -3,3 +3,4 @@ pub mod Causes
 pub mod Printed
 pub mod Driven
 pub mod Driving
+pub mod Taken

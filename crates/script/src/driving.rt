@@ -6,6 +6,7 @@ ghost use Rattle.driver.specs.declared.step.Step.{Step as AnyStep};
 ghost use Rattle.script.specs.Driven.{IsDriven, PrintsReports};
 ghost use Rattle.script.specs.Driving.{Begins, GivenTold, StepTold, StopTold, end_by};
 ghost use Rattle.script.specs.Spelling.{SpellsStep, SpellsSettle};
+ghost use Rattle.script.specs.Taken.{ChainsHoldTheReports, KnownSettlementIsClosed, KnownSettlementIsTaken};
 
 use crate::end::{Cause, End};
 use crate::naming::line_for;
@@ -182,4 +183,12 @@ pub fn drive(alloc: Global, script: &[u8]) -> (Vec<u8>, End)
 /// A script without settlements prints the reports of its world.
 pub fn a_script_without_settlements_prints_the_reports()
     ensures { PrintsReports }
+{}
+
+/// Where the chains accepted each line that a script printed, they hold what its world reported, and are in its epoch. So a line that
+/// settles for known processes is taken, want of memory aside.
+pub fn a_settlement_for_known_processes_is_taken()
+    ensures held { ChainsHoldTheReports }
+    ensures closed { KnownSettlementIsClosed }
+    ensures taken { KnownSettlementIsTaken }
 {}

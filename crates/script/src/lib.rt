@@ -11,7 +11,10 @@ mod printing;
 mod reading;
 mod settle_lines;
 
-pub use driving::{a_script_without_settlements_prints_the_reports, cut_line, drive};
+pub use driving::{
+    a_script_without_settlements_prints_the_reports, a_settlement_for_known_processes_is_taken,
+    cut_line, drive,
+};
 pub use end::{Cause, End};
 pub use naming::line_for;
 pub use reading::{a_line_has_one_step, read_root, read_step};

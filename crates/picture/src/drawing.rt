@@ -36,7 +36,7 @@ markerUnits=\"userSpaceOnUse\" orient=\"auto\"><path d=\"M0 0 L8 4 L0 8 z\" fill
 /// How settlements look, in pictures that have one.
 const SETTLED_LOOKS: &[u8] =
     b"<style>.settled{fill:none;stroke:#2e7d32;stroke-width:2;stroke-dasharray:6 4;stroke-linejoin:round}\
-.epoch{fill:#2e7d32;stroke:#2e7d32;stroke-width:1;stroke-dasharray:1 3}</style>\n";
+.epoch{stroke:#2e7d32;stroke-width:1;stroke-dasharray:1 3}.return{fill:#2e7d32}</style>\n";
 
 /// Why there is no picture.
 enum Undrawn {

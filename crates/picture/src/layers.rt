@@ -14,15 +14,28 @@ use std::alloc::AllocError;
 /// Where the word above a settlement stands.
 const ABOVE: u64 = 44;
 
-/// Hatches what is obsolete of a process: what stands in front of the place at which its line is crossed.
-fn draw_obsolete_part(svg: &mut Vec<u8>, row: Row<'_>) -> Result<(), AllocError> {
-    let from = row.x(row.lane.birth);
+/// Hatches what is obsolete of a part of a life: what stands in front of the place at which the process's line is crossed.
+fn draw_obsolete_span(svg: &mut Vec<u8>, row: Row<'_>, span: Span) -> Result<(), AllocError> {
+    let from = row.turn(span.from, span.is_from_behind);
     // The place itself is not obsolete, so the hatching ends in front of its mark.
-    let to = row.crossing.saturating_sub(20);
+    let to = row
+        .turn(span.to, span.is_to_behind)
+        .min(row.crossing.saturating_sub(20));
     if from >= to {
         return Ok(());
     }
     rectangle(svg, b"obsolete", (from, row.y() - 9), (to - from, 18))
+}
+
+/// Hatches what is obsolete of a process.
+fn draw_obsolete_part(svg: &mut Vec<u8>, row: Row<'_>) -> Result<(), AllocError> {
+    for span in &row.lane.lives {
+        draw_obsolete_span(svg, row, *span)?;
+    }
+    match row.lane.present_life() {
+        None => Ok(()),
+        Some(span) => draw_obsolete_span(svg, row, span),
+    }
 }
 
 /// Hatches what is obsolete of each process: what stands in front of this line.
@@ -361,7 +374,7 @@ fn draw_settling(
     close_text(svg)?;
     for of_process in &settlement.returns {
         if goes_on(of_process.position) {
-            circle(svg, b"epoch", (x, frame.y(of_process.lane)), 4)?;
+            circle(svg, b"return", (x, frame.y(of_process.lane)), 4)?;
         }
     }
     Ok(())

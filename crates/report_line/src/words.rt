@@ -1,6 +1,6 @@
 //! The words of a line, one after the other. They take no memory.
 
-ghost use Rattle.std.specs.Prelude.{◌≡◌, ◌↔◌, ◌++◌, ◌∷◌, [], IsTrue, MatchOption};
+ghost use Rattle.std.specs.Prelude.{◌≡◌, ◌↔◌, ◌++◌, ◌∷◌, [], IfNone, IsTrue, MatchOption};
 ghost use Rattle.report_line.specs.Cuts.{Lacks, words_in};
 
 use std::marker::Model;
@@ -49,7 +49,8 @@ impl<'a> Words<'a> {
 
     /// The next word.
     pub fn next(&mut self) -> Option<&'a [u8]>
-        ensures { MatchOption result (self.old ≡ []) (λ word. self.old ≡ word.now ∷ self.new) }
+        ensures word { MatchOption result (self.old ≡ []) (λ word. self.old ≡ word.now ∷ self.new) }
+        ensures end { IfNone result (self.new ≡ []) }
     {
         let rest = self.rest?;
         match cut_once(b' ', rest) {

@@ -1,10 +1,9 @@
 -- The records of a file as turns from nothing.
-use Rattle.std.proofs.Common.{◌≡◌, ℕ, ◌+◌, ◌-◌, Bool, false, List, [], ◌∷◌, ◌++◌, refl, sym, ◌∙◌, ap, subst, append_assoc, arith}
+use Rattle.std.proofs.Common.{◌≡◌, ℕ, ◌+◌, ◌-◌, Bool, false, List, [], ◌∷◌, ◌++◌, length, refl, sym, ◌∙◌, ap, subst, append_assoc, length-append, arith}
 use Rattle.record_file.specs.File.{Said}
 use Rattle.report_line.specs.Spelling.{spelling}
 use Rattle.report_line.specs.declared.call.Call.{Call}
 use Rattle.report_line.specs.declared.call.Call.TheVariants as calls
-use Rattle.report_line.specs.declared.marked.MarkedReport.{MarkedReport}
 use Rattle.report_line.specs.declared.report.Report.{Report}
 use Rattle.report_line.specs.declared.reply.Reply.{Reply}
 use Rattle.report_line.specs.declared.reply.Reply.TheVariants.{Accepted, Settled}
@@ -13,7 +12,7 @@ use Rattle.chains.specs.Turns.{fine, IsReported, IsSettleAnswered, IsTurn}
 use Rattle.settled_turns.specs.Traces.{Trace, Stepped, Turned, turns_of, AreTurns}
 use Rattle.settled_turns.proofs.Following.{from_nothing}
 use Rattle.settled_turns.proofs.Parted.{turns_alone}
-use Rattle.desk.specs.Records.{said_of, line_of, settle_line, marked, recorded_by, IsLineOf, AdmitsCall, Admits, Opens, no_records, one_more}
+use Rattle.desk.specs.Records.{line_of, settle_line, marked, recorded_by, IsLineOf, AdmitsCall, Opens, no_records, one_more}
 use Rattle.desk.proofs.Recording.{still_goes}
 use Rattle.session.specs.Current.{recorded_in, EachFileTellsARun}
 
@@ -77,11 +76,12 @@ pub record AreOfTurns (said : List Said) (held : Held) : Type 0 where
   pub turns : Trace
   pub alone : turns_of turns ≡ turns
   pub recorded : recorded_in turns ≡ said
+  pub count : length turns ≡ length said
   pub are : AreTurns (counting []) turns held
   pub goes : held.stopped ≡ false
 
 of_turns : {said : List Said} {held : Held} → Opens said held → AreOfTurns said held
-of_turns no_records = record { turns = []; alone = refl; recorded = refl; are = refl; goes = refl }
+of_turns no_records = record { turns = []; alone = refl; recorded = refl; count = refl; are = refl; goes = refl }
 of_turns (one_more {said = said} {held = held} one after opens admits) =
     let w = of_turns opens in
     let t = turn_for held one admits.call after w.goes admits.is_line admits.admits in
@@ -89,6 +89,7 @@ of_turns (one_more {said = said} {held = held} one after opens admits) =
       turns = w.turns ++ Turned t.call t.reply ∷ [];
       alone = alone_push w.turns t.call t.reply w.alone;
       recorded = recorded_push w.turns t.call t.reply one t.recorded ∙ ap (λ (l : List Said). l ++ one ∷ []) w.recorded;
+      count = omega (arith, length-append w.turns (Turned t.call t.reply ∷ []), length-append said (one ∷ []), w.count);
       are = turns_push (counting []) held after w.turns t.call t.reply w.are t.turn;
       goes = t.goes;
     }
@@ -99,6 +100,7 @@ each_file_tells_a_run said held opens =
       w.turns,
       w.alone,
       w.recorded,
+      w.count,
       w.are,
       λ root trace front processes.
           from_nothing root held trace ((turns_alone (counting []) held trace).0 (subst (λ (t : Trace). AreTurns (counting []) t held) (sym front) w.are)) processes,

@@ -1,4 +1,4 @@
--- Exchanges over runs: each LINE is right for the current history, and not below an earlier garbage line.
+-- Exchanges and turns over runs: each LINE is right for the current history, and not below an earlier garbage line.
 use Rattle.std.proofs.Common.{◌≡◌, ℕ, ◌+◌, ◌<◌, ◌∙◌, ◌++◌, List, [], ◌∷◌, length, sym, subst, inl, inr, append_assoc, arith}
 use Rattle.std.specs.Prelude.{Contains}
 use Rattle.std.proofs.lemmas.Option.{slice_get_cases}
@@ -14,15 +14,16 @@ use Rattle.history_law.specs.Headline.{IsRightLine}
 use Rattle.propagate.proofs.Certified.{certified_is_greatest}
 use Rattle.settled_lists.specs.Runs.{Run, IsObeyed}
 use Rattle.settled_turns.specs.Obeyed.{IsHeldAfter}
-use Rattle.settled_turns.specs.Traces.{Trace, turns_of, AreTurns, Extends, ProcessesObey}
+use Rattle.settled_turns.specs.Traces.{Trace, Stepped, Turned, turns_of, AreTurns, Extends, ProcessesObey}
 use Rattle.settled_turns.proofs.Following.{the_run_is_obeyed, turns_make_a_run, headline_of_turns}
-use Rattle.settled_turns.proofs.Parted.{turns_alone, processes_obey_in_parts, no_line_is_below_earlier_garbage, who_is_gone_was_unborn_then}
+use Rattle.settled_turns.proofs.Parted.{turns_alone, turns_in_parts, processes_obey_in_parts, no_line_is_below_earlier_garbage, who_is_gone_was_unborn_then}
 use Rattle.desk.specs.declared.turn.Turn.{Turn}
-use Rattle.desk.specs.Replays.{ReplaysFrom}
+use Rattle.desk.specs.Replays.{Replays, ReplaysFrom}
+use Rattle.desk.proofs.OneTurn.{turn_once}
 use Rattle.session.specs.SessionText.{Exchange}
 use Rattle.session.specs.Turned.{ComeTo}
 use Rattle.session.specs.Headline.{AsksForLine}
-use Rattle.session.specs.Current.{traced, IsRightNow, EachLineIsRightNow, trace_of, EachSharedLineIsRightNow, NoLineIsBelowGarbage}
+use Rattle.session.specs.Current.{traced, IsRightNow, EachLineIsRightNow, trace_of, EachSharedLineIsRightNow, AreInOrder, NoLineIsBelowGarbage, NoSharedLineIsBelowGarbage}
 
 -- ---- exchanges as turns of a trace
 
@@ -75,12 +76,16 @@ right_text_now root run now held at names text trace obeyed holds turns processe
       line = w.1 is.certificate.failed (positions_of is.certificate.line) (certified_is_greatest at is.certificate (lawful at.accepted w.0.folded) is.certifies);
     }
 
+replayed : (opening at : Held) (ts : List Turn) (trace : Trace) → turns_of trace ≡ trace_of ts → Replays opening ts at → AreTurns opening trace at
+replayed opening at ts trace front replays =
+    (turns_alone opening at trace).0 (subst (λ (t : Trace). AreTurns opening t at) (sym front) (replayed_turns 0 opening at ts replays))
+
 pub each_shared_line_is_right_now : EachSharedLineIsRightNow
 each_shared_line_is_right_now root run opening ts entry text trace obeyed holds rightly shown front processes =
     let shows = rightly text shown in
     let at : Held = shows.0 in
     let line = shows.2 in
-    let turns = (turns_alone opening at trace).0 (subst (λ (t : Trace). AreTurns opening t at) (sym front) (replayed_turns 0 opening at _ shows.1)) in
+    let turns = replayed opening at _ trace front shows.1 in
     let now = turns_make_a_run root run opening at trace obeyed holds turns processes in
     (now.0, now.1, (at, shows.1, (line.0, line.1, right_text_now root run now.0 opening at line.0 text trace obeyed holds turns processes now.1 line.2)))
 
@@ -93,10 +98,10 @@ all_failed held names c for_names all q lt = elim (slice_get_cases (known held.a
   | inr past ↦ absurd (omega (arith, past.0))
 ]
 
-pub no_line_is_below_garbage : NoLineIsBelowGarbage
-no_line_is_below_garbage root run held first at exchanges before between later collected exchange lowest text earlier trace obeyed holds right same asks low shown comes more front_turns next_turns processes =
-    let turns = are_turns held first before earlier front_turns comes in
-    let rest = are_turns first at (collected ∷ between) trace next_turns more in
+-- the text of a line over what is held behind both parts of a trace, and that of the line for all over what was held behind the first
+in_order : (root : Name) (run : Run) (held first at : Held) (earlier trace : Trace) (all names : List Name) (lowest text : List ℕ) → IsObeyed root run → IsHeldAfter run held → AreTurns held earlier first
+    → AreTurns first trace at → ProcessesObey root run (earlier ++ trace) → all ≡ known first.accepted → IsLineText first all lowest → IsLineText at names text → AreInOrder first at lowest text
+in_order root run held first at earlier trace all names lowest text obeyed holds turns rest processes each garbage line =
     let front = (processes_obey_in_parts root run run earlier trace processes).0 in
     let middle = turns_make_a_run root run held first earlier obeyed holds turns front in
     let mid = the_run_is_obeyed root run middle.0 held first earlier obeyed holds turns front middle.1 in
@@ -104,16 +109,55 @@ no_line_is_below_garbage root run held first at exchanges before between later c
     let last = turns_make_a_run root middle.0 first at trace mid.0 mid.1 rest next in
     let front_premise = (headline_of_turns root run middle.0 held first earlier obeyed holds turns front middle.1).0 in
     let there = (headline_of_turns root middle.0 last.0 first at trace mid.0 mid.1 rest next last.1).0 in
+    let failed = all_failed first all garbage.certificate garbage.for_names each in
+    let greatest = certified_is_greatest first garbage.certificate (lawful first.accepted front_premise.folded) garbage.certifies in
+    record {
+      garbage = garbage.certificate;
+      garbage_is = garbage.text_is;
+      certificate = line.certificate;
+      text_is = line.text_is;
+      below = λ i p is. no_line_is_below_earlier_garbage root run held first at earlier trace garbage.certificate.failed line.certificate.failed (positions_of garbage.certificate.line) (positions_of line.certificate.line) i p obeyed holds turns rest processes failed greatest
+          (certified_is_greatest at line.certificate (lawful at.accepted there.folded) line.certifies) is;
+      gone = λ p unknown. who_is_gone_was_unborn_then root run held first at earlier trace garbage.certificate.failed (positions_of garbage.certificate.line) p obeyed holds turns rest processes failed greatest unknown;
+    }
+
+-- what is right is the text of a line
+line_text : (held : Held) (names : List Name) (text : List ℕ) → IsRightLine held names text → IsLineText held names text
+line_text held names text right = record {
+  certificate = right.certificate;
+  for_names = right.for_names;
+  certifies = right.certifies;
+  text_is = right.text_is;
+}
+
+pub no_line_is_below_garbage : NoLineIsBelowGarbage
+no_line_is_below_garbage root run held first at exchanges before between later collected exchange lowest text earlier trace obeyed holds right same asks low shown comes more front_turns next_turns processes =
+    let turns = are_turns held first before earlier front_turns comes in
+    let rest = are_turns first at (collected ∷ between) trace next_turns more in
     let g = right before (between ++ exchange ∷ later) collected lowest first same comes low in
     let c = right (before ++ collected ∷ between) later exchange text at (same ∙ sym (append_assoc before (collected ∷ between) (exchange ∷ later))) (come_on held first at before (collected ∷ between) comes more) shown in
-    let all = all_failed first g.0 g.2.certificate g.2.for_names (subst (λ (call : Call). AsksForLine first call g.0) asks g.1) in
-    let greatest = certified_is_greatest first g.2.certificate (lawful first.accepted front_premise.folded) g.2.certifies in
-    record {
-      garbage = g.2.certificate;
-      garbage_is = g.2.text_is;
-      certificate = c.2.certificate;
-      text_is = c.2.text_is;
-      below = λ i p is. no_line_is_below_earlier_garbage root run held first at earlier trace g.2.certificate.failed c.2.certificate.failed (positions_of g.2.certificate.line) (positions_of c.2.certificate.line) i p obeyed holds turns rest processes all greatest
-          (certified_is_greatest at c.2.certificate (lawful at.accepted there.folded) c.2.certifies) is;
-      gone = λ p unknown. who_is_gone_was_unborn_then root run held first at earlier trace g.2.certificate.failed (positions_of g.2.certificate.line) p obeyed holds turns rest processes all greatest unknown;
-    }
+    let each = subst (λ (call : Call). AsksForLine first call g.0) asks g.1 in
+    in_order root run held first at earlier trace g.0 c.0 lowest text obeyed holds turns rest processes each (line_text first g.0 lowest g.2) (line_text at c.0 text c.2)
+
+-- ---- nor is one of those who share a desk
+
+-- the turns of a trace come to one thing
+turns_once : (held a b : Held) (trace : Trace) → AreTurns held trace a → AreTurns held trace b → a ≡ b
+turns_once held a b [] first second = first ∙ sym second
+turns_once held a b (Stepped e s ∷ trace) first second = turns_once held a b trace first second
+turns_once held a b (Turned call reply ∷ trace) (mid, turned, later) (other, took, more) =
+    turns_once other a b trace (subst (λ (h : Held). AreTurns h trace a) (turn_once held mid other call reply turned took) later) more
+
+pub no_shared_line_is_below_garbage : NoSharedLineIsBelowGarbage
+no_shared_line_is_below_garbage root run opening ts collected entry lowest text earlier trace obeyed holds rightly right asks low shown front whole processes =
+    let g = rightly lowest low in
+    let c = right text shown in
+    let first : Held = g.0 in
+    let at : Held = c.0 in
+    let garbage = g.2 in
+    let line = c.2 in
+    let turns = replayed opening first _ earlier front g.1 in
+    let parts = turns_in_parts opening at earlier trace (replayed opening at _ (earlier ++ trace) whole c.1) in
+    let rest = subst (λ (h : Held). AreTurns h trace at) (turns_once opening parts.0 first earlier parts.1 turns) parts.2 in
+    let each = subst (λ (call : Call). AsksForLine first call garbage.0) asks garbage.1 in
+    (first, g.1, (at, c.1, in_order root run opening first at earlier trace garbage.0 line.0 lowest text obeyed holds turns rest processes each garbage.2 line.2))

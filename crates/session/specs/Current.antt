@@ -1,5 +1,5 @@
 -- The headline for each LINE of a session, over the current history: what was made and was not undone by a settlement.
-use Rattle.std.specs.Prelude.{◌≡◌, ℕ, ◌-◌, List, [], ◌∷◌, ◌++◌, take, Some}
+use Rattle.std.specs.Prelude.{◌≡◌, ℕ, ◌-◌, List, [], ◌∷◌, ◌++◌, length, take, Some}
 use Rattle.record_file.specs.File.{Said}
 use Rattle.report_line.specs.declared.call.Call.TheVariants as calls
 use Rattle.report_line.specs.declared.reply.Reply.TheVariants.{Line}
@@ -98,6 +98,18 @@ EachSharedLineIsRightNow =
     × ((at : Held) × Replays opening (take (entry.receipt.turn - 1) turns) at
     × ((names : List Name) × AsksForLine at entry.call names × IsRightNow root now at names text))
 
+-- Nor is a LINE below an earlier one for GARBAGE, whoever of the clients asked for either: of two entries, of one pass or of two, where
+-- what happened before the turn of the one for GARBAGE is the first part of what happened before the turn of the other.
+abbrev pub NoSharedLineIsBelowGarbage : Type 0
+NoSharedLineIsBelowGarbage =
+    (root : Name) (run : Run) (opening : Held) (turns : List Turn) (collected entry : PassEntry) (lowest text : List ℕ) (earlier trace : Trace)
+    → IsObeyed root run → IsHeldAfter run opening → ShowsRightly opening turns collected → ShowsRightly opening turns entry
+    → collected.call ≡ calls.Garbage → collected.shown ≡ Line lowest → entry.shown ≡ Line text
+    → turns_of earlier ≡ trace_of (take (collected.receipt.turn - 1) turns)
+    → turns_of (earlier ++ trace) ≡ trace_of (take (entry.receipt.turn - 1) turns) → ProcessesObey root run (earlier ++ trace)
+    → (first : Held) × Replays opening (take (collected.receipt.turn - 1) turns) first
+    × ((at : Held) × Replays opening (take (entry.receipt.turn - 1) turns) at × AreInOrder first at lowest text)
+
 -- ---- files
 
 -- the records of these turns: one for each that was answered OK or SETTLED, in order
@@ -106,12 +118,12 @@ recorded_in [] = []
 recorded_in (Stepped e s ∷ trace) = recorded_in trace
 recorded_in (Turned call reply ∷ trace) = recorded_by call reply ++ recorded_in trace
 
--- A file that is opened tells a run: its records are those of turns which come, from nothing, to what is held at the opening. And with
--- whatever steps of processes that obey between these turns, they make a run that is obeyed, and this is what is held behind it: so all
--- that is said here of exchanges and of shared desks may begin at an opening.
+-- A file that is opened tells a run: its records are those of turns, as many as there are records, which come, from nothing, to what is
+-- held at the opening. And with whatever steps of processes that obey between these turns, they make a run that is obeyed, and this is
+-- what is held behind it: so all that is said here of exchanges and of shared desks may begin at an opening.
 abbrev pub EachFileTellsARun : Type 0
 EachFileTellsARun =
     (said : List Said) (held : Held) → Opens said held
-    → (turns : Trace) × (turns_of turns ≡ turns) × (recorded_in turns ≡ said) × AreTurns (counting []) turns held
+    → (turns : Trace) × (turns_of turns ≡ turns) × (recorded_in turns ≡ said) × (length turns ≡ length said) × AreTurns (counting []) turns held
     × ((root : Name) (trace : Trace) → turns_of trace ≡ turns → ProcessesObey root [] trace
     → (run : Run) × Extends root [] trace run × IsObeyed root run × IsHeldAfter run held)

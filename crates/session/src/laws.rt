@@ -9,7 +9,7 @@ ghost use Rattle.chains.specs.Folded.{IsReached};
 ghost use Rattle.desk.specs.Lawful.{unstopped};
 ghost use Rattle.session.specs.declared.kind.Kind.TheVariants as kinds;
 ghost use Rattle.session.specs.ChosenText.{IsChosenText};
-ghost use Rattle.session.specs.Current.{EachFileTellsARun, EachLineIsRightNow, EachSharedLineIsRightNow, NoLineIsBelowGarbage};
+ghost use Rattle.session.specs.Current.{EachFileTellsARun, EachLineIsRightNow, EachSharedLineIsRightNow, NoLineIsBelowGarbage, NoSharedLineIsBelowGarbage};
 ghost use Rattle.session.specs.OneText.{IsUndisturbed};
 ghost use Rattle.session.specs.SessionText.{Exchange, Grounds, IsSession, Mean, joined, session_text};
 ghost use Rattle.session.specs.Turned.{Served, ShowsFailure, ComeTo};
@@ -35,8 +35,9 @@ pub fn exchanges_keep_lists()
 pub fn each_line_is_right_for_the_current_history()
     ensures now { EachLineIsRightNow }
     ensures garbage { NoLineIsBelowGarbage }
-    // The same where clients share a desk.
+    // The same two where clients share a desk.
     ensures shared { EachSharedLineIsRightNow }
+    ensures shared_garbage { NoSharedLineIsBelowGarbage }
     // What this starts from is there when a file is opened.
     ensures file { EachFileTellsARun }
 {}

@@ -2,10 +2,11 @@
 
 ghost use Rattle.std.specs.Prelude.{◌≡◌, ◌<◌, ◌≤◌, [], IfOk, IfErr, OnOk, OnErr};
 ghost use Rattle.report_line.specs.declared.call.Call.TheVariants as calls;
+ghost use Rattle.chains.specs.Held.{held_of};
 ghost use Rattle.desk.specs.Files.{IsShort};
 ghost use Rattle.coordinator.specs.Passes.{IsPlain, IsAnswered, IsNewPass, line_call};
 ghost use Rattle.coordinator.specs.Calls.{IsForeignOnly};
-ghost use Rattle.coordinator.specs.Closing.{IsEnded};
+ghost use Rattle.coordinator.specs.Closing.{IsAuditCause, IsEnded, IsRefused};
 
 use crate::auditing::audit;
 use crate::fault::{CallFault, CloseFault, PassFault};
@@ -141,7 +142,8 @@ impl<L: Ledger, D: Disk> Coordinator<L, D> {
 
     /// The next pass: 8,192 are handed out at most.
     pub fn pass<R: Wait>(&self, rt: &R) -> Result<Pass<L>, PassFault>
-        ensures { IfOk result IsNewPass }
+        ensures ok { IfOk result IsNewPass }
+        ensures err { IfErr result (λ fault. fault ≡ PassFault.Worn) }
     {
         match self.locked.lock(rt).pass(self.alloc) {
             Some(pass) => Ok(pass),
@@ -230,6 +232,7 @@ impl<L: Ledger, D: Disk> Coordinator<L, D> {
     pub fn close(self, passes: Vec<Pass<L>>) -> Result<Ended<D>, Unclosed<L, D>>
         ensures ok { IfOk result (λ e. IsEnded D.keeps D.view self passes.items e.turns e.front e.disk) }
         ensures err { IfErr result (λ u. (u.coordinator ≡ self) × (u.passes.items ≡ passes.items)) }
+        ensures cause { IfErr result (λ u. IsRefused D.keeps D.view self passes.items u.fault) }
     {
         let Coordinator {
             alloc,
@@ -237,25 +240,43 @@ impl<L: Ledger, D: Disk> Coordinator<L, D> {
             locked,
             workers,
         } = self;
-        let locked = locked.into_inner();
-        if let Err(fault) = audit(&opening, locked.desk(), passes.as_slice()) {
-            let coordinator = Coordinator {
-                alloc,
-                opening,
-                locked: Mutex::new(locked),
-                workers,
-            };
-            return Err(Unclosed {
-                fault,
-                coordinator,
-                passes,
-            });
+        match conclude(&opening, locked.into_inner(), passes.as_slice()) {
+            Ok(ended) => Ok(ended),
+            Err((fault, locked)) => {
+                locked.desk().lawful();
+                let coordinator = Coordinator {
+                    alloc,
+                    opening,
+                    locked: Mutex::new(locked),
+                    workers,
+                };
+                Err(Unclosed {
+                    fault,
+                    coordinator,
+                    passes,
+                })
+            }
         }
-        let desk = locked.into_desk();
-        desk.lawful();
-        let turns = desk.turns().len() as u32;
-        let front = desk.front();
-        let disk = desk.close();
-        Ok(Ended { disk, front, turns })
     }
+}
+
+/// What is left where the passes show each turn once, and the right lines; or why they do not, and all that lay under the lock, as it was.
+fn conclude<L: Ledger, D: Disk>(
+    opening: &Chains,
+    locked: Locked<L, D>,
+    passes: &[Pass<L>],
+) -> Result<Ended<D>, (CloseFault, Locked<L, D>)>
+    ensures ok { IfOk result (λ e. IsEnded D.keeps D.view (held_of opening.now) passes.now e.turns e.front e.disk) }
+    ensures same { IfErr result (λ r. r.1 ≡ locked) }
+    ensures cause { IfErr result (λ r. IsAuditCause (held_of opening.now) locked.desk passes.now r.0) }
+{
+    if let Err(fault) = audit(opening, locked.desk(), passes) {
+        return Err((fault, locked));
+    }
+    let desk = locked.into_desk();
+    desk.lawful();
+    let turns = desk.turns().len() as u32;
+    let front = desk.front();
+    let disk = desk.close();
+    Ok(Ended { disk, front, turns })
 }

@@ -1,13 +1,11 @@
 -- How a service ends, by how its parts ended.
-use Rattle.std.proofs.Common.{◌≡◌, ◌≢◌, ◌⊎◌, inl, inr, ℕ, List, length, ◌++◌, ◌∙◌, sym, ap, append_assoc, subst, Option, Some, None}
+use Rattle.std.proofs.Common.{◌≡◌, ◌⊎◌, inl, inr, ℕ, List, length, ◌++◌, ◌∙◌, sym, ap, append_assoc, subst, Option, Some, None}
 use Rattle.line_disk.specs.Disk.{View}
 use Rattle.chains.specs.Held.{Held}
 use Rattle.coordinator.specs.Passes.{PassState}
-use Rattle.coordinator.specs.declared.fault.CloseFault.{CloseFault}
-use Rattle.coordinator.specs.declared.fault.CloseFault.TheVariants as faults
 use Rattle.client_link.specs.Links.{LinkState}
 use Rattle.recline.specs.Driving.{WritesAll, WritesPart}
-use Rattle.recline.specs.Serving.{AreServed, EndsShort, EndsWith, IsServed, IsStopped, PrintsPort, PrintsSome, StopsBehind, WritesPort, end_line, port_line, stopped_by}
+use Rattle.recline.specs.Serving.{AreServed, EndsShort, EndsWith, IsServed, IsStopped, PrintsPort, PrintsSome, StopsBehind, WritesPort, end_line, port_line}
 use Rattle.recline.specs.declared.serving.Stop.{Stop}
 use Rattle.recline.specs.declared.serving.Stop.TheVariants as stops
 use Rattle.recline.proofs.Passes.{appends_then}
@@ -30,10 +28,10 @@ writes_port (Some stop) old new (port, inl all) = (port, inl all)
 writes_port (Some stop) old new (port, inr (device, part)) = (port, inr part)
 
 -- the sessions were served to their end
-pub ends_served : {D : Type 0} (keeps : D → Type 0) (view : D → View) (opening : Held) (sessions : ℕ) (passes : List PassState) (before behind : Option Stop) (old between new : LinkState) (disk : D)
-    → AreServed passes → StopsBehind before (length passes) sessions behind → PrintsPort before old between → behind ≡ None → EndsWith keeps view opening passes between new disk
-    → IsServed keeps view opening sessions old new disk
-ends_served keeps view opening sessions passes before behind old between new disk served why printed none ends =
+pub ends_served : {D : Type 0} (keeps : D → Type 0) (view : D → View) (opening : Held) (sessions dropped : ℕ) (passes : List PassState) (before behind : Option Stop) (old between new : LinkState) (disk : D)
+    → AreServed passes dropped → StopsBehind before (length passes) sessions behind → PrintsPort before old between → behind ≡ None → EndsWith keeps view opening passes between new disk
+    → IsServed keeps view opening sessions dropped old new disk
+ends_served keeps view opening sessions dropped passes before behind old between new disk served why printed none ends =
     let all_served : StopsBehind before (length passes) sessions None = subst (λ (o : Option Stop). StopsBehind before (length passes) sessions o) none why in
     let port : PrintsPort None old between = subst (λ (o : Option Stop). PrintsPort o old between) all_served.0 printed in
     record {
@@ -56,7 +54,7 @@ port_alone served sessions front stop before old new (inl same) printed = go (su
     go : PrintsPort (Some stop) old new → PrintsSome served sessions front stop old new
     go (port, inl all) = (port, inl all)
     go (port, inr (device, part)) = (port, inr (device, inl part))
-port_alone served sessions front stop before old new (inr (none, memory)) printed =
+port_alone served sessions front stop before old new (inr (none, others, memory)) printed =
     let port : PrintsPort None old new = subst (λ (o : Option Stop). PrintsPort o old new) none printed in
     (port.0, inl port.1)
 
@@ -68,13 +66,13 @@ port_and_part served sessions front stop before old between new why printed devi
     (port.0, inr (device, inr (why.1, part_then old between new (port_line port.0) (end_line front) port.1 part)))
 
 -- the service stopped
-pub ends_stopped : {D : Type 0} (keeps : D → Type 0) (view : D → View) (opening : Held) (sessions : ℕ) (passes : List PassState) (before behind : Option Stop) (old between new : LinkState) (disk : Option D) (stop : Stop)
-    → AreServed passes → StopsBehind before (length passes) sessions behind → PrintsPort before old between → EndsShort keeps view opening passes behind between new disk stop
+pub ends_stopped : {D : Type 0} (keeps : D → Type 0) (view : D → View) (opening : Held) (sessions dropped : ℕ) (passes : List PassState) (before behind : Option Stop) (old between new : LinkState) (disk : Option D) (stop : Stop)
+    → AreServed passes dropped → StopsBehind before (length passes) sessions behind → PrintsPort before old between → EndsShort keeps view opening passes behind between new disk stop
     → IsStopped keeps view opening sessions old new disk stop
-ends_stopped keeps view opening sessions passes before behind old between new None stop served why printed (other, same) =
-    (other, subst (λ (s : LinkState). WritesPort old s) (sym same) (writes_port before old between printed))
-ends_stopped keeps view opening sessions passes before behind old between new (Some disk) stop served why printed ends =
-    record { passes = passes; turns = ends.turns; front = ends.front; ends = ends.ends; served = served; printed = go ends.told }
+ends_stopped keeps view opening sessions dropped passes before behind old between new None stop served why printed ((fault, refused, is), same) =
+    (inr (record { passes = passes; dropped = dropped; fault = fault; served = served; refused = refused; stop_is = is }), subst (λ (s : LinkState). WritesPort old s) (sym same) (writes_port before old between printed))
+ends_stopped keeps view opening sessions dropped passes before behind old between new (Some disk) stop served why printed ends =
+    record { passes = passes; dropped = dropped; turns = ends.turns; front = ends.front; ends = ends.ends; served = served; printed = go ends.told }
   where
     go : ((behind ≡ Some stop) × (new ≡ between)) ⊎ ((behind ≡ None) × (stop ≡ stops.Device) × WritesPart between new (end_line ends.front))
         → PrintsSome (length passes) sessions ends.front stop old new
@@ -83,9 +81,3 @@ ends_stopped keeps view opening sessions passes before behind old between new (S
         (port_alone (length passes) sessions ends.front stop before old between (subst (λ (o : Option Stop). StopsBehind before (length passes) sessions o) is why) printed)
     go (inr (none, device, part)) =
         port_and_part (length passes) sessions ends.front stop before old between new (subst (λ (o : Option Stop). StopsBehind before (length passes) sessions o) none why) printed device part
-
--- no device is at fault where the turns are not those of the passes
-pub never_a_device : (fault : CloseFault) (stop : Stop) → stop ≡ stopped_by fault → stop ≢ stops.Device
-never_a_device faults.Memory stop is e = cc
-never_a_device (faults.Stranger number) stop is e = cc
-never_a_device (faults.Missing shares turns) stop is e = cc

@@ -1,16 +1,17 @@
 -- What the command `serve` answers.
-use Rattle.std.specs.Prelude.{◌≡◌, ◌≢◌, ◌⊎◌, ◌<◌, ◌≤◌, ℕ, List, [], ◌∷◌, ◌++◌, length, codes, Option, Some, None, IfSome, All}
+use Rattle.std.specs.Prelude.{◌≡◌, ◌≢◌, ◌⊎◌, ◌+◌, ◌<◌, ◌≤◌, ℕ, List, [], ◌∷◌, ◌++◌, length, codes, Option, Some, None, IfSome, ⊤}
 use Rattle.std.specs.Fmt.{decimal}
 use Rattle.std.specs.Io.KnownBytes.{Appends}
 use Rattle.line_disk.specs.Disk.{View}
 use Rattle.chains.specs.Held.{Held}
 use Rattle.desk.specs.Desks.{DeskState}
 use Rattle.coordinator.specs.Passes.{PassState}
-use Rattle.coordinator.specs.Closing.{IsEnded}
+use Rattle.coordinator.specs.Closing.{IsEnded, IsRefused}
 use Rattle.coordinator.specs.declared.fault.CloseFault.{CloseFault}
 use Rattle.coordinator.specs.declared.fault.CloseFault.TheVariants as faults
 use Rattle.report_line.specs.Cutting.{ended}
 use Rattle.session.specs.declared.kind.Kind.{Kind}
+use Rattle.session.specs.declared.kind.Kind.TheVariants as ways
 use Rattle.client_link.specs.Links.{LinkState, IsSound}
 use Rattle.session.specs.Sessions.{WasServed}
 use Rattle.recline.specs.Outcome.{IsOpened, IsNotOpened, Tells}
@@ -45,25 +46,42 @@ stopped_by faults.Memory = stops.Memory
 stopped_by (faults.Stranger number) = stops.Foreign
 stopped_by (faults.Missing shares turns) = stops.Foreign
 
--- a session was served with this pass, from when it was new
-pub record IsOfSession (pass : PassState) : Type 0 where
+-- a session was served with this pass, from when it was new, and ended so
+pub record IsOfSession (pass : PassState) (kind : Kind) : Type 0 where
   pub link : LinkState
-  pub kind : Kind
   pub replies : ℕ
   pub served : WasServed link pass kind replies
 
-abbrev pub AreServed : List PassState → Type 0
-AreServed passes = All (λ pass. ∥ IsOfSession pass ∥₁) passes
+-- a session each
+abbrev pub AreOfSessions : List PassState → List Kind → Type 0
+AreOfSessions [] [] = ⊤
+AreOfSessions (pass ∷ passes) (kind ∷ kinds) = ∥ IsOfSession pass kind ∥₁ × AreOfSessions passes kinds
+AreOfSessions [] (kind ∷ kinds) = ⊥
+AreOfSessions (pass ∷ passes) [] = ⊥
 
--- Over what was held at the opening so many sessions were served, each with a pass of its own. The coordinator ended with just these
--- passes, and left the disk so. The port and the front were printed.
-pub record IsServed {D : Type 0} (keeps : D → Type 0) (view : D → View) (opening : Held) (sessions : ℕ) (old new : LinkState) (disk : D) : Type 0 where
+-- a client whose session ends so is dropped, since memory was wanting
+abbrev pub drops : Kind → ℕ
+drops ways.Memory = 1
+drops _ = 0
+
+-- how many clients were dropped
+abbrev pub dropped_in : List Kind → ℕ
+dropped_in [] = 0
+dropped_in (kind ∷ kinds) = drops kind + dropped_in kinds
+
+-- a session was served with each pass, and so many clients were dropped
+abbrev pub AreServed : List PassState → ℕ → Type 0
+AreServed passes dropped = (kinds : List Kind) × AreOfSessions passes kinds × (dropped ≡ dropped_in kinds)
+
+-- Over what was held at the opening so many sessions were served, each with a pass of its own, and so many clients were dropped. The
+-- coordinator ended with just these passes, and left the disk so. The port and the front were printed.
+pub record IsServed {D : Type 0} (keeps : D → Type 0) (view : D → View) (opening : Held) (sessions dropped : ℕ) (old new : LinkState) (disk : D) : Type 0 where
   pub port : ℕ
   pub passes : List PassState
   pub turns : ℕ
   pub front : ℕ
   pub ends : IsEnded keeps view opening passes turns front disk
-  pub served : AreServed passes
+  pub served : AreServed passes dropped
   pub number : length passes ≡ sessions
   pub written : Appends old.held new.held (port_line port ++ end_line front)
   pub nothing_waits : new.waiting ≡ []
@@ -87,16 +105,26 @@ PrintsSome served sessions front stop old new =
 -- left the disk so.
 pub record IsCutShort {D : Type 0} (keeps : D → Type 0) (view : D → View) (opening : Held) (sessions : ℕ) (old new : LinkState) (disk : D) (stop : Stop) : Type 0 where
   pub passes : List PassState
+  pub dropped : ℕ
   pub turns : ℕ
   pub front : ℕ
   pub ends : IsEnded keeps view opening passes turns front disk
-  pub served : AreServed passes
+  pub served : AreServed passes dropped
   pub printed : PrintsSome (length passes) sessions front stop old new
+
+-- the coordinator does not end with the passes of some sessions, and that is told
+pub record IsUnended {D : Type 0} (keeps : D → Type 0) (view : D → View) (opening : Held) (stop : Stop) : Type 0 where
+  pub passes : List PassState
+  pub dropped : ℕ
+  pub fault : CloseFault
+  pub served : AreServed passes dropped
+  pub refused : IsRefused keeps view opening passes fault
+  pub stop_is : stop ≡ stopped_by fault
 
 -- Or the disk did not come back, since memory was wanting, or what the clients were shown is not what the desk answered.
 abbrev pub IsStopped : {D : Type 0} → (D → Type 0) → (D → View) → Held → ℕ → LinkState → LinkState → Option D → Stop → Type 0
 IsStopped keeps view opening sessions old new (Some disk) stop = IsCutShort keeps view opening sessions old new disk stop
-IsStopped keeps view opening sessions old new None stop = (stop ≢ stops.Device) × WritesPort old new
+IsStopped keeps view opening sessions old new None stop = ((stop ≡ stops.Memory) ⊎ IsUnended keeps view opening stop) × WritesPort old new
 
 -- or it stopped before its first session, with nothing printed, and the disk is as the desk had it
 abbrev pub IsUnserved : {D : Type 0} → DeskState D → LinkState → LinkState → Option D → Stop → Type 0
@@ -108,12 +136,21 @@ Stops keeps view desk sessions old new disk stop =
 
 -- ---- the command
 
--- the sessions were served to their end, and no fault is told
-pub record ServesToEnd {D O F : Type 0} (keeps : D → Type 0) (view : D → View) (output_told : O → LinkState) (sessions : ℕ) (desk : DeskState D) (disk_after : Option D) (output output_after : O) (faults faults_after : F) (status : ℕ) : Type 0 where
+-- how many clients were dropped is told, if there were some
+abbrev pub dropped_line : ℕ → List ℕ
+dropped_line dropped = codes "recline: dropped " ++ decimal dropped ++ 10 ∷ []
+
+abbrev pub TellsDropped : {F : Type 0} → (F → LinkState) → F → F → ℕ → Type 0
+TellsDropped faults_told old new dropped =
+    ((dropped ≡ 0) × (new ≡ old)) ⊎ ((0 < dropped) × Tells (faults_told old) (faults_told new) (dropped_line dropped))
+
+-- the sessions were served to their end, and no fault is told but how many clients were dropped
+pub record ServesToEnd {D O F : Type 0} (keeps : D → Type 0) (view : D → View) (output_told : O → LinkState) (faults_told : F → LinkState) (sessions : ℕ) (desk : DeskState D) (disk_after : Option D) (output output_after : O) (faults faults_after : F) (status : ℕ) : Type 0 where
   pub disk : D
+  pub dropped : ℕ
   pub is_back : disk_after ≡ Some disk
-  pub served : IsServed keeps view desk.opening sessions (output_told output) (output_told output_after) disk
-  pub no_fault : faults_after ≡ faults
+  pub served : IsServed keeps view desk.opening sessions dropped (output_told output) (output_told output_after) disk
+  pub told : TellsDropped faults_told faults faults_after dropped
   pub status_is : status ≡ 0
 
 -- the service stopped, and it is told why
@@ -127,7 +164,7 @@ pub record ServesInPart {D O F : Type 0} (keeps : D → Type 0) (view : D → Vi
 pub record ServesOpened {D O F : Type 0} (keeps : D → Type 0) (view : D → View) (output_told : O → LinkState) (faults_told : F → LinkState) (sessions : ℕ) (disk : D) (disk_after : Option D) (output output_after : O) (faults faults_after : F) (status : ℕ) : Type 0 where
   pub desk : DeskState D
   pub opened : IsOpened keeps view disk desk
-  pub serves : ServesToEnd keeps view output_told sessions desk disk_after output output_after faults faults_after status
+  pub serves : ServesToEnd keeps view output_told faults_told sessions desk disk_after output output_after faults faults_after status
       ⊎ ServesInPart keeps view output_told faults_told sessions desk disk_after output output_after faults faults_after status
 
 -- the file was not opened, and the disk came back
@@ -151,7 +188,7 @@ PrintsPort (Some stop) old new = (port : ℕ) × (WritesAll old new (port_line p
 -- why a service stops behind its sessions: as it did before, or for memory where there were others than were wanted
 abbrev pub StopsBehind : Option Stop → ℕ → ℕ → Option Stop → Type 0
 StopsBehind before served wanted None = (before ≡ None) × (served ≡ wanted)
-StopsBehind before served wanted (Some stop) = (before ≡ Some stop) ⊎ ((before ≡ None) × (stop ≡ stops.Memory))
+StopsBehind before served wanted (Some stop) = (before ≡ Some stop) ⊎ ((before ≡ None) × (served ≢ wanted) × (stop ≡ stops.Memory))
 
 -- the coordinator ended with these passes, and that was told
 pub record EndsWith {D : Type 0} (keeps : D → Type 0) (view : D → View) (opening : Held) (passes : List PassState) (old new : LinkState) (disk : D) : Type 0 where
@@ -170,4 +207,5 @@ pub record EndsWithStop {D : Type 0} (keeps : D → Type 0) (view : D → View) 
 -- or it did not
 abbrev pub EndsShort : {D : Type 0} → (D → Type 0) → (D → View) → Held → List PassState → Option Stop → LinkState → LinkState → Option D → Stop → Type 0
 EndsShort keeps view opening passes before old new (Some disk) stop = EndsWithStop keeps view opening passes before old new disk stop
-EndsShort keeps view opening passes before old new None stop = (stop ≢ stops.Device) × (new ≡ old)
+EndsShort keeps view opening passes before old new None stop =
+    ((fault : CloseFault) × IsRefused keeps view opening passes fault × (stop ≡ stopped_by fault)) × (new ≡ old)

@@ -1,5 +1,6 @@
-//! The command line, the command `run`, which is one session with a client over a record file, the command `check`, which checks
-//! a certificate over one, and the commands `drive` and `draw`, which stamp the steps of a script and draw them.
+//! The command line, the command `run`, which is one session with a client over a record file, the command `serve`, which serves many
+//! over one, the command `check`, which checks a certificate over one, and the commands `drive` and `draw`, which stamp the steps of a
+//! script and draw them.
 #![tactic(auto)]
 
 mod args;

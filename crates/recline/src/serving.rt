@@ -1,11 +1,12 @@
 //! The command `serve`.
 
-ghost use Rattle.std.specs.Prelude.{◌≡◌, ◌<◌, ◌≤◌, IfOk, IfErr, IfSome, IfNone, [], None, Some, length};
+ghost use Rattle.std.specs.Prelude.{◌≡◌, ◌+◌, ◌++◌, ◌<◌, ◌≤◌, IfOk, IfErr, IfSome, IfNone, OnOk, [], None, Some, length, map};
 ghost use Rattle.std.specs.List.{flat_map};
 ghost use Rattle.std.specs.Thread.{IsSend, IsSync};
 ghost use Rattle.recline.specs.Driving.{Writes};
-ghost use Rattle.recline.specs.Serving.{AreLimited, AreServed, EndsShort, EndsWith, IsService, IsServed, IsStopped, PrintsPort, ServesOn, Stops, StopsBehind, WritesPort, end_line, port_line, stop_line, stopped_by};
+ghost use Rattle.recline.specs.Serving.{AreLimited, AreServed, EndsShort, EndsWith, IsService, IsServed, IsStopped, PrintsPort, ServesOn, Stops, StopsBehind, TellsDropped, WritesPort, dropped_in, drops, end_line, port_line, stop_line, stopped_by};
 
+use crate::driving::tell_all;
 use crate::running::{tell, tell_unopened};
 use client_link::{ClientConnection, Link, LinkFault, put_all};
 use coordinator::{CloseFault, Coordinator, Ended, OpenGate, Pass, Refused};
@@ -13,7 +14,7 @@ use crossbeam_channel::{Sender, bounded};
 use desk::Desk;
 use itoa::Buffer;
 use line_disk::Disk;
-use session::{Served, workers};
+use session::{Kind, Served, workers};
 use std::alloc::{AllocError, Global};
 use std::io::{self, ErrorKind};
 use std::marker::Brand;
@@ -214,10 +215,11 @@ fn unserved<D: Disk>(stop: Stop, desk: Desk<D>) -> Stopped<D>
     }
 }
 
-/// The passes of the sessions that there were, and why there were no more, if the service stops.
+/// The passes of the sessions that there were, how many of their clients were dropped, and why there were no more, if the service stops.
 #[derive(Drop)]
 struct Sessions<L: Ledger> {
     passes: Vec<Pass<L>>,
+    dropped: u64,
     stop: Option<Stop>,
 }
 
@@ -268,40 +270,64 @@ fn serve_sessions<
     )
 }
 
-/// Adds the passes of the sessions.
+/// How many clients were dropped once a session more ended so.
+fn dropped_by(dropped: u64, kind: Kind) -> Result<u64, AllocError>
+    ensures { IfOk result (λ n. n ≡ dropped + drops kind) }
+{
+    match kind {
+        // There are never so many sessions that this fails.
+        Kind::Memory => dropped.checked_add(1).ok_or(AllocError),
+        Kind::End
+        | Kind::Bye
+        | Kind::TooLong
+        | Kind::Worn
+        | Kind::ReadFailed
+        | Kind::WriteFailed
+        | Kind::Endless
+        | Kind::Foreign => Ok(dropped),
+    }
+}
+
+/// Adds the passes of the sessions, and those of their clients that were dropped.
 fn add_passes<L: Ledger, K: Link + Drop>(
     passes: &mut Vec<Pass<L>>,
+    dropped: &mut u64,
     served: Vec<Served<L, K>>,
 ) -> Result<(), AllocError>
-    requires { AreServed passes.old.items }
-    ensures { AreServed passes.new.items }
+    requires { AreServed passes.old.items dropped.old }
+    ensures served { OnOk result (AreServed passes.new.items dropped.new) }
+    ensures passes { OnOk result (passes.new.items ≡ passes.old.items ++ map (λ s. s.pass) served.items) }
+    ensures dropped { OnOk result (dropped.new ≡ dropped.old + dropped_in (map (λ s. s.end.kind) served.items)) }
 {
     for session in served {
-        let Served {
-            pass,
-            link: _,
-            end: _,
-        } = session;
+        let Served { pass, link: _, end } = session;
+        let more = dropped_by(*dropped, end.kind)?;
         passes.push(pass)?;
+        *dropped = more;
     }
     Ok(())
 }
 
-/// The passes of all sessions, one worker's after another.
+/// The passes of all sessions, one worker's after another, and how many clients were dropped.
+#[tactic(auto, using(crate::proofs::Passes::none_served))]
 fn passes_of<L: Ledger, K: Link + Drop>(
     mut passes: Vec<Pass<L>>,
     lists: Vec<Vec<Served<L, K>>>,
-) -> Result<Vec<Pass<L>>, AllocError>
+) -> Result<(Vec<Pass<L>>, u64), AllocError>
     requires { passes.items ≡ [] }
-    ensures { IfOk result (λ all. AreServed all.items) }
+    ensures served { IfOk result (λ all. AreServed all.0.items all.1) }
+    ensures passes { IfOk result (λ all. all.0.items ≡ flat_map (λ l. map (λ s. s.pass) l.items) lists.items) }
+    ensures dropped { IfOk result (λ all. all.1 ≡ dropped_in (flat_map (λ l. map (λ s. s.end.kind) l.items) lists.items)) }
 {
+    let mut dropped = 0u64;
     for served in lists {
-        add_passes(&mut passes, served)?;
+        add_passes(&mut passes, &mut dropped, served)?;
     }
-    Ok(passes)
+    Ok((passes, dropped))
 }
 
 /// Tells the port, and serves clients over a coordinator. Fails where memory is wanting for their passes.
+#[tactic(auto, using(crate::proofs::Passes::none_served))]
 fn serve_clients<
     L: Ledger + Send + Sync,
     D: Disk + Send + Drop,
@@ -320,19 +346,24 @@ fn serve_clients<
 ) -> Result<Sessions<L>, AllocError>
     requires service { IsService service }
     requires none { passes.items ≡ [] }
-    ensures served { IfOk result (λ s. AreServed s.passes.items) }
+    ensures served { IfOk result (λ s. AreServed s.passes.items s.dropped) }
     ensures printed { IfOk result (λ s. PrintsPort s.stop (O.told output.old) (O.told output.new)) }
     ensures lost { IfErr result (λ e. WritesPort (O.told output.old) (O.told output.new)) }
 {
     let Ok(()) = write_port(output, port) else {
         return Ok(Sessions {
             passes,
+            dropped: 0,
             stop: Some(Stop::Device),
         });
     };
     let (lists, stop) = serve_sessions(rt, alloc, listener, coordinator, service);
     match passes_of(passes, lists) {
-        Ok(passes) => Ok(Sessions { passes, stop }),
+        Ok((passes, dropped)) => Ok(Sessions {
+            passes,
+            dropped,
+            stop,
+        }),
         Err(fault) => Err(fault),
     }
 }
@@ -385,7 +416,8 @@ fn end_service<L: Ledger, D: Disk + Drop, O: Link>(
     }
 }
 
-/// Tells the port, serves clients over a coordinator, ends it with their passes, and tells the end. Answers the disk.
+/// Tells the port, serves clients over a coordinator, ends it with their passes, and tells the end. Answers the disk, and how many clients
+/// were dropped.
 fn serve_over<
     L: Ledger + Send + Sync,
     D: Disk + Send + Drop,
@@ -401,10 +433,10 @@ fn serve_over<
     port: u16,
     service: Service,
     output: &mut O,
-) -> Result<D, Stopped<D>>
+) -> Result<(D, u64), Stopped<D>>
     requires service { IsService service }
     requires none { passes.items ≡ [] }
-    ensures ok { IfOk result (λ disk. IsServed D.keeps D.view coordinator service.sessions (O.told output.old) (O.told output.new) disk) }
+    ensures ok { IfOk result (λ r. IsServed D.keeps D.view coordinator service.sessions r.1 (O.told output.old) (O.told output.new) r.0) }
     ensures err { IfErr result (λ s. IsStopped D.keeps D.view coordinator service.sessions (O.told output.old) (O.told output.new) s.disk s.stop) }
 {
     let clients = serve_clients(
@@ -424,10 +456,14 @@ fn serve_over<
         });
     };
     let stop = stop_behind(&sessions, service.sessions);
-    end_service(coordinator, sessions.passes, stop, output)
+    let dropped = sessions.dropped;
+    match end_service(coordinator, sessions.passes, stop, output) {
+        Ok(disk) => Ok((disk, dropped)),
+        Err(stopped) => Err(stopped),
+    }
 }
 
-/// Serves clients over the desk behind a lock, tells the port and the end, and hands back the disk.
+/// Serves clients over the desk behind a lock, tells the port and the end, and hands back the disk, with how many clients were dropped.
 fn serve_desk<
     L: Ledger + Send + Sync,
     D: Disk + Send + Drop,
@@ -442,12 +478,12 @@ fn serve_desk<
     desk: Desk<D>,
     service: Service,
     output: &mut O,
-) -> Result<D, Stopped<D>>
+) -> Result<(D, u64), Stopped<D>>
     requires name { blank.name ≡ L.name }
     requires parts { (blank.parts ≡ L.parts) × (blank.parts ≡ 8193) }
     requires fresh { desk.turns ≡ [] }
     requires service { IsService service }
-    ensures ok { IfOk result (λ disk. IsServed D.keeps D.view desk.opening service.sessions (O.told output.old) (O.told output.new) disk) }
+    ensures ok { IfOk result (λ r. IsServed D.keeps D.view desk.opening service.sessions r.1 (O.told output.old) (O.told output.new) r.0) }
     ensures err { IfErr result (λ s. Stops D.keeps D.view desk service.sessions (O.told output.old) (O.told output.new) s.disk s.stop) }
 {
     let Ok(passes) = Vec::with_capacity(alloc, service.sessions as usize) else {
@@ -472,9 +508,27 @@ fn serve_desk<
     }
 }
 
+/// Tells how many clients were dropped since memory was wanting, if there were some.
+fn tell_dropped<F: Link>(faults: &mut F, dropped: u64)
+    ensures { TellsDropped F.told faults.old faults.new dropped }
+{
+    if dropped == 0 {
+        return;
+    }
+    let mut digits = Buffer::new();
+    tell_all(
+        faults,
+        &[
+            b"recline: dropped ".as_slice(),
+            digits.format(dropped).as_bytes(),
+            b"\n".as_slice(),
+        ],
+    )
+}
+
 /// The command `serve`: opens the record file on a disk, tells the port of the listener, serves so many sessions over one desk by
 /// so many workers, of which each computes lines by as many threads at most, holds what the clients were shown against the turns,
-/// and tells how many reports were accepted. Answers the status of the process, and the disk, which is lost only where memory was
+/// and tells how many reports were accepted, and how many clients were dropped for want of memory, if some were. Answers the status of the process, and the disk, which is lost only where memory was
 /// wanting at the end, or where what the clients were shown is not what the desk answered.
 pub fn serve_on<
     D: Disk + Send + Drop,
@@ -500,7 +554,10 @@ pub fn serve_on<
             match serve_desk::<Brand, _, _, _, _>(
                 rt, alloc, blank, listener, desk, service, output,
             ) {
-                Ok(disk) => (0, Some(disk)),
+                Ok((disk, dropped)) => {
+                    tell_dropped(faults, dropped);
+                    (0, Some(disk))
+                }
                 Err(Stopped { stop, disk }) => {
                     tell(faults, line_of(stop));
                     (3, disk)

@@ -8,7 +8,7 @@ use Rattle.recline.proofs.serving.serve_desk.Goals as goal
 
 pub returns-in-Ok-with_workers-clause-ok : goal.returns-in-Ok-with_workers-clause-ok
 returns-in-Ok-with_workers-clause-ok g c =
-    subst (λ (h : Held). IfOk c.serve_over.result (λ disk. IsServed g.D.Disk.keeps g.D.Disk.view h c.args.service.sessions (g.O.Link.told c.args.output.now) (g.O.Link.told c.serve_over.new.output) disk))
+    subst (λ (h : Held). IfOk c.serve_over.result (λ r. IsServed g.D.Disk.keeps g.D.Disk.view h c.args.service.sessions r.1 (g.O.Link.told c.args.output.now) (g.O.Link.told c.serve_over.new.output) r.0))
     c.in-Ok-with_workers.ensures.ok c.serve_over.ensures.ok
 
 pub returns-in-Ok-with_workers-clause-err : goal.returns-in-Ok-with_workers-clause-err

@@ -4,6 +4,8 @@ import shutil
 import subprocess
 
 TOP = os.path.dirname(os.path.dirname(os.path.abspath(__file__)))
+# The tools beside the program, which may not be built.
+WORKBENCH = os.path.join(TOP, "crates", "workbench", "out", "workbench")
 
 
 def program():

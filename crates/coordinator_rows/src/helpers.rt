@@ -1,6 +1,6 @@
 //! Coordinators for tests.
 
-ghost use Rattle.std.specs.Prelude.{◌≡◌, ◌≤◌, [], length, IfOk};
+ghost use Rattle.std.specs.Prelude.{◌≡◌, ◌<◌, ◌≤◌, [], length, IfOk};
 
 use coordinator::{CallFault, Coordinator, Ended, Pass};
 use desk::Desk;
@@ -34,6 +34,24 @@ pub fn opened<L: Ledger>(
 {
     let desk = fresh(rt, alloc)?;
     let Ok(coordinator) = Coordinator::new(alloc, blank, desk) else {
+        panic!(rt; "memory suffices");
+    };
+    Ok(coordinator)
+}
+
+/// The same, where so many threads compute a line.
+pub fn opened_by<L: Ledger>(
+    rt: &impl Abort,
+    alloc: Global,
+    blank: Blank,
+    workers: usize,
+) -> Result<Coordinator<L, MemoryDisk>, Fail>
+    requires name { blank.name ≡ L.name }
+    requires parts { (blank.parts ≡ L.parts) × (blank.parts ≡ 8193) }
+    requires workers { (0 < workers) × (workers ≤ 64) }
+{
+    let desk = fresh(rt, alloc)?;
+    let Ok(coordinator) = Coordinator::with_workers(alloc, blank, desk, workers) else {
         panic!(rt; "memory suffices");
     };
     Ok(coordinator)

@@ -4,7 +4,7 @@ use std::num::NonZeroU32;
 
 /// Which tool is wanted.
 #[derive(Clone, Copy)]
-pub enum Command {
+pub enum Command<'a> {
     /// The measure of sessions.
     Session,
     /// The measure of clock operations.
@@ -13,6 +13,10 @@ pub enum Command {
     Certificate,
     /// An answer to each line.
     Calls,
+    /// The calls of a coordinator over the record file of this path, made once more where memory was wanting.
+    Shared(&'a str),
+    /// The steps of a world, taken once more where memory was wanting.
+    World,
     /// Lines of reports.
     Traffic(Stream),
     /// The clock operations of a script of traffic alone.
@@ -33,7 +37,7 @@ pub enum Stream {
 }
 
 /// What the words ask for, of which the first is the program's name; nothing, where they are no command.
-pub fn read(words: &[String]) -> Option<Command> {
+pub fn read(words: &[String]) -> Option<Command<'_>> {
     let (_program, words) = words.split_first()?;
     let (tool, rest) = words.split_first()?;
     match (tool.as_str(), rest) {
@@ -41,6 +45,8 @@ pub fn read(words: &[String]) -> Option<Command> {
         ("clocks", []) => Some(Command::Clocks),
         ("certificate", []) => Some(Command::Certificate),
         ("calls", []) => Some(Command::Calls),
+        ("shared", [path]) => Some(Command::Shared(path.as_str())),
+        ("world", []) => Some(Command::World),
         ("steps", [processes, turns]) => Some(Command::Steps {
             processes: count_of(processes.as_str())?,
             turns: number_of(turns.as_str())?,

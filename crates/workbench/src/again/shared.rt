@@ -1,0 +1,231 @@
+//! The calls of a coordinator over a record file.
+
+ghost use Rattle.std.specs.Prelude.{◌≡◌, ◌≤◌, [], length, IfOk};
+ghost use Rattle.report_line.specs.Replies.{IsWritten};
+ghost use Rattle.desk.specs.Files.{IsShort};
+
+use super::put_again;
+use anyhow::{Error, Result};
+use coordinator::{CallFault, CloseFault, Coordinator, Ended, OpenGate, Pass, Refused, Unclosed};
+use desk::{Desk, DeskFault};
+use line_disk::{FileDisk, Modelled};
+use record_file::RecordReach;
+use report_line::{Call, LineFault, Reply, read_line, write_reply};
+use std::alloc::Global;
+use std::io::{Read, Write};
+use std::marker::Brand;
+use std::sync::Wait;
+use std::sync::ledger::{Blank, Ledger};
+use std::thread::Threads;
+
+/// The disk of a record file.
+type File = FileDisk<Modelled>;
+
+// A desk over the file on the disk.
+fn desk_over<W: Write>(alloc: Global, disk: File, out: &mut W) -> Result<Desk<File>>
+    ensures { IfOk result (λ desk. desk.turns ≡ []) }
+{
+    let disk = match Desk::open(alloc, disk) {
+        Ok(desk) => return Ok(desk),
+        Err((DeskFault::Memory, disk)) => disk,
+        Err((fault, _)) => return Err(Error::from(fault)),
+    };
+    put_again(out, b"open")?;
+    match Desk::open(alloc, disk) {
+        Ok(desk) => Ok(desk),
+        Err((fault, _)) => Err(Error::from(fault)),
+    }
+}
+
+// A coordinator of the desk.
+fn shared<L: Ledger, W: Write>(
+    alloc: Global,
+    blank: Blank,
+    desk: Desk<File>,
+    out: &mut W,
+) -> Result<Coordinator<L, File>>
+    requires name { blank.name ≡ L.name }
+    requires parts { (blank.parts ≡ L.parts) × (blank.parts ≡ 8193) }
+    requires fresh { desk.turns ≡ [] }
+{
+    let (blank, desk) = match Coordinator::new(alloc, blank, desk) {
+        Ok(coordinator) => return Ok(coordinator),
+        Err(Refused { blank, desk }) => (blank, desk),
+    };
+    put_again(out, b"new")?;
+    match Coordinator::new(alloc, blank, desk) {
+        Ok(coordinator) => Ok(coordinator),
+        Err(_) => Err(Error::from(CallFault::Memory)),
+    }
+}
+
+// Makes the turn of a call.
+fn ask_once<L: Ledger, R: Wait + Threads + Sync>(
+    rt: &R,
+    coordinator: &Coordinator<L, File>,
+    pass: &mut Pass<L>,
+    call: Call,
+) -> Result<(), CallFault>
+    requires { IsShort call }
+{
+    match call {
+        Call::Line(names) => coordinator.line(rt, pass, &OpenGate, names),
+        Call::Garbage => coordinator.garbage_line(rt, pass, &OpenGate),
+        other => coordinator.call(rt, pass, other),
+    }
+}
+
+// The call of a line.
+fn read(alloc: Global, line: &[u8]) -> Result<Call, LineFault>
+    requires { length line.now ≤ 8192 }
+    ensures { IfOk result IsShort }
+{
+    match read_line(alloc, line) {
+        Ok(call) => Ok(call),
+        Err(LineFault::Grammar) => Ok(Call::Bad(1)),
+        Err(LineFault::Memory) => Err(LineFault::Memory),
+    }
+}
+
+// Makes the turn of a line.
+fn ask<L: Ledger, R: Wait + Threads + Sync, W: Write>(
+    rt: &R,
+    coordinator: &Coordinator<L, File>,
+    pass: &mut Pass<L>,
+    line: &[u8],
+    out: &mut W,
+) -> Result<()>
+    requires { length line.now ≤ 8192 }
+{
+    let call = read(coordinator.alloc(), line)?;
+    match ask_once(rt, coordinator, pass, call) {
+        Ok(()) => return Ok(()),
+        Err(CallFault::Memory) => put_again(out, b"call")?,
+        Err(fault) => return Err(Error::from(fault)),
+    }
+    let call = read(coordinator.alloc(), line)?;
+    Ok(ask_once(rt, coordinator, pass, call)?)
+}
+
+// Writes a reply with its LF.
+fn put_reply<W: Write>(alloc: Global, reply: &Reply, out: &mut W) -> Result<()>
+    requires { IsWritten reply.now }
+{
+    let mut text = write_reply(alloc, reply)?;
+    text.push(b'\n')?;
+    Ok(out.write_all(&text)?)
+}
+
+// Writes what the pass shows last.
+fn put_shown<L: Ledger, W: Write>(alloc: Global, pass: &Pass<L>, out: &mut W) -> Result<()> {
+    let Some(shown) = pass.shown() else {
+        return Ok(());
+    };
+    match shown {
+        Reply::Taken(_) => Ok(()),
+        Reply::Accepted(_)
+        | Reply::Old(_)
+        | Reply::No { .. }
+        | Reply::Bad(_)
+        | Reply::Line(_)
+        | Reply::Fail(_)
+        | Reply::State { .. }
+        | Reply::Settled { .. }
+        | Reply::Bye => put_reply(alloc, shown, out),
+    }
+}
+
+// Makes the turn of each line, and writes what the pass shows for it.
+fn put_replies<L: Ledger, R: Wait + Threads + Sync, W: Write>(
+    rt: &R,
+    coordinator: &Coordinator<L, File>,
+    pass: &mut Pass<L>,
+    input: &[u8],
+    out: &mut W,
+) -> Result<()> {
+    for line in input.split(|b| *b == b'\n') {
+        if line.len() > 0 && line.len() <= 8192 {
+            ask(rt, coordinator, pass, line, out)?;
+            put_shown(coordinator.alloc(), pass, out)?;
+        }
+    }
+    Ok(())
+}
+
+// Closes the coordinator.
+fn close<L: Ledger, W: Write>(
+    coordinator: Coordinator<L, File>,
+    passes: Vec<Pass<L>>,
+    out: &mut W,
+) -> Result<Ended<File>> {
+    let (coordinator, passes) = match coordinator.close(passes) {
+        Ok(ended) => return Ok(ended),
+        Err(
+            Unclosed {
+                fault: CloseFault::Memory,
+                coordinator,
+                passes,
+            },
+        ) => (coordinator, passes),
+        Err(unclosed) => return Err(Error::from(unclosed.fault)),
+    };
+    put_again(out, b"close")?;
+    match coordinator.close(passes) {
+        Ok(ended) => Ok(ended),
+        Err(unclosed) => Err(Error::from(unclosed.fault)),
+    }
+}
+
+// Writes how many turns there were, the front at the end, and that of a desk that is opened over the disk.
+fn put_end<W: Write>(alloc: Global, ended: Ended<File>, out: &mut W) -> Result<()> {
+    let Ended { disk, front, turns } = ended;
+    let text = format!(in alloc; "TURNS {turns}\nENDED {front}\n")?;
+    out.write_all(text.as_bytes())?;
+    let desk = desk_over(alloc, disk, out)?;
+    let opened = desk.front();
+    let text = format!(in alloc; "OPENED {opened}\n")?;
+    Ok(out.write_all(text.as_bytes())?)
+}
+
+// Answers the lines over a coordinator of its own.
+fn answer<L: Ledger, R: Wait + Threads + Sync, W: Write>(
+    rt: &R,
+    alloc: Global,
+    blank: Blank,
+    disk: File,
+    input: &[u8],
+    out: &mut W,
+) -> Result<()>
+    requires name { blank.name ≡ L.name }
+    requires parts { (blank.parts ≡ L.parts) × (blank.parts ≡ 8193) }
+{
+    let desk = desk_over(alloc, disk, out)?;
+    let coordinator = shared::<L, W>(alloc, blank, desk, out)?;
+    let mut pass = coordinator.pass(rt)?;
+    put_replies(rt, &coordinator, &mut pass, input, out)?;
+    let mut passes = Vec::new(alloc);
+    passes.push(pass)?;
+    let ended = close(coordinator, passes, out)?;
+    put_end(alloc, ended, out)
+}
+
+/// Makes the turns of the lines of standard input over the record file of this path, and writes what is shown for each; closes the
+/// coordinator, and writes how it ended and what the front of a desk is that is opened over its disk.
+pub fn answer_all<T: Wait + Threads + Sync>(
+    rt: &HostRuntime,
+    threads: &T,
+    path: &str,
+) -> Result<()> {
+    let alloc = rt.alloc();
+    let mut input = Vec::new(alloc);
+    rt.reader().read_to_end(&mut input)?;
+    let disk = FileDisk::open(rt, alloc, path, &mut RecordReach::new())?;
+    answer::<Brand, _, _>(
+        threads,
+        alloc,
+        Blank::new(8193),
+        disk,
+        &input,
+        &mut rt.stdout(),
+    )
+}

@@ -5,7 +5,8 @@
 //   WRITE_NOTHING            in place of failing such a write takes nothing
 //   READ_LINES               standard input has no end: lines of so many letters x
 //   CALL, DONE               the call of this number of those for the record file fails, from 1, and with DONE it is done all the same
-//   CALLS                    the file to which the names of the calls for the record file are written, a line each
+//   CALLS                    the file to which the names of the calls for the record file are written, a line each, and `behind` for each
+//                            read of standard input and each write to standard output behind one that failed or took nothing
 //
 // The calls for the record file are those by which it is read, written, measured, cut and synced.
 typedef unsigned long size_t;
@@ -27,6 +28,8 @@ static ssize_t (*given_pread)(int, void *, size_t, off_t), (*given_pwrite)(int, 
 static int (*given_fsync)(int), (*given_fdatasync)(int), (*given_ftruncate)(int, off_t);
 static int (*given_statx)(int, const char *, int, unsigned, void *);
 static long read_most, write_most, read_end, write_end, read_lines, call, was_read, was_written, calls;
+// Whether a standard stream broke.
+static int is_broken;
 
 static long number(const char *name)
 {
@@ -76,6 +79,28 @@ static size_t within(size_t asked, long most, long end, long before)
     return asked;
 }
 
+static void note(const char *name)
+{
+    const char *path = getenv("CALLS");
+    if (!path)
+        return;
+    int file = open(path, APPENDED | MADE, 0600);
+    size_t length = 0;
+    while (name[length])
+        length++;
+    given_write(file, name, length);
+    given_write(file, "\n", 1);
+    close(file);
+}
+
+// A standard stream breaks, or is used once one broke.
+static void use(int breaks)
+{
+    if (is_broken)
+        note("behind");
+    is_broken |= breaks;
+}
+
 // ---- streams and connections
 
 static ssize_t give_lines(char *bytes, size_t asked)
@@ -90,6 +115,7 @@ ssize_t read(int file, void *bytes, size_t asked)
     if (file != 0)
         return given_read(file, bytes, asked);
     size_t most = within(asked, read_most, read_end, was_read);
+    use(asked && !most);
     if (asked && !most)
         return fail();
     if (read_lines != NO_LIMIT)
@@ -109,6 +135,7 @@ ssize_t write(int file, const void *bytes, size_t asked)
     if (file != 1)
         return given_write(file, bytes, asked);
     size_t most = within(asked, write_most, write_end, was_written);
+    use(asked && !most);
     if (asked && !most)
         return getenv("WRITE_NOTHING") ? 0 : fail();
     ssize_t took = given_write(file, bytes, most);
@@ -122,20 +149,6 @@ ssize_t send(int file, const void *bytes, size_t asked, int flags)
 }
 
 // ---- the record file
-
-static void note(const char *name)
-{
-    const char *path = getenv("CALLS");
-    if (!path)
-        return;
-    int file = open(path, APPENDED | MADE, 0600);
-    size_t length = 0;
-    while (name[length])
-        length++;
-    given_write(file, name, length);
-    given_write(file, "\n", 1);
-    close(file);
-}
 
 // Makes a call, and answers what it answers, unless it is the one that fails.
 #define CALLED(name, made)                      \

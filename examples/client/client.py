@@ -130,10 +130,23 @@ class Process:
         self.position += 1
         return self.position
 
-    def fork(self, name):
-        """Reports a fork, and answers the stamp of the child, whose position 1 is its birth, and whose epoch is this one's."""
+    def present(self):
+        """Reports the present state. It is an element until the next report, and is lost where the process fails."""
+        self.stamp.event()
+        self.report("PRESENT")
+
+    def stay(self, epoch):
+        """Goes on as it is, where the line has its present state. All that comes behind it is of this epoch."""
+        self.epoch = epoch
+
+    def fork(self, name, depth=None, store=None):
+        """Reports a fork, and answers the stamp of the child, whose position 1 is its birth, and whose epoch is this one's. The child gets
+        half of the id, or, where a depth is given, a leaf of that depth (docs/STAMPING.md, "How wide and how long a family can be"). Before
+        the fork is reported, store(kept) has to have the state of the child at its birth on disk."""
         before = self.stamp.id
-        child = self.stamp.fork()
+        child = self.stamp.fork(depth)
+        if store:
+            store({"stamp": str(child), "number": 0})
         self.report("FORK", " %s %s %s" % (text(self.stamp.id), name, text(child.id)), Stamp(before, self.stamp.events))
         return child
 

@@ -30,6 +30,49 @@ def split(i):
     return (left, 0), (0, right)
 
 
+def leaves(i, path=()):
+    """The paths of the leaves that the id owns, from left to right. A path has 0 for each left half and 1 for each right one."""
+    if i == 1:
+        yield path
+    elif isinstance(i, tuple):
+        yield from leaves(i[0], path + (0,))
+        yield from leaves(i[1], path + (1,))
+
+
+def leaf(path):
+    """The id that owns what is below this path, and nothing else."""
+    if not path:
+        return 1
+    return (leaf(path[1:]), 0) if path[0] == 0 else (0, leaf(path[1:]))
+
+
+def without(i, path):
+    """What the id owns but for what is below this path, all of which it owns."""
+    if not path:
+        return 0
+    left, right = i if isinstance(i, tuple) else (i, i)
+    if path[0] == 0:
+        return pair(without(left, path[1:]), right)
+    return pair(left, without(right, path[1:]))
+
+
+def carve(i, depth):
+    """Two ids that share no point and own together what the id owns: what is kept, and one leaf that is given away.
+
+    The leaf has this depth where the id owns something as shallow as that: it is cut from the deepest such leaf, so that the greater
+    ones stay whole. Else it is the shallowest leaf that the id owns; and of an id that is one leaf, half of it, since something is kept.
+    """
+    paths = sorted(leaves(i), key=len)
+    if not paths:
+        return 0, 0
+    fitting = [path for path in paths if len(path) <= depth]
+    path = max(fitting, key=len) if fitting else paths[0]
+    if len(paths) == 1:
+        depth = max(depth, len(path) + 1)
+    path += (0,) * (depth - len(path))
+    return without(i, path), leaf(path)
+
+
 def total(i, j):
     """What either of two ids owns that share no point."""
     if i == 0:
@@ -176,10 +219,11 @@ class Stamp:
         """The message that carries these events was received."""
         self.events = event(self.id, join(self.events, events))
 
-    def fork(self):
-        """The event and the split of a fork: the process keeps one part, and the child's stamp is answered."""
+    def fork(self, depth=None):
+        """The event and the split of a fork: the process keeps one part, and the child's stamp is answered. The child gets half of the id,
+        or, where a depth is given, a leaf of that depth."""
         self.event()
-        self.id, other = split(self.id)
+        self.id, other = split(self.id) if depth is None else carve(self.id, depth)
         return Stamp(other, self.events)
 
     def absorb(self, other):

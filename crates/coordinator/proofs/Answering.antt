@@ -1,8 +1,7 @@
 -- What is shown for a question.
-use Rattle.std.proofs.Common.{◌≡◌, inl, inr, ℕ, ◌<◌, List, [], ◌∷◌, ◌++◌, All, Option, Some, refl, sym, ap, ◌∙◌, subst}
+use Rattle.std.proofs.Common.{◌≡◌, inl, inr, ℕ, ◌<◌, List, [], ◌∷◌, ◌++◌, All, Option, Some, sym, ap, ◌∙◌, subst}
 use Rattle.std.proofs.lemmas.List.{same_from_push}
 use Rattle.report_line.specs.declared.call.Call.{Call}
-use Rattle.report_line.specs.declared.call.Call.TheVariants as calls
 use Rattle.report_line.specs.declared.reply.Reply.{Reply}
 use Rattle.report_line.specs.declared.reply.Reply.TheVariants.{Line, Taken}
 use Rattle.chains.specs.Processes.{Name}
@@ -11,14 +10,16 @@ use Rattle.chains.specs.Held.{Held, held_of}
 use Rattle.chains.specs.Folded.{IsReached}
 use Rattle.knows_row.proofs.Lawful.{lawful}
 use Rattle.reasons.specs.Certificates.{positions_of}
-use Rattle.reasons.specs.Shown.{IsLineText, IsShown}
+use Rattle.reasons.specs.Shown.{IsLineText}
 use Rattle.history_law.specs.Headline.{IsRightLine}
 use Rattle.history_law.proofs.Lines.{line_of_histories}
 use Rattle.propagate.proofs.Certified.{certified_is_greatest}
 use Rattle.desk.specs.Desks.{DeskState}
 use Rattle.desk.specs.Lawful.{unstopped}
 use Rattle.desk.specs.Records.{IsOpened}
-use Rattle.coordinator.specs.Passes.{PassEntry, PassState, IsAnswered, IsShownOver, Sees, IsLineFor}
+use Rattle.line_text.specs.Questions.{IsAnswer, IsChosenFor}
+use Rattle.line_text.proofs.Texts.{shows_taken}
+use Rattle.coordinator.specs.Passes.{PassEntry, PassState, IsAnswered, IsShownOver, Sees}
 use Rattle.coordinator.specs.Parts.{IsShownInstead, LastTaken, MayShowLine, with_line}
 use Rattle.coordinator.specs.Calls.{IsTurnFor, IsTakenFor}
 
@@ -37,24 +38,15 @@ right_text held names text reach t =
 same_text : (s t : List ℕ) → Line s ≡ Line t → s ≡ t
 same_text s t e = cc
 
-shows_taken : (held : Held) (call : Call) (text : List ℕ) (n : ℕ) → IsLineFor held call text → IsShown held call (Taken n) (Line text)
-shows_taken held (calls.Line listed) text n (names, asks, fits) = inl (text, refl, subst (λ (ns : List Name). IsLineText held ns text) asks fits)
-shows_taken held calls.Garbage text n (names, asks, fits) = inl (text, refl, subst (λ (ns : List Name). IsLineText held ns text) asks fits)
-shows_taken held (calls.Report m) text n (names, asks, fits) = absurd asks
-shows_taken held (calls.Settle front listed) text n (names, asks, fits) = absurd asks
-shows_taken held (calls.State p) text n (names, asks, fits) = absurd asks
-shows_taken held calls.Bye text n (names, asks, fits) = absurd asks
-shows_taken held (calls.Bad m) text n (names, asks, fits) = absurd asks
-shows_taken held calls.Unread text n (names, asks, fits) = absurd asks
-
 -- the line that was computed is shown
-pub shown_line : (held : Held) (call : Call) (text : List ℕ) → IsOpened (unstopped held) → IsReached held → IsLineFor held call text → IsShownOver held call (Taken held.front) (Line text)
-shown_line held call text opened reach fits = record {
+pub shown_line : (held : Held) (call : Call) (text : List ℕ) → IsOpened (unstopped held) → IsReached held → IsAnswer held call text → IsShownOver held call (Taken held.front) (Line text)
+shown_line held call text opened reach answer = let fits = answer.line in record {
   opened = opened;
   front = λ n is. cc is;
   epoch = λ e is. absurd (cc);
   shows = shows_taken held call text held.front fits;
   right = λ other e. (fits.0, fits.1, subst (IsRightLine held fits.0) (same_text text other e) (right_text held fits.0 text reach fits.2));
+  chosen = λ other e. subst (IsChosenFor held call) (same_text text other e) answer.chosen;
 }
 
 -- no line was computed
@@ -63,7 +55,7 @@ answered_turn before after old call new t = record { entry = t.entry; one = t.on
 
 -- a line was computed for what was held at the turn
 answered_shown : {D : Type 0} (before after : DeskState D) (old : PassState) (call : Call) (k : Kept) (text : List ℕ) (mid new : PassState)
-    → IsTakenFor before after old call (Some k) mid → IsReached (held_of k) → IsLineFor (held_of k) call text → IsShownInstead mid text new
+    → IsTakenFor before after old call (Some k) mid → IsReached (held_of k) → IsAnswer (held_of k) call text → IsShownInstead mid text new
     → IsAnswered old call new
 answered_shown before after old call k text mid new t reached fits (front, last, was, now) =
     let made = t.made in

@@ -28,7 +28,9 @@ use Rattle.desk.proofs.Turning.{replays_more}
 use Rattle.coordinator.specs.declared.marking.Owner.{Owner}
 use Rattle.coordinator.specs.declared.fault.CloseFault.{CloseFault}
 use Rattle.coordinator.specs.declared.fault.CloseFault.TheVariants.{Stranger, Missing, Memory}
-use Rattle.coordinator.specs.Passes.{PassEntry, PassState, AsksForLine, IsLineFor}
+use Rattle.line_text.specs.Asking.{AsksForLine}
+use Rattle.line_text.specs.Questions.{IsLineFor}
+use Rattle.coordinator.specs.Passes.{PassEntry, PassState}
 use Rattle.coordinator.specs.Closing.{IsCause, ShowsRightly}
 use Rattle.coordinator.specs.Marks.{owner_at}
 use Rattle.coordinator.specs.Checks.{HaveSame, RightOver, IsEntryOf, IsCheckedOver, IsWrongOver, AreCheckedTo, IsWrongThere}

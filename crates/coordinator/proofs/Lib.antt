@@ -1,7 +1,6 @@
 pub mod Answering
 pub mod Certifying
 pub mod Checked
-pub mod LineTexts
 pub mod Marked
 pub mod Openings
 pub mod Owned

@@ -290,6 +290,7 @@ shown_first held after call reply opened t = record {
   epoch = (tells held after call reply t).2;
   shows = shows_first held after after call reply t;
   right = λ text e. absurd (never_first held after call reply text t e);
+  chosen = λ text e. absurd (never_first held after call reply text t e);
 }
 
 -- what is shown first may be shown

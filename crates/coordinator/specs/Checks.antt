@@ -8,7 +8,8 @@ use Rattle.desk.specs.declared.turn.Turn.{Turn}
 use Rattle.coordinator.specs.declared.marking.Owner.{Owner}
 use Rattle.coordinator.specs.declared.fault.CloseFault.{CloseFault}
 use Rattle.coordinator.specs.declared.fault.CloseFault.TheVariants.{Stranger, Missing, Memory}
-use Rattle.coordinator.specs.Passes.{PassEntry, PassState, IsLineFor}
+use Rattle.line_text.specs.Questions.{IsLineFor}
+use Rattle.coordinator.specs.Passes.{PassEntry, PassState}
 use Rattle.coordinator.specs.Closing.{ShowsRightly, ShowsWrongly}
 use Rattle.coordinator.specs.Marks.{owner_at}
 

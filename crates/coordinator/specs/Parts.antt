@@ -6,7 +6,8 @@ use Rattle.report_line.specs.declared.reply.Reply.TheVariants.{Line, Taken}
 use Rattle.chains.specs.Held.{Held}
 use Rattle.chains.specs.Folded.{IsReached}
 use Rattle.chains.specs.Turns.{no_memory}
-use Rattle.coordinator.specs.Passes.{PassEntry, PassState, IsLineFor}
+use Rattle.line_text.specs.Questions.{IsAnswer}
+use Rattle.coordinator.specs.Passes.{PassEntry, PassState}
 
 -- the reply that is shown: the one that stands in its place, if one does
 abbrev pub in_place_of : Reply → Option Reply → Reply
@@ -34,4 +35,4 @@ IsShownInstead old text new =
 
 -- the last entry shows the line that this call asks for over what is held, or all is as it was
 abbrev pub MayShowLine : Held → Call → PassState → PassState → Type 0
-MayShowLine held call old new = (new ≡ old) ⊎ ((text : List ℕ) × IsReached held × IsLineFor held call text × IsShownInstead old text new)
+MayShowLine held call old new = (new ≡ old) ⊎ ((text : List ℕ) × IsReached held × IsAnswer held call text × IsShownInstead old text new)

@@ -4,11 +4,13 @@ use Rattle.report_line.specs.declared.call.Call.{Call}
 use Rattle.report_line.specs.declared.call.Call.TheVariants as calls
 use Rattle.report_line.specs.declared.reply.Reply.{Reply}
 use Rattle.report_line.specs.declared.reply.Reply.TheVariants.{Accepted, Old, Line, Settled, Taken}
-use Rattle.chains.specs.Processes.{Name, known}
+use Rattle.chains.specs.Processes.{Name}
 use Rattle.chains.specs.Held.{Held}
 use Rattle.chains.specs.Turns.{no_memory}
-use Rattle.reasons.specs.Shown.{IsLineText, IsShown}
+use Rattle.reasons.specs.Shown.{IsShown}
 use Rattle.history_law.specs.Headline.{IsRightLine}
+use Rattle.line_text.specs.Asking.{AsksForLine}
+use Rattle.line_text.specs.Questions.{IsChosenFor}
 use Rattle.desk.specs.declared.turn.Receipt.{Receipt}
 use Rattle.desk.specs.Lawful.{unstopped}
 use Rattle.desk.specs.Records.{IsOpened}
@@ -68,24 +70,16 @@ abbrev pub MayShow : Reply → Reply → Type 0
 MayShow (Taken front) shown = (shown ≡ no_memory) ⊎ ((text : List ℕ) × (shown ≡ Line text))
 MayShow reply shown = shown ≡ reply
 
--- the call asks for the line of these failed processes: of those that it names, or for GARBAGE of all that are known
-abbrev pub AsksForLine : Held → Call → List Name → Type 0
-AsksForLine held (calls.Line listed) names = names ≡ listed
-AsksForLine held calls.Garbage names = names ≡ known held.accepted
-AsksForLine held _ names = ⊥
-
--- the text is that of the line that the call asks for
-abbrev pub IsLineFor : Held → Call → List ℕ → Type 0
-IsLineFor held call text = (names : List Name) × AsksForLine held call names × IsLineText held names text
-
 -- Over what is held, which opening some records comes to and whose front and epoch are those that the reply tells, this is shown for the
--- call and the reply of its turn. A line that is shown is right: it is the greatest closed cut of every lawful history that agrees.
+-- call and the reply of its turn. A line that is shown is right: it is the greatest closed cut of every lawful history that agrees. And its text is the one
+-- that the rounds choose.
 pub record IsShownOver (held : Held) (call : Call) (reply shown : Reply) : Type 0 where
   pub opened : IsOpened (unstopped held)
   pub front : (n : ℕ) → front_of reply ≡ Some n → held.front ≡ n
   pub epoch : (e : ℕ) → epoch_of reply ≡ Some e → held.epoch ≡ e
   pub shows : IsShown held call reply shown
   pub right : (text : List ℕ) → shown ≡ Line text → (names : List Name) × AsksForLine held call names × IsRightLine held names text
+  pub chosen : (text : List ℕ) → shown ≡ Line text → IsChosenFor held call text
 
 -- ---- one entry more
 

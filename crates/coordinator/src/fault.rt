@@ -3,7 +3,7 @@
 use thiserror::Error;
 
 /// Why no pass was handed out.
-#[derive(Clone, Copy, Debug, PartialEq, Eq, Error)]
+#[derive(Clone, Copy, Debug, Error)]
 pub enum PassFault {
     /// All 8,192 passes were handed out.
     #[error("no pass is left")]
@@ -14,7 +14,7 @@ pub enum PassFault {
 }
 
 /// Why a call made no turn.
-#[derive(Clone, Copy, Debug, PartialEq, Eq, Error)]
+#[derive(Clone, Copy, Debug, Error)]
 pub enum CallFault {
     /// The pass has seen a longer front than the desk has, or a later turn.
     #[error("the pass has seen front {seen} and turn {last}, the desk has {front} and {turns}")]
@@ -37,7 +37,7 @@ pub enum CallFault {
 }
 
 /// Why a coordinator does not end.
-#[derive(Clone, Copy, Debug, PartialEq, Eq, Error)]
+#[derive(Clone, Copy, Debug, Error)]
 pub enum CloseFault {
     /// The pass of this number has an entry that does not stand at its turn, or stands at the turn of an earlier pass, or shows
     /// a line that is not right. 0: not the same was held when the desk was opened as the coordinator keeps. It comes before all others.

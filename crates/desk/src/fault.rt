@@ -6,7 +6,7 @@ use record_file::OpenFault;
 use thiserror::Error;
 
 /// Why a desk was not opened. Records are counted from 1. The disk comes back beside it.
-#[derive(Clone, Copy, Debug, PartialEq, Eq, Error)]
+#[derive(Clone, Copy, Debug, Error)]
 pub enum DeskFault {
     /// The file is no record file. It is as it was.
     #[error("foreign")]

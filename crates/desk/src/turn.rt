@@ -18,7 +18,7 @@ pub struct Turn {
 }
 
 /// Why a call got no turn. Nothing changed then.
-#[derive(Clone, Copy, Debug, PartialEq, Eq, Error)]
+#[derive(Clone, Copy, Debug, Error)]
 pub enum TurnFault {
     /// All 65,536 turns since the desk was opened were made.
     #[error("worn")]

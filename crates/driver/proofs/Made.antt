@@ -1,5 +1,5 @@
 -- The steps that are made: stamped as asked, allowed, and refused by no cause.
-use Rattle.std.proofs.Common.{Option, ◌≡◌, ◌≢◌, ℕ, ◌+◌, Some, None, refl, sym, ◌∙◌, ap, subst}
+use Rattle.std.proofs.Common.{Option, ◌≡◌, ◌≢◌, ℕ, Some, None, refl, sym, ◌∙◌, ap, subst}
 use Rattle.id_tree.specs.IdTree.{IdTree}
 use Rattle.id_tree.specs.Points.{owns}
 use Rattle.stamp.specs.declared.stamp.Stamp.{Stamp}
@@ -23,8 +23,10 @@ use Rattle.driver.specs.declared.tables.Made.{Made}
 use Rattle.driver.specs.declared.tables.Sent.{Sent}
 use Rattle.driver.specs.declared.tables.Other.{Other}
 use Rattle.driver.specs.declared.making.Alive.{Alive}
+use Rattle.driver.specs.declared.making.NextReport.{NextReport}
+use Rattle.driver.specs.declared.making.ForkParts.{ForkParts}
 use Rattle.driver.specs.Stamping.{stamp_of}
-use Rattle.driver.specs.Making.{IsAlive, IsEventMade, IsForkMade, IsReceiveMade, IsAbsorbMade, Makes}
+use Rattle.driver.specs.Making.{IsAlive, IsEventMade, IsForkMade, IsReceiveMade, IsAbsorbMade, report_after, parts_after, Makes}
 use Rattle.driver.proofs.Verdicts.{passed}
 
 -- the step of a deed, with this stamp after it
@@ -49,9 +51,9 @@ own_work e p d t w = record { same_id = λ point. ap (λ (i : IdTree). owns i po
 pub from_last : (s t : Stamp) (e : Event) → s ≡ stamp_of e → IsEventMade s t → IsEventMade (stamp_of e) t
 from_last s t e is w = subst (λ (x : Stamp). IsEventMade x t) is w
 
--- one more report
-one_more : (n m k : ℕ) → n ≡ m + 1 → m ≡ k → n ≡ k + 1
-one_more n m k is also = is ∙ ap (λ (x : ℕ). x + 1) also
+-- it is the next one after those that the process made
+counts : (root : Name) (h : History) (p : Name) (a : Alive) (t : Stamp) (r : NextReport) → IsAlive root h p a → r ≡ report_after a.reports t → r ≡ report_after (reporting_steps p h) t
+counts root h p a t r alive is = is ∙ ap (λ (n : ℕ). report_after n t) alive.reports
 
 pub makes_work : (root : Name) (h : History) (p : Name) (a : Alive) (t : Stamp) (made : Made) → IsAlive root h p a → IsEventMade a.stamp.now t
     → made ≡ silently p deeds.Work t a.reports None → Makes root h p Work made
@@ -66,42 +68,32 @@ makes_work root h p a t made alive event is = subst (λ (m : Made). Makes root h
       changes = record { actor = ap (λ (n : ℕ). Lives t n) alive.reports; other = refl; message = refl; report = refl };
     })
 
-pub makes_check : (root : Name) (h : History) (p : Name) (a : Alive) (t kept reported : Stamp) (n : ℕ) (made : Made) → IsAlive root h p a → IsEventMade a.stamp.now t
-    → kept ≡ t → reported ≡ t → n ≡ a.reports + 1 → made ≡ openly p deeds.Check t (Lives kept n) None n reported acts.Check → Makes root h p Check made
-makes_check root h p a t kept reported n made alive event is_kept is_reported number is = subst (λ (m : Made). Makes root h p Check m) (sym is)
-    (let w = from_last a.stamp.now t alive.last alive.stamp event in
-    let count = one_more n a.reports (reporting_steps p h) number alive.reports in record {
+pub makes_check : (root : Name) (h : History) (p : Name) (a : Alive) (t : Stamp) (c : NextReport) (made : Made) → IsAlive root h p a → IsEventMade a.stamp.now t
+    → c ≡ report_after a.reports t → made ≡ openly p deeds.Check t (Lives c.kept c.number) None c.number c.reported acts.Check → Makes root h p Check made
+makes_check root h p a t c made alive event count is = subst (λ (m : Made). Makes root h p Check m)
+    (sym (is ∙ ap (λ (x : NextReport). openly p deeds.Check t (Lives x.kept x.number) None x.number x.reported acts.Check) (counts root h p a t c alive count)))
+    (let w = from_last a.stamp.now t alive.last alive.stamp event in record {
       process = refl;
       before = alive.last;
       living = alive.lives;
       stamped = (refl, w.event);
       allowed = own_work alive.last p deeds.Check t w;
       verdict = passed root h p Check alive.last alive.lives (λ no. no) (λ no. no) (λ no. no) (λ no. no) (λ no. no) w.fits (λ no. no);
-      changes = record {
-        actor = ap (λ (s : Stamp). Lives s n) is_kept ∙ ap (λ (k : ℕ). Lives t k) count;
-        other = refl;
-        message = refl;
-        report = ap (λ (s : Stamp). Some (numbered p n s acts.Check)) is_reported ∙ ap (λ (k : ℕ). Some (numbered p k t acts.Check)) count;
-      };
+      changes = record { actor = refl; other = refl; message = refl; report = refl };
     })
 
-pub makes_present : (root : Name) (h : History) (p : Name) (a : Alive) (t kept reported : Stamp) (n : ℕ) (made : Made) → IsAlive root h p a → IsEventMade a.stamp.now t
-    → kept ≡ t → reported ≡ t → n ≡ a.reports + 1 → made ≡ openly p deeds.Present t (Lives kept n) None n reported acts.Present → Makes root h p Present made
-makes_present root h p a t kept reported n made alive event is_kept is_reported number is = subst (λ (m : Made). Makes root h p Present m) (sym is)
-    (let w = from_last a.stamp.now t alive.last alive.stamp event in
-    let count = one_more n a.reports (reporting_steps p h) number alive.reports in record {
+pub makes_present : (root : Name) (h : History) (p : Name) (a : Alive) (t : Stamp) (c : NextReport) (made : Made) → IsAlive root h p a → IsEventMade a.stamp.now t
+    → c ≡ report_after a.reports t → made ≡ openly p deeds.Present t (Lives c.kept c.number) None c.number c.reported acts.Present → Makes root h p Present made
+makes_present root h p a t c made alive event count is = subst (λ (m : Made). Makes root h p Present m)
+    (sym (is ∙ ap (λ (x : NextReport). openly p deeds.Present t (Lives x.kept x.number) None x.number x.reported acts.Present) (counts root h p a t c alive count)))
+    (let w = from_last a.stamp.now t alive.last alive.stamp event in record {
       process = refl;
       before = alive.last;
       living = alive.lives;
       stamped = (refl, w.event);
       allowed = own_work alive.last p deeds.Present t w;
       verdict = passed root h p Present alive.last alive.lives (λ no. no) (λ no. no) (λ no. no) (λ no. no) (λ no. no) w.fits (λ no. no);
-      changes = record {
-        actor = ap (λ (s : Stamp). Lives s n) is_kept ∙ ap (λ (k : ℕ). Lives t k) count;
-        other = refl;
-        message = refl;
-        report = ap (λ (s : Stamp). Some (numbered p n s acts.Present)) is_reported ∙ ap (λ (k : ℕ). Some (numbered p k t acts.Present)) count;
-      };
+      changes = record { actor = refl; other = refl; message = refl; report = refl };
     })
 
 pub makes_send : (root : Name) (h : History) (p m x y : Name) (a : Alive) (t : Stamp) (events : EventTree) (made : Made) → IsAlive root h p a → IsEventMade a.stamp.now t
@@ -150,13 +142,21 @@ makes_receive root h p m y a t came sent made alive is_sent is_came receive is_y
     same_sent : (d e : Event) → Some d ≡ Some e → d ≡ e
     same_sent d e is = cc
 
-pub makes_fork : (root : Name) (h : History) (p c x y : Name) (a : Alive) (t own begun : Stamp) (given id : IdTree) (events : EventTree) (action : Action) (kept' given' : IdTree) (z : Name) (n : ℕ) (made : Made)
-    → IsAlive root h p a → status root h c ≡ Unborn → IsForkMade a.stamp.now t begun → own ≡ t → n ≡ a.reports + 1
-    → x ≡ c → y ≡ c → z ≡ c → given ≡ begun.id → id ≡ a.stamp.now.id → events ≡ t.events → kept' ≡ t.id → given' ≡ begun.id
-    → action ≡ acts.Fork (record { kept = kept'; child = z; given = given' })
-    → made ≡ openly p (deeds.Fork y given) t (Lives own n) (Some (record { name = x; known = Lives begun 0 })) n (record { id = id; events = events }) action
+-- the step of a fork, of a retirement and of an absorption, of the parts that are made for it
+abbrev pub forking : Name → Stamp → ForkParts → Name → Name → Stamp → Made
+forking p t v y x b = openly p (deeds.Fork y v.given) t (Lives v.kept v.number) (Some (record { name = x; known = Lives b 0 })) v.number v.reported v.action
+
+abbrev pub retiring : Name → Stamp → NextReport → Name → Name → Name → Made
+retiring p t v x y z = openly p (deeds.Retire x) t (Waits v.kept y) None v.number v.reported (acts.Retire z)
+
+abbrev pub absorbing : Name → Stamp → NextReport → Name → Name → Name → Made
+absorbing p t v x y z = openly p (deeds.Absorb x) t (Lives v.kept v.number) (Some (record { name = y; known = Gone })) v.number v.reported (acts.Absorb z)
+
+pub makes_fork : (root : Name) (h : History) (p c x y : Name) (a : Alive) (t begun : Stamp) (parts : ForkParts) (made : Made)
+    → IsAlive root h p a → status root h c ≡ Unborn → IsForkMade a.stamp.now t begun → parts ≡ parts_after a.reports a.stamp.now.id t c begun.id → x ≡ c → y ≡ c
+    → made ≡ forking p t parts y x begun
     → Makes root h p (Fork c) made
-makes_fork root h p c x y a t own begun given id events action kept' given' z n made alive unborn fork is_own number is_x is_y is_z is_given is_id is_events is_kept is_given' is_action is =
+makes_fork root h p c x y a t begun parts made alive unborn fork parted is_x is_y is =
     subst (λ (made' : Made). Makes root h p (Fork c) made') (sym (is ∙ same))
     (let w : IsForkMade (stamp_of alive.last) t begun = subst (λ (s : Stamp). IsForkMade s t begun) alive.stamp fork in record {
       process = refl;
@@ -179,37 +179,21 @@ makes_fork root h p c x y a t own begun given id events action kept' given' z n 
     begun_is : begun ≡ record { id = begun.id; events = t.events }
     begun_is = ap (λ (e : EventTree). record { id = begun.id; events = e }) fork.fork.same
 
-    count : n ≡ reporting_steps p h + 1
-    count = one_more n a.reports (reporting_steps p h) number alive.reports
+    is_before : a.stamp.now.id ≡ id_of (status root h p)
+    is_before = ap (λ (s : Stamp). s.id) alive.stamp ∙ ap id_of (sym alive.lives)
 
-    is_before : id ≡ id_of (status root h p)
-    is_before = is_id ∙ (ap (λ (s : Stamp). s.id) alive.stamp ∙ ap id_of (sym alive.lives))
-
-    same : openly p (deeds.Fork y given) t (Lives own n) (Some (record { name = x; known = Lives begun 0 })) n (record { id = id; events = events }) action
-        ≡ openly p (deeds.Fork c begun.id) t (Lives t (reporting_steps p h + 1)) (Some (record { name = c; known = Lives (record { id = begun.id; events = t.events }) 0 })) (reporting_steps p h + 1) (record { id = id_of (status root h p); events = t.events }) (acts.Fork (record { kept = t.id; child = c; given = begun.id }))
+    same : forking p t parts y x begun ≡ forking p t (parts_after (reporting_steps p h) (id_of (status root h p)) t c begun.id) c c (record { id = begun.id; events = t.events })
     same =
-        ap (λ (v : Name). openly p (deeds.Fork v given) t (Lives own n) (Some (record { name = x; known = Lives begun 0 })) n (record { id = id; events = events }) action) is_y
-        ∙ (ap (λ (v : IdTree). openly p (deeds.Fork c v) t (Lives own n) (Some (record { name = x; known = Lives begun 0 })) n (record { id = id; events = events }) action) is_given
-        ∙ (ap (λ (v : Stamp). openly p (deeds.Fork c begun.id) t (Lives v n) (Some (record { name = x; known = Lives begun 0 })) n (record { id = id; events = events }) action) is_own
-        ∙ (ap (λ (v : Name). openly p (deeds.Fork c begun.id) t (Lives t n) (Some (record { name = v; known = Lives begun 0 })) n (record { id = id; events = events }) action) is_x
-        ∙ (ap (λ (v : Stamp). openly p (deeds.Fork c begun.id) t (Lives t n) (Some (record { name = c; known = Lives v 0 })) n (record { id = id; events = events }) action) begun_is
-        ∙ (ap (λ (v : IdTree). openly p (deeds.Fork c begun.id) t (Lives t n) (Some (record { name = c; known = Lives (record { id = begun.id; events = t.events }) 0 })) n (record { id = v; events = events }) action) is_before
-        ∙ (ap (λ (v : EventTree). openly p (deeds.Fork c begun.id) t (Lives t n) (Some (record { name = c; known = Lives (record { id = begun.id; events = t.events }) 0 })) n (record { id = id_of (status root h p); events = v }) action) is_events
-        ∙ (ap (λ (v : Action). openly p (deeds.Fork c begun.id) t (Lives t n) (Some (record { name = c; known = Lives (record { id = begun.id; events = t.events }) 0 })) n (record { id = id_of (status root h p); events = t.events }) v) action_is
-        ∙ ap (λ (k : ℕ). openly p (deeds.Fork c begun.id) t (Lives t k) (Some (record { name = c; known = Lives (record { id = begun.id; events = t.events }) 0 })) k (record { id = id_of (status root h p); events = t.events }) (acts.Fork (record { kept = t.id; child = c; given = begun.id }))) count)))))))
-      where
-        action_is : action ≡ acts.Fork (record { kept = t.id; child = c; given = begun.id })
-        action_is =
-            is_action
-            ∙ (ap (λ (v : IdTree). acts.Fork (record { kept = v; child = z; given = given' })) is_kept
-            ∙ (ap (λ (v : Name). acts.Fork (record { kept = t.id; child = v; given = given' })) is_z
-            ∙ ap (λ (v : IdTree). acts.Fork (record { kept = t.id; child = c; given = v })) is_given'))
+        ap (λ (v : ForkParts). forking p t v y x begun) (parted ∙ (ap (λ (n : ℕ). parts_after n a.stamp.now.id t c begun.id) alive.reports
+        ∙ ap (λ (i : IdTree). parts_after (reporting_steps p h) i t c begun.id) is_before))
+        ∙ (ap (λ (v : Name). forking p t (parts_after (reporting_steps p h) (id_of (status root h p)) t c begun.id) v x begun) is_y
+        ∙ (ap (λ (v : Name). forking p t (parts_after (reporting_steps p h) (id_of (status root h p)) t c begun.id) c v begun) is_x
+        ∙ ap (λ (v : Stamp). forking p t (parts_after (reporting_steps p h) (id_of (status root h p)) t c begun.id) c c v) begun_is))
 
-pub makes_retire : (root : Name) (h : History) (p q x y z : Name) (a : Alive) (t kept reported : Stamp) (n : ℕ) (made : Made)
-    → IsAlive root h p a → IsEventMade a.stamp.now t → status root h q ≢ Unborn → q ≢ p
-    → kept ≡ t → reported ≡ t → n ≡ a.reports + 1 → x ≡ q → y ≡ q → z ≡ q
-    → made ≡ openly p (deeds.Retire x) t (Waits kept y) None n reported (acts.Retire z) → Makes root h p (Retire q) made
-makes_retire root h p q x y z a t kept reported n made alive event born other is_kept is_reported number is_x is_y is_z is =
+pub makes_retire : (root : Name) (h : History) (p q x y z : Name) (a : Alive) (t : Stamp) (c : NextReport) (made : Made)
+    → IsAlive root h p a → IsEventMade a.stamp.now t → status root h q ≢ Unborn → q ≢ p → c ≡ report_after a.reports t → x ≡ q → y ≡ q → z ≡ q
+    → made ≡ retiring p t c x y z → Makes root h p (Retire q) made
+makes_retire root h p q x y z a t c made alive event born other count is_x is_y is_z is =
     subst (λ (made' : Made). Makes root h p (Retire q) made') (sym (is ∙ same))
     (let w = from_last a.stamp.now t alive.last alive.stamp event in record {
       process = refl;
@@ -221,20 +205,17 @@ makes_retire root h p q x y z a t kept reported n made alive event born other is
       changes = record { actor = refl; other = refl; message = refl; report = refl };
     })
   where
-    same : openly p (deeds.Retire x) t (Waits kept y) None n reported (acts.Retire z) ≡ openly p (deeds.Retire q) t (Waits t q) None (reporting_steps p h + 1) t (acts.Retire q)
+    same : retiring p t c x y z ≡ retiring p t (report_after (reporting_steps p h) t) q q q
     same =
-        ap (λ (v : Name). openly p (deeds.Retire v) t (Waits kept y) None n reported (acts.Retire z)) is_x
-        ∙ (ap (λ (v : Stamp). openly p (deeds.Retire q) t (Waits v y) None n reported (acts.Retire z)) is_kept
-        ∙ (ap (λ (v : Name). openly p (deeds.Retire q) t (Waits t v) None n reported (acts.Retire z)) is_y
-        ∙ (ap (λ (v : Stamp). openly p (deeds.Retire q) t (Waits t q) None n v (acts.Retire z)) is_reported
-        ∙ (ap (λ (v : Name). openly p (deeds.Retire q) t (Waits t q) None n t (acts.Retire v)) is_z
-        ∙ ap (λ (k : ℕ). openly p (deeds.Retire q) t (Waits t q) None k t (acts.Retire q)) (one_more n a.reports (reporting_steps p h) number alive.reports)))))
+        ap (λ (v : NextReport). retiring p t v x y z) (counts root h p a t c alive count)
+        ∙ (ap (λ (v : Name). retiring p t (report_after (reporting_steps p h) t) v y z) is_x
+        ∙ (ap (λ (v : Name). retiring p t (report_after (reporting_steps p h) t) q v z) is_y
+        ∙ ap (λ (v : Name). retiring p t (report_after (reporting_steps p h) t) q q v) is_z))
 
-pub makes_absorb : (root : Name) (h : History) (p r x y z : Name) (a : Alive) (retired t own reported : Stamp) (e : Event) (n : ℕ) (made : Made)
-    → IsAlive root h p a → status root h r ≡ Retired e p → retired ≡ stamp_of e → IsAbsorbMade a.stamp.now retired t
-    → own ≡ t → reported ≡ t → n ≡ a.reports + 1 → x ≡ r → y ≡ r → z ≡ r
-    → made ≡ openly p (deeds.Absorb x) t (Lives own n) (Some (record { name = y; known = Gone })) n reported (acts.Absorb z) → Makes root h p (Absorb r) made
-makes_absorb root h p r x y z a retired t own reported e n made alive waits is_retired absorb is_own is_reported number is_x is_y is_z is =
+pub makes_absorb : (root : Name) (h : History) (p r x y z : Name) (a : Alive) (retired t : Stamp) (e : Event) (c : NextReport) (made : Made)
+    → IsAlive root h p a → status root h r ≡ Retired e p → retired ≡ stamp_of e → IsAbsorbMade a.stamp.now retired t → c ≡ report_after a.reports t → x ≡ r → y ≡ r → z ≡ r
+    → made ≡ absorbing p t c x y z → Makes root h p (Absorb r) made
+makes_absorb root h p r x y z a retired t e c made alive waits is_retired absorb count is_x is_y is_z is =
     subst (λ (made' : Made). Makes root h p (Absorb r) made') (sym (is ∙ same))
     (let w : IsAbsorbMade (stamp_of alive.last) (stamp_of e) t =
     subst (λ (s : Stamp). IsAbsorbMade s (stamp_of e) t) alive.stamp (subst (λ (s : Stamp). IsAbsorbMade a.stamp.now s t) is_retired absorb) in record {
@@ -255,12 +236,9 @@ makes_absorb root h p r x y z a retired t own reported e n made alive waits is_r
       changes = record { actor = refl; other = refl; message = refl; report = refl };
     })
   where
-    same : openly p (deeds.Absorb x) t (Lives own n) (Some (record { name = y; known = Gone })) n reported (acts.Absorb z)
-        ≡ openly p (deeds.Absorb r) t (Lives t (reporting_steps p h + 1)) (Some (record { name = r; known = Gone })) (reporting_steps p h + 1) t (acts.Absorb r)
+    same : absorbing p t c x y z ≡ absorbing p t (report_after (reporting_steps p h) t) r r r
     same =
-        ap (λ (v : Name). openly p (deeds.Absorb v) t (Lives own n) (Some (record { name = y; known = Gone })) n reported (acts.Absorb z)) is_x
-        ∙ (ap (λ (v : Stamp). openly p (deeds.Absorb r) t (Lives v n) (Some (record { name = y; known = Gone })) n reported (acts.Absorb z)) is_own
-        ∙ (ap (λ (v : Name). openly p (deeds.Absorb r) t (Lives t n) (Some (record { name = v; known = Gone })) n reported (acts.Absorb z)) is_y
-        ∙ (ap (λ (v : Stamp). openly p (deeds.Absorb r) t (Lives t n) (Some (record { name = r; known = Gone })) n v (acts.Absorb z)) is_reported
-        ∙ (ap (λ (v : Name). openly p (deeds.Absorb r) t (Lives t n) (Some (record { name = r; known = Gone })) n t (acts.Absorb v)) is_z
-        ∙ ap (λ (k : ℕ). openly p (deeds.Absorb r) t (Lives t k) (Some (record { name = r; known = Gone })) k t (acts.Absorb r)) (one_more n a.reports (reporting_steps p h) number alive.reports)))))
+        ap (λ (v : NextReport). absorbing p t v x y z) (counts root h p a t c alive count)
+        ∙ (ap (λ (v : Name). absorbing p t (report_after (reporting_steps p h) t) v y z) is_x
+        ∙ (ap (λ (v : Name). absorbing p t (report_after (reporting_steps p h) t) r v z) is_y
+        ∙ ap (λ (v : Name). absorbing p t (report_after (reporting_steps p h) t) r r v) is_z))

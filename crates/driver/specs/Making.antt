@@ -1,6 +1,7 @@
 -- Working definitions: what the parts of a step answer.
-use Rattle.std.specs.Prelude.{◌≡◌, ◌≢◌, ◌⊎◌, ◌<◌, ◌≤◌, IsTrue, vec_len, vec_capacity, ◌∷◌, Option, Some, None, Result, Ok, Err, ⊤}
+use Rattle.std.specs.Prelude.{ℕ, ◌+◌, ◌≡◌, ◌≢◌, ◌⊎◌, ◌<◌, ◌≤◌, IsTrue, vec_len, vec_capacity, ◌∷◌, Option, Some, None, Result, Ok, Err, ⊤}
 use Rattle.std.specs.Borrow.{Bor}
+use Rattle.id_tree.specs.IdTree.{IdTree}
 use Rattle.id_tree.specs.NormalForm.{IsId, depth_limit}
 use Rattle.event_tree.specs.EventTree.{EventTree}
 use Rattle.event_tree.specs.Event.{PassesLimit}
@@ -15,6 +16,7 @@ use Rattle.report_line.specs.Lawful.{IsAllowed}
 use Rattle.report_line.specs.StepReports.{reporting_steps, report_of}
 use Rattle.report_line.specs.declared.report.Report.{Report}
 use Rattle.report_line.specs.declared.report.Report.TheVariants.{Begin, Numbered}
+use Rattle.report_line.specs.declared.report.Action.TheVariants as acts
 use Rattle.report_line.specs.declared.step.Deed.{Deed}
 use Rattle.report_line.specs.declared.step.Deed.TheVariants.{Fork, Retire, Absorb}
 use Rattle.report_line.specs.Names.{is_name}
@@ -24,6 +26,8 @@ use Rattle.driver.specs.declared.step.Act.{Act}
 use Rattle.driver.specs.declared.fault.StepFault.{StepFault}
 use Rattle.driver.specs.declared.fault.StepFault.TheVariants as faults
 use Rattle.driver.specs.declared.making.Alive.{Alive}
+use Rattle.driver.specs.declared.making.NextReport.{NextReport}
+use Rattle.driver.specs.declared.making.ForkParts.{ForkParts}
 use Rattle.indexmap.specs.IndexMap.{spare}
 use Rattle.driver.specs.declared.tables.Tables.{Tables}
 use Rattle.driver.specs.declared.tables.Made.{Made}
@@ -55,6 +59,25 @@ pub record IsEventMade (s t : Stamp) : Type 0 where
 abbrev pub EventTold : Stamp → Result Stamp StepFault → Type 0
 EventTold s (Ok t) = IsEventMade s t
 EventTold s (Err f) = (f ≡ faults.Memory) ⊎ ((f ≡ faults.ClockFull) × PassesLimit s.id s.events)
+
+-- what a report at a stamp takes, the next one after so many
+abbrev pub report_after : ℕ → Stamp → NextReport
+report_after n t = record { number = n + 1; reported = t; kept = t }
+
+-- an event, and what its report takes
+abbrev pub WorkTold : Stamp → ℕ → Result (Stamp × NextReport) StepFault → Type 0
+WorkTold s n (Ok w) = IsEventMade s w.0 × (w.1 ≡ report_after n w.0)
+WorkTold s n (Err f) = EventTold s (Err f)
+
+-- what a fork takes whose report is the next one after so many, of an id, the stamp that is kept, the child and the part that it is given
+abbrev pub parts_after : ℕ → IdTree → Stamp → Name → IdTree → ForkParts
+parts_after n id kept child given = record {
+  number = n + 1;
+  reported = record { id = id; events = kept.events };
+  action = acts.Fork (record { kept = kept.id; child = child; given = given });
+  given = given;
+  kept = kept;
+}
 
 -- halves of an id after an event, or why there are none
 pub record IsForkMade (s l r : Stamp) : Type 0 where

@@ -82,12 +82,12 @@ fn keep(alloc: Global, tables: &mut Tables, step: &Taken) -> Result<(), StepFaul
         }
         Err(_) => unreachable!(),
     };
+    reserve(tables)?;
     let made = match remade(alloc, step, reports) {
         Ok(made) => made,
         Err(fault) => return Err(fault),
     };
-    reserve(tables)?;
-    let _none = add(tables, made);
+    drop(add(tables, made));
     Ok(())
 }
 

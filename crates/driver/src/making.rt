@@ -3,7 +3,7 @@
 ghost use Rattle.std.specs.Prelude.{◌≡◌, ◌≢◌, ◌+◌, ◌<◌, ◌^◌, ◌↔◌, false, IfOk, IfErr, OnOk, Some, None};
 ghost use Rattle.id_tree.specs.Points.{OwnsSome, Overlap};
 ghost use Rattle.report_line.specs.History.{Unborn, status};
-ghost use Rattle.driver.specs.Making.{AliveTold, EventTold, ForkTold, ReceiveTold, AbsorbTold, MessageTold, RetirementTold, MakingTold};
+ghost use Rattle.driver.specs.Making.{AliveTold, EventTold, report_after, WorkTold, parts_after, ForkTold, ReceiveTold, AbsorbTold, MessageTold, RetirementTold, MakingTold};
 ghost use Rattle.driver.specs.Tables.{AreSound, history_in};
 
 use crate::fault::StepFault;
@@ -21,6 +21,24 @@ use std::alloc::{AllocError, Global};
 pub(crate) struct Alive<'a> {
     pub(crate) stamp: &'a Stamp,
     pub(crate) reports: u32,
+}
+
+/// What the next report of a process takes: its number, and the stamp twice, for the report and for what stays known.
+#[derive(Drop)]
+pub(crate) struct NextReport {
+    pub(crate) number: u32,
+    pub(crate) reported: Stamp,
+    pub(crate) kept: Stamp,
+}
+
+/// What a fork takes: number, stamp and action of its report, the part of the id for the deed, and the stamp that stays known.
+#[derive(Drop)]
+pub(crate) struct ForkParts {
+    pub(crate) number: u32,
+    pub(crate) reported: Stamp,
+    pub(crate) action: Action,
+    pub(crate) given: Id,
+    pub(crate) kept: Stamp,
 }
 
 // The process, where it lives.
@@ -146,7 +164,12 @@ fn silent(
 ) -> Result<Made, AllocError>
     ensures { IfOk result (λ m. m ≡ record { step = record { process = process.now; deed = deed; stamp = stamp }; after = Known.Lives stamp reports; other = None; message = message; report = None }) }
 {
-    let after = stamp.copy(alloc)?;
+    let Ok(after) = stamp.copy(alloc) else {
+        drop(deed);
+        drop(stamp);
+        drop(message);
+        return Err(AllocError);
+    };
     Ok(Made {
         step: Taken {
             process: process.copy(),
@@ -173,6 +196,64 @@ pub(crate) fn next_number(reports: u32) -> Result<u32, StepFault>
         return Err(StepFault::Memory);
     }
     Ok(reports + 1)
+}
+
+// The same stamp twice.
+pub(crate) fn twice(alloc: Global, stamp: &Stamp) -> Result<(Stamp, Stamp), AllocError>
+    ensures { IfOk result (λ both. both ≡ (stamp.now, stamp.now)) }
+{
+    let first = stamp.copy(alloc)?;
+    let Ok(second) = stamp.copy(alloc) else {
+        drop(first);
+        return Err(AllocError);
+    };
+    Ok((first, second))
+}
+
+// What a report at this stamp takes, the next one after so many.
+fn next_report(alloc: Global, reports: u32, stamp: &Stamp) -> Result<NextReport, StepFault>
+    ensures ok { IfOk result (λ r. r ≡ report_after reports stamp.now) }
+    ensures err { IfErr result (λ f. f ≡ StepFault.Memory) }
+{
+    let number = next_number(reports)?;
+    let (reported, kept) = twice(alloc, stamp)?;
+    Ok(NextReport {
+        number,
+        reported,
+        kept,
+    })
+}
+
+// The same, and the name that is reported, in a block of its own.
+fn next_report_naming(
+    alloc: Global,
+    reports: u32,
+    stamp: &Stamp,
+    name: &Name,
+) -> Result<(NextReport, Shared<Name>), StepFault>
+    ensures report { IfOk result (λ r. r.0 ≡ report_after reports stamp.now) }
+    ensures name { IfOk result (λ r. r.1 ≡ name.now) }
+    ensures err { IfErr result (λ f. f ≡ StepFault.Memory) }
+{
+    let report = next_report(alloc, reports, stamp)?;
+    let Ok(name) = Shared::new(alloc, name.copy()) else {
+        drop(report);
+        return Err(StepFault::Memory);
+    };
+    Ok((report, name))
+}
+
+// An event of who owns something, and what its report takes.
+fn worked(alloc: Global, stamp: &Stamp, reports: u32) -> Result<(Stamp, NextReport), StepFault>
+    requires { OwnsSome stamp.now.id }
+    ensures { WorkTold stamp.now reports result }
+{
+    let after = event(alloc, stamp)?;
+    let Ok(report) = next_report(alloc, reports, &after) else {
+        drop(after);
+        return Err(StepFault::Memory);
+    };
+    Ok((after, report))
 }
 
 // A step that is reported.
@@ -216,6 +297,15 @@ fn born(child: &Name, stamp: Stamp) -> Other
     }
 }
 
+// A stamp of these two parts.
+fn of_both(alloc: Global, id: &Id, events: &Events) -> Result<Stamp, AllocError>
+    ensures { IfOk result (λ s. s ≡ record { id = id.now; events = events.now }) }
+{
+    let id = id.copy(alloc)?;
+    let events = events.copy(alloc)?;
+    Ok(Stamp { id, events })
+}
+
 // What a fork reports.
 fn forked(alloc: Global, kept: &Id, child: &Name, given: &Id) -> Result<Action, AllocError>
     ensures { IfOk result (λ a. a ≡ Action.Fork (record { kept = kept.now; child = child.now; given = given.now })) }
@@ -223,6 +313,61 @@ fn forked(alloc: Global, kept: &Id, child: &Name, given: &Id) -> Result<Action, 
     let kept = kept.copy(alloc)?;
     let given = given.copy(alloc)?;
     Action::fork(alloc, kept, child.copy(), given)
+}
+
+// The stamp of a fork's report, and what it reports.
+fn fork_report(
+    alloc: Global,
+    id: &Id,
+    kept: &Stamp,
+    child: &Name,
+    given: &Id,
+) -> Result<(Stamp, Action), AllocError>
+    ensures { IfOk result (λ r. r ≡ (record { id = id.now; events = kept.now.events }, Action.Fork (record { kept = kept.now.id; child = child.now; given = given.now }))) }
+{
+    let reported = of_both(alloc, id, &kept.events)?;
+    let Ok(action) = forked(alloc, &kept.id, child, given) else {
+        drop(reported);
+        return Err(AllocError);
+    };
+    Ok((reported, action))
+}
+
+// The part that a child is given once more, and the stamp that stays known.
+fn fork_copies(alloc: Global, kept: &Stamp, given: &Id) -> Result<(Id, Stamp), AllocError>
+    ensures { IfOk result (λ c. c ≡ (given.now, kept.now)) }
+{
+    let given = given.copy(alloc)?;
+    let kept = kept.copy(alloc)?;
+    Ok((given, kept))
+}
+
+// What a fork takes that parts this id, where its report is the next one after so many.
+fn fork_parts(
+    alloc: Global,
+    reports: u32,
+    id: &Id,
+    kept: &Stamp,
+    child: &Name,
+    given: &Id,
+) -> Result<ForkParts, StepFault>
+    ensures ok { IfOk result (λ p. p ≡ parts_after reports id.now kept.now child.now given.now) }
+    ensures err { IfErr result (λ f. f ≡ StepFault.Memory) }
+{
+    let number = next_number(reports)?;
+    let (reported, action) = fork_report(alloc, id, kept, child, given)?;
+    let Ok((given, kept)) = fork_copies(alloc, kept, given) else {
+        drop(reported);
+        drop(action);
+        return Err(StepFault::Memory);
+    };
+    Ok(ForkParts {
+        number,
+        reported,
+        action,
+        given,
+        kept,
+    })
 }
 
 pub(crate) fn work(alloc: Global, tables: &Tables, process: &Name) -> Result<Made, StepFault>
@@ -240,13 +385,10 @@ pub(crate) fn check(alloc: Global, tables: &Tables, process: &Name) -> Result<Ma
     ensures { MakingTold tables.now.root (history_in tables.now) process.now Act.Check result }
 {
     let alive = living(tables, process)?;
-    let stamp = event(alloc, alive.stamp)?;
-    let number = next_number(alive.reports)?;
-    let reported = stamp.copy(alloc)?;
-    let kept = stamp.copy(alloc)?;
+    let (stamp, report) = worked(alloc, alive.stamp, alive.reports)?;
     let after = Known::Lives {
-        stamp: kept,
-        reports: number,
+        stamp: report.kept,
+        reports: report.number,
     };
     Ok(told(
         process,
@@ -254,8 +396,8 @@ pub(crate) fn check(alloc: Global, tables: &Tables, process: &Name) -> Result<Ma
         stamp,
         after,
         None,
-        number,
-        reported,
+        report.number,
+        report.reported,
         Action::Check,
     ))
 }
@@ -265,13 +407,10 @@ pub(crate) fn present(alloc: Global, tables: &Tables, process: &Name) -> Result<
     ensures { MakingTold tables.now.root (history_in tables.now) process.now Act.Present result }
 {
     let alive = living(tables, process)?;
-    let stamp = event(alloc, alive.stamp)?;
-    let number = next_number(alive.reports)?;
-    let reported = stamp.copy(alloc)?;
-    let kept = stamp.copy(alloc)?;
+    let (stamp, report) = worked(alloc, alive.stamp, alive.reports)?;
     let after = Known::Lives {
-        stamp: kept,
-        reports: number,
+        stamp: report.kept,
+        reports: report.number,
     };
     Ok(told(
         process,
@@ -279,8 +418,8 @@ pub(crate) fn present(alloc: Global, tables: &Tables, process: &Name) -> Result<
         stamp,
         after,
         None,
-        number,
-        reported,
+        report.number,
+        report.reported,
         Action::Present,
     ))
 }
@@ -298,7 +437,10 @@ pub(crate) fn send(
     match message(tables, name) {
         None => {
             let stamp = event(alloc, alive.stamp)?;
-            let events = stamp.events.copy(alloc)?;
+            let Ok(events) = stamp.events.copy(alloc) else {
+                drop(stamp);
+                return Err(StepFault::Memory);
+            };
             let sent = Sent {
                 name: name.copy(),
                 events,
@@ -353,30 +495,35 @@ pub(crate) fn fork(
         Ok(halves) => halves,
         Err(fault) => return Err(fault),
     };
-    let number = next_number(alive.reports)?;
-    let id = alive.stamp.id.copy(alloc)?;
-    let events = stamp.events.copy(alloc)?;
-    let action = forked(alloc, &stamp.id, child, &begun.id)?;
-    let given = begun.id.copy(alloc)?;
+    let Ok(parts) = fork_parts(
+        alloc,
+        alive.reports,
+        &alive.stamp.id,
+        &stamp,
+        child,
+        &begun.id,
+    ) else {
+        drop(stamp);
+        drop(begun);
+        return Err(StepFault::Memory);
+    };
     let deed = Deed::Fork {
         child: child.copy(),
-        given,
+        given: parts.given,
     };
-    let other = born(child, begun);
-    let own = stamp.copy(alloc)?;
     let after = Known::Lives {
-        stamp: own,
-        reports: number,
+        stamp: parts.kept,
+        reports: parts.number,
     };
     Ok(told(
         process,
         deed,
         stamp,
         after,
-        Some(other),
-        number,
-        Stamp { id, events },
-        action,
+        Some(born(child, begun)),
+        parts.number,
+        parts.reported,
+        parts.action,
     ))
 }
 
@@ -397,15 +544,15 @@ pub(crate) fn retire(
         return Err(StepFault::SelfTarget);
     }
     let stamp = event(alloc, alive.stamp)?;
-    let number = next_number(alive.reports)?;
-    let reported = stamp.copy(alloc)?;
-    let kept = stamp.copy(alloc)?;
-    let into = Shared::new(alloc, target.copy())?;
+    let Ok((report, into)) = next_report_naming(alloc, alive.reports, &stamp, target) else {
+        drop(stamp);
+        return Err(StepFault::Memory);
+    };
     let deed = Deed::Retire {
         target: target.copy(),
     };
     let after = Known::Waits {
-        stamp: kept,
+        stamp: report.kept,
         target: target.copy(),
     };
     Ok(told(
@@ -414,8 +561,8 @@ pub(crate) fn retire(
         stamp,
         after,
         None,
-        number,
-        reported,
+        report.number,
+        report.reported,
         Action::Retire { target: into },
     ))
 }
@@ -434,10 +581,10 @@ pub(crate) fn absorb(
         None => Err(StepFault::NotWaiting),
         Some(retired) => {
             let stamp = absorbed(alloc, alive.stamp, retired)?;
-            let number = next_number(alive.reports)?;
-            let reported = stamp.copy(alloc)?;
-            let own = stamp.copy(alloc)?;
-            let of = Shared::new(alloc, name.copy())?;
+            let Ok((report, of)) = next_report_naming(alloc, alive.reports, &stamp, name) else {
+                drop(stamp);
+                return Err(StepFault::Memory);
+            };
             let deed = Deed::Absorb {
                 retired: name.copy(),
             };
@@ -446,8 +593,8 @@ pub(crate) fn absorb(
                 known: Known::Gone,
             };
             let after = Known::Lives {
-                stamp: own,
-                reports: number,
+                stamp: report.kept,
+                reports: report.number,
             };
             Ok(told(
                 process,
@@ -455,8 +602,8 @@ pub(crate) fn absorb(
                 stamp,
                 after,
                 Some(other),
-                number,
-                reported,
+                report.number,
+                report.reported,
                 Action::Absorb { retired: of },
             ))
         }

@@ -7,7 +7,7 @@ ghost use Rattle.driver.specs.Keeping.{after_by, IsRemade};
 
 use crate::fault::StepFault;
 use crate::known::Known;
-use crate::making::next_number;
+use crate::making::{next_number, twice};
 use crate::tables::{Made, Other, Sent};
 use report_line::{Deed, Name, Step as Taken};
 use stamp::Stamp;
@@ -138,11 +138,25 @@ pub(crate) fn remade(alloc: Global, step: &Taken, reports: u32) -> Result<Made, 
         Ok(reports) => reports,
         Err(fault) => return Err(fault),
     };
-    let stamp = step.stamp.copy(alloc)?;
-    let own = step.stamp.copy(alloc)?;
-    let deed = copy_of(alloc, &step.deed)?;
-    let other = other_of(alloc, step)?;
-    let message = message_of(alloc, step)?;
+    let (stamp, own) = twice(alloc, &step.stamp)?;
+    let Ok(deed) = copy_of(alloc, &step.deed) else {
+        drop(stamp);
+        drop(own);
+        return Err(StepFault::Memory);
+    };
+    let Ok(other) = other_of(alloc, step) else {
+        drop(stamp);
+        drop(own);
+        drop(deed);
+        return Err(StepFault::Memory);
+    };
+    let Ok(message) = message_of(alloc, step) else {
+        drop(stamp);
+        drop(own);
+        drop(deed);
+        drop(other);
+        return Err(StepFault::Memory);
+    };
     Ok(Made {
         after: after_of(&step.deed, own, reports),
         step: Taken {

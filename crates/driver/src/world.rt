@@ -140,6 +140,9 @@ fn take_step(alloc: Global, tables: &mut Tables, asked: &Step) -> Result<Option<
         Err(fault) => return Err(fault),
     };
     know_made(&made.report);
-    reserve(tables)?;
+    let Ok(()) = reserve(tables) else {
+        drop(made);
+        return Err(StepFault::Memory);
+    };
     Ok(add(tables, made))
 }

@@ -1,1 +1,2 @@
 pub mod LaterLines
+pub mod Garbage

@@ -15,7 +15,8 @@ use Rattle.reasons.specs.Certificates.{positions_of}
 use Rattle.propagate.specs.Ranks.{AreNextRanks, AreFallen, IsStage, positions_from, places_from}
 use Rattle.propagate.specs.Rounds.{AreTops}
 use Rattle.knows_row.specs.Looks.{IsLoweredFrom}
-use Rattle.propagate.specs.Stages.{IsStanding, AreGroundedBy, AreThere, AreChosenBy, AreRunning, chains_at, chains_due}
+use Rattle.propagate.specs.declared.rounds.Stage.{Stage}
+use Rattle.propagate.specs.Stages.{IsStanding, IsNextStage, AreGroundedBy, AreThere, AreChosenBy, AreRunning, chains_at, chains_due}
 use Rattle.propagate.proofs.Ranked.{rank_at}
 use Rattle.propagate.proofs.Fallen.{member_first}
 use Rattle.propagate.proofs.Rounding.{sum_falls, in_order_from, positions_from_places}
@@ -71,29 +72,29 @@ has_settled accepted cut next fell ranks h none = ext_get_or 0 cut next (sym ran
 
 module _ (accepted : List Report) (tops : List ℕ) where
   -- before the first round no process is below its last surviving rank
-  pub running_first : (before cut heads fell : List ℕ) (arena : List (List Place)) → cut ≡ tops → IsStanding accepted tops cut heads fell
-      → AreThere tops cut heads arena → IsLoweredFrom accepted before cut → AreChosenBy accepted tops 0 cut heads arena → AreRunning accepted tops before cut heads fell arena 1
-  running_first before cut heads fell arena first standing there from chosen = record {
-    standing = standing;
-    grounded = λ failed h p lt below. absurd (omega (arith, below, ap (λ (xs : List ℕ). slice_index xs p) first));
-    there = there;
+  pub running_first : (stage : Stage) (arena : List (List Place)) → stage.cut.items ≡ tops → IsStanding accepted tops stage.cut.items stage.heads.items stage.fell.items
+      → AreThere tops stage.cut.items stage.heads.items arena → IsLoweredFrom accepted stage.before.items stage.cut.items → AreChosenBy accepted tops 0 stage.cut.items stage.heads.items arena
+      → AreRunning accepted tops stage arena 1
+  running_first stage arena first standing there from chosen = record {
+    stands = record {
+      standing = standing;
+      grounded = λ failed h p lt below. absurd (omega (arith, below, ap (λ (xs : List ℕ). slice_index xs p) first));
+      there = there;
+    };
     from = from;
     rounds = (0, refl, first, chosen);
     few = omega (arith, ap sum first);
   }
 
-  pub running_more : (before cut heads fell : List ℕ) (arena : List (List Place)) (n : ℕ) → AreRunning accepted tops before cut heads fell arena n
-      → (before2 next heads2 fell2 : List ℕ) (arena2 : List (List Place)) → AreNextRanks accepted cut next → cut ≢ next
-      → IsStanding accepted tops next heads2 fell2 → AreGroundedBy accepted tops next heads2 arena2 → AreThere tops next heads2 arena2 → IsLoweredFrom accepted before2 next
-      → ((t : ℕ) → AreChosenBy accepted tops t cut heads arena → AreChosenBy accepted tops (suc t) next heads2 arena2)
-      → AreRunning accepted tops before2 next heads2 fell2 arena2 (n + 1)
-  running_more before cut heads fell arena n h before2 next heads2 fell2 arena2 ranks changed standing grounded there from chosen = record {
-    standing = standing;
-    grounded = grounded;
-    there = there;
-    from = from;
-    rounds = (suc h.rounds.0, omega (arith, h.rounds.1), (cut, h.rounds.2, ranks, changed), chosen h.rounds.0 h.rounds.3);
-    few = omega (arith, h.few, sum_falls accepted cut next ranks changed);
+  pub running_more : (stage : Stage) (arena : List (List Place)) (n : ℕ) → AreRunning accepted tops stage arena n
+      → (next : Stage) (later : List (List Place)) → IsNextStage accepted tops stage arena next later → stage.cut.items ≢ next.cut.items
+      → ((t : ℕ) → AreChosenBy accepted tops t stage.cut.items stage.heads.items arena → AreChosenBy accepted tops (suc t) next.cut.items next.heads.items later)
+      → AreRunning accepted tops next later (n + 1)
+  running_more stage arena n h next later round changed chosen = record {
+    stands = round.stands;
+    from = round.from;
+    rounds = (suc h.rounds.0, omega (arith, h.rounds.1), (stage.cut.items, h.rounds.2, round.ranks, changed), chosen h.rounds.0 h.rounds.3);
+    few = omega (arith, h.few, sum_falls accepted stage.cut.items next.cut.items round.ranks changed);
   }
 
 -- ---- the last surviving ranks

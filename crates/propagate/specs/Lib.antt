@@ -4,3 +4,4 @@ pub mod Choice
 pub mod Ranks
 pub mod Stages
 pub mod Nodes
+pub mod Cuts

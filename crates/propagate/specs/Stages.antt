@@ -5,7 +5,8 @@ use Rattle.report_line.specs.declared.report.Report.{Report}
 use Rattle.chains.specs.declared.position.Place.{Place}
 use Rattle.chains.specs.Processes.{known}
 use Rattle.chains.specs.Positions.{last_rank, place_at}
-use Rattle.propagate.specs.Ranks.{AreGrounded, RanksAfter, IsClearBut, IsCauseOf, positions_from}
+use Rattle.propagate.specs.declared.rounds.Stage.{Stage}
+use Rattle.propagate.specs.Ranks.{AreGrounded, AreNextRanks, AreFallen, RanksAfter, IsClearBut, IsCauseOf, positions_from}
 use Rattle.knows_row.specs.Looks.{IsLoweredFrom}
 use Rattle.propagate.specs.Rounds.{AreTops}
 use Rattle.propagate.specs.Choice.{ChainsAfter}
@@ -32,6 +33,12 @@ AreGroundedBy accepted tops cut heads arena = (failed : List ℕ) → AreTops ac
 -- the chain of each process below its last surviving rank is there
 abbrev pub AreThere : List ℕ → List ℕ → List ℕ → List (List Place) → Type 0
 AreThere tops cut heads arena = (p : ℕ) → p < length cut → slice_index cut p < slice_index tops p → slice_index heads p < length arena
+
+-- a stage of the rounds from these last surviving ranks, with its chains
+pub record IsStageFrom (accepted : List Report) (tops : List ℕ) (stage : Stage) (arena : List (List Place)) : Type 0 where
+  pub standing : IsStanding accepted tops stage.cut.items stage.heads.items stage.fell.items
+  pub grounded : AreGroundedBy accepted tops stage.cut.items stage.heads.items arena
+  pub there : AreThere tops stage.cut.items stage.heads.items arena
 
 -- the chains of just those processes that are below their last surviving ranks, in order
 abbrev pub chains_due : List ℕ → List ℕ → List (List Place) → List (List Place)
@@ -69,11 +76,17 @@ abbrev pub AreChosenBy : List Report → List ℕ → ℕ → List ℕ → List 
 AreChosenBy accepted tops t cut heads arena =
     (failed : List ℕ) → AreTops accepted failed tops → ChainsAfter accepted failed t (positions_from accepted 0 cut) (shown tops cut (chains_at arena heads))
 
--- where the rounds stand, with the cut before, the chains and the number of the round to come
-pub record AreRunning (accepted : List Report) (tops before cut heads fell : List ℕ) (arena : List (List Place)) (number : ℕ) : Type 0 where
-  pub standing : IsStanding accepted tops cut heads fell
-  pub grounded : AreGroundedBy accepted tops cut heads arena
-  pub there : AreThere tops cut heads arena
-  pub from : IsLoweredFrom accepted before cut
-  pub rounds : (t : ℕ) × (number ≡ t + 1) × RanksAfter accepted tops t cut × AreChosenBy accepted tops t cut heads arena
-  pub few : number + sum cut ≤ sum tops + 1
+-- one round leads from the stage to the next one
+pub record IsNextStage (accepted : List Report) (tops : List ℕ) (stage : Stage) (arena : List (List Place)) (next : Stage) (later : List (List Place)) : Type 0 where
+  pub ranks : AreNextRanks accepted stage.cut.items next.cut.items
+  pub fallen : AreFallen stage.cut.items next.cut.items next.fell.items
+  pub stands : IsStageFrom accepted tops next later
+  pub from : IsLoweredFrom accepted next.before.items next.cut.items
+  pub chains : AreChainsAt accepted tops stage.cut.items stage.heads.items arena next.cut.items next.heads.items later
+
+-- where the rounds stand, with the number of the round to come
+pub record AreRunning (accepted : List Report) (tops : List ℕ) (stage : Stage) (arena : List (List Place)) (number : ℕ) : Type 0 where
+  pub stands : IsStageFrom accepted tops stage arena
+  pub from : IsLoweredFrom accepted stage.before.items stage.cut.items
+  pub rounds : (t : ℕ) × (number ≡ t + 1) × RanksAfter accepted tops t stage.cut.items × AreChosenBy accepted tops t stage.cut.items stage.heads.items arena
+  pub few : number + sum stage.cut.items ≤ sum tops + 1

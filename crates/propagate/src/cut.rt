@@ -1,7 +1,6 @@
 //! The greatest stamp-consistent cut, and its certificate.
 
-ghost use Rattle.std.specs.Prelude.{◌≡◌, ◌<◌, ◌≤◌, ◌+◌, ◌-◌, ◌^◌, ◌↔◌, ℕ, List, IfOk, IfSome, Contains, length, map, slice_index, sum};
-ghost use Rattle.std.specs.List.{range_with_len};
+ghost use Rattle.std.specs.Prelude.{◌≡◌, ◌<◌, ◌≤◌, ◌+◌, ◌-◌, ◌^◌, ℕ, List, IfOk, IfSome, length, slice_index, sum};
 ghost use Rattle.report_line.specs.declared.report.Report.{Report};
 ghost use Rattle.chains.specs.Processes.{known};
 ghost use Rattle.chains.specs.Positions.{last_rank};
@@ -11,13 +10,13 @@ ghost use Rattle.reasons.specs.declared.certificate.Certificate.{Certificate as 
 ghost use Rattle.chains.specs.Held.{Held, held_of};
 ghost use Rattle.knows_row.specs.Looks.{last_ranks};
 ghost use Rattle.knows_row.specs.Needs.{IsTableOf};
-ghost use Rattle.reasons.specs.Certificates.{AreReasons, Certifies, positions_of};
+ghost use Rattle.reasons.specs.Certificates.{Certifies, positions_of};
 ghost use Rattle.history_law.specs.Headline.{IsLineOfHistories};
 ghost use Rattle.propagate.specs.Greatest.{IsGreatestCut};
-ghost use Rattle.propagate.specs.Rounds.{AreTops, AreRounds};
 ghost use Rattle.propagate.specs.Ranks.{AreNextRanks, RanksAfter};
-ghost use Rattle.propagate.specs.Stages.{IsStanding, AreGroundedBy, AreThere, AreChosenBy, chains_at, chains_due};
+ghost use Rattle.propagate.specs.Stages.{IsStageFrom, AreThere, AreChosenBy, chains_at, chains_due};
 ghost use Rattle.propagate.specs.Choice.{AreChosen, IsChosenCertificate};
+ghost use Rattle.propagate.specs.Cuts.{IsCutFor, IsCertificateFor};
 
 use crate::arena::Arena;
 use crate::places::{last_surviving_ranks, line_at};
@@ -76,9 +75,7 @@ fn last_stage(
     requires within { (p : ℕ) → p < length tops.now → slice_index tops.now p ≤ last_rank chains.now.accepted p }
     requires few { sum tops.now < 2 ^ 32 - 1 }
     requires table { IfSome needs (λ n. IsTableOf chains.now.accepted n.now × (tops.now ≡ last_ranks chains.now.accepted)) }
-    ensures standing { IfOk result (λ s. IsStanding chains.now.accepted tops.now s.stage.cut.items s.stage.heads.items s.stage.fell.items) }
-    ensures grounded { IfOk result (λ s. AreGroundedBy chains.now.accepted tops.now s.stage.cut.items s.stage.heads.items s.arena) }
-    ensures there { IfOk result (λ s. AreThere tops.now s.stage.cut.items s.stage.heads.items s.arena) }
+    ensures stands { IfOk result (λ s. IsStageFrom chains.now.accepted tops.now s.stage s.arena) }
     ensures rounds { IfOk result (λ s. (t : ℕ) × (s.rounds ≡ t + 1) × RanksAfter chains.now.accepted tops.now t s.stage.cut.items
         × AreChosenBy chains.now.accepted tops.now t s.stage.cut.items s.stage.heads.items s.arena) }
     ensures still { IfOk result (λ s. AreNextRanks chains.now.accepted s.stage.cut.items s.stage.cut.items) }
@@ -116,14 +113,7 @@ fn at_last<'a, 'b>(needs: Option<&'a Needs<'b>>, tops: &[u32]) -> Option<&'a Nee
 /// The cut as `greatest_cut` has it, by a table of needs of these chains, if there is one.
 fn cut_by(chains: &Chains, needs: Option<&Needs<'_>>, failed: &Failed) -> Result<Cut, AllocError>
     requires { IfSome needs (λ n. IsTableOf chains.now.accepted n.now) }
-    ensures in_order { IfOk result (λ cut. map (λ (x : AnyPlace). x.process) cut.line ≡ range_with_len 0 (length (known chains.now.accepted))) }
-    ensures line { IfOk result (λ cut. IsGreatestCut chains.now.accepted failed.now (positions_of cut.line)) }
-    ensures of_histories { IfOk result (λ cut. IsLineOfHistories chains.now.accepted failed.now (positions_of cut.line)) }
-    ensures reasons { IfOk result (λ cut. AreReasons chains.now.accepted failed.now (positions_of cut.line) cut.reasons) }
-    ensures rounds { IfOk result (λ cut. AreRounds chains.now.accepted failed.now cut.rounds (positions_of cut.line)) }
-    ensures chosen { IfOk result (λ cut. AreChosen chains.now.accepted failed.now cut.line cut.reasons cut.rounds) }
-    // The sum counts the surviving positions above 0.
-    ensures few { IfOk result (λ cut. (tops : List ℕ) → AreTops chains.now.accepted failed.now tops → cut.rounds ≤ sum tops + 1) }
+    ensures { IfOk result (IsCutFor chains.now.accepted failed.now) }
 {
     chains.lawful();
     let tops = last_surviving_ranks(chains, failed)?;
@@ -140,14 +130,7 @@ fn cut_by(chains: &Chains, needs: Option<&Needs<'_>>, failed: &Failed) -> Result
 /// The greatest stamp-consistent cut over these chains for a failed set. In every lawful history that agrees with the accepted
 /// reports it is the greatest closed cut.
 pub fn greatest_cut(chains: &Chains, failed: &Failed) -> Result<Cut, AllocError>
-    ensures in_order { IfOk result (λ cut. map (λ (x : AnyPlace). x.process) cut.line ≡ range_with_len 0 (length (known chains.now.accepted))) }
-    ensures line { IfOk result (λ cut. IsGreatestCut chains.now.accepted failed.now (positions_of cut.line)) }
-    ensures of_histories { IfOk result (λ cut. IsLineOfHistories chains.now.accepted failed.now (positions_of cut.line)) }
-    ensures reasons { IfOk result (λ cut. AreReasons chains.now.accepted failed.now (positions_of cut.line) cut.reasons) }
-    ensures rounds { IfOk result (λ cut. AreRounds chains.now.accepted failed.now cut.rounds (positions_of cut.line)) }
-    ensures chosen { IfOk result (λ cut. AreChosen chains.now.accepted failed.now cut.line cut.reasons cut.rounds) }
-    // The sum counts the surviving positions above 0.
-    ensures few { IfOk result (λ cut. (tops : List ℕ) → AreTops chains.now.accepted failed.now tops → cut.rounds ≤ sum tops + 1) }
+    ensures { IfOk result (IsCutFor chains.now.accepted failed.now) }
 {
     cut_by(chains, None, failed)
 }
@@ -159,29 +142,19 @@ pub fn greatest_cut_from(
     failed: &Failed,
 ) -> Result<Cut, AllocError>
     requires { IsTableOf chains.now.accepted needs.now }
-    ensures in_order { IfOk result (λ cut. map (λ (x : AnyPlace). x.process) cut.line ≡ range_with_len 0 (length (known chains.now.accepted))) }
-    ensures line { IfOk result (λ cut. IsGreatestCut chains.now.accepted failed.now (positions_of cut.line)) }
-    ensures of_histories { IfOk result (λ cut. IsLineOfHistories chains.now.accepted failed.now (positions_of cut.line)) }
-    ensures reasons { IfOk result (λ cut. AreReasons chains.now.accepted failed.now (positions_of cut.line) cut.reasons) }
-    ensures rounds { IfOk result (λ cut. AreRounds chains.now.accepted failed.now cut.rounds (positions_of cut.line)) }
-    ensures chosen { IfOk result (λ cut. AreChosen chains.now.accepted failed.now cut.line cut.reasons cut.rounds) }
-    // The sum counts the surviving positions above 0.
-    ensures few { IfOk result (λ cut. (tops : List ℕ) → AreTops chains.now.accepted failed.now tops → cut.rounds ≤ sum tops + 1) }
+    ensures { IfOk result (IsCutFor chains.now.accepted failed.now) }
 {
     cut_by(chains, Some(needs), failed)
 }
 
-/// The certificate as `certificate` has it, by a table of needs of these chains, if there is one.
+/// The certificate as `certificate` has it, by a table of needs of these chains, if there is one. With a table it waits for nobody.
 pub fn certificate_by(
     chains: &Chains,
     needs: Option<&Needs<'_>>,
     failed: &Failed,
 ) -> Result<Certificate, AllocError>
     requires { IfSome needs (λ n. IsTableOf chains.now.accepted n.now) }
-    ensures certifies { IfOk result (λ c. Certifies (held_of chains.now) c) }
-    ensures of_histories { IfOk result (λ c. IsLineOfHistories chains.now.accepted c.failed (positions_of c.line)) }
-    ensures failed { IfOk result (λ c. (p : ℕ) → (Contains c.failed p ↔ (Contains failed.now p × (p < length (known chains.now.accepted))))) }
-    ensures chosen { IfOk result (λ c. IsChosenCertificate (held_of chains.now) failed.now c) }
+    ensures { IfOk result (IsCertificateFor (held_of chains.now) failed.now) }
 {
     let failed = failed.known_to(chains)?;
     let cut = cut_by(chains, needs, &failed)?;
@@ -195,27 +168,9 @@ pub fn certificate_by(
 
 /// The certificate of the greatest cut over these chains for those of the failed set that are known.
 pub fn certificate(chains: &Chains, failed: &Failed) -> Result<Certificate, AllocError>
-    ensures certifies { IfOk result (λ c. Certifies (held_of chains.now) c) }
-    ensures of_histories { IfOk result (λ c. IsLineOfHistories chains.now.accepted c.failed (positions_of c.line)) }
-    ensures failed { IfOk result (λ c. (p : ℕ) → (Contains c.failed p ↔ (Contains failed.now p × (p < length (known chains.now.accepted))))) }
-    ensures chosen { IfOk result (λ c. IsChosenCertificate (held_of chains.now) failed.now c) }
+    ensures { IfOk result (IsCertificateFor (held_of chains.now) failed.now) }
 {
     certificate_by(chains, None, failed)
-}
-
-/// The same certificate, by a table of needs of these chains. It waits for nobody.
-pub fn certificate_from(
-    chains: &Chains,
-    needs: &Needs<'_>,
-    failed: &Failed,
-) -> Result<Certificate, AllocError>
-    requires { IsTableOf chains.now.accepted needs.now }
-    ensures certifies { IfOk result (λ c. Certifies (held_of chains.now) c) }
-    ensures of_histories { IfOk result (λ c. IsLineOfHistories chains.now.accepted c.failed (positions_of c.line)) }
-    ensures failed { IfOk result (λ c. (p : ℕ) → (Contains c.failed p ↔ (Contains failed.now p × (p < length (known chains.now.accepted))))) }
-    ensures chosen { IfOk result (λ c. IsChosenCertificate (held_of chains.now) failed.now c) }
-{
-    certificate_by(chains, Some(needs), failed)
 }
 
 /// What certifies for what is held, where its list is folded, is the greatest stamp-consistent cut of that list, and so the

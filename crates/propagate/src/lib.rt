@@ -10,7 +10,7 @@ mod rounds;
 mod settlement;
 
 pub use cut::{
-    Cut, certificate, certificate_by, certificate_from, certified_lines_are_the_greatest,
-    greatest_cut, greatest_cut_from, the_rounds_choose_once,
+    Cut, certificate, certificate_by, certified_lines_are_the_greatest, greatest_cut,
+    greatest_cut_from, the_rounds_choose_once,
 };
 pub use settlement::{settle, settle_named, settlements_have_one_outcome};

@@ -4,11 +4,11 @@ ghost use Rattle.std.specs.Prelude.{◌≡◌, ◌<◌, ◌≤◌, ◌+◌, ◌+
 ghost use Rattle.chains.specs.Processes.{known};
 ghost use Rattle.chains.specs.Positions.{place_at as place_of_rank, last_rank};
 ghost use Rattle.chains.specs.declared.position.Place.{Place as AnyPlace};
-ghost use Rattle.propagate.specs.Ranks.{AreNextRanks, IsGrounded, IsCauseOf, AreFallen};
+ghost use Rattle.propagate.specs.Ranks.{IsGrounded, IsCauseOf};
 ghost use Rattle.propagate.specs.Rounds.{AreTops};
 ghost use Rattle.knows_row.specs.Looks.{AreBoundsOf, IsLoweredFrom, all_known, last_ranks};
 ghost use Rattle.knows_row.specs.Needs.{IsTableOf};
-ghost use Rattle.propagate.specs.Stages.{IsStanding, AreGroundedBy, AreThere, IsChainAt, AreChainsAt};
+ghost use Rattle.propagate.specs.Stages.{IsStanding, IsStageFrom, IsNextStage, AreThere, IsChainAt};
 
 use crate::arena::Arena;
 use crate::falls::{Lowered, lower};
@@ -58,9 +58,7 @@ fn next_head(
     process: u32,
     low: &Lowered,
 ) -> Result<usize, AllocError>
-    requires standing { IsStanding chains.now.accepted tops.now stage.now.cut.items stage.now.heads.items stage.now.fell.items }
-    requires grounded { AreGroundedBy chains.now.accepted tops.now stage.now.cut.items stage.now.heads.items arena.old }
-    requires there { AreThere tops.now stage.now.cut.items stage.now.heads.items arena.old }
+    requires stands { IsStageFrom chains.now.accepted tops.now stage.now arena.old }
     requires process { process < length stage.now.cut.items }
     requires cause { IsCauseOf chains.now.accepted stage.now.cut.items process low.now.rank low.now.cause }
     ensures more { IfOk result (λ _. (more : List (List AnyPlace)) × (arena.new ≡ arena.old ++ more)) }
@@ -95,18 +93,10 @@ fn round_by(
     tops: &[u32],
     stage: &Stage,
 ) -> Result<Stage, AllocError>
-    requires standing { IsStanding chains.now.accepted tops.now stage.now.cut.items stage.now.heads.items stage.now.fell.items }
-    requires grounded { AreGroundedBy chains.now.accepted tops.now stage.now.cut.items stage.now.heads.items arena.old }
-    requires there { AreThere tops.now stage.now.cut.items stage.now.heads.items arena.old }
+    requires stands { IsStageFrom chains.now.accepted tops.now stage.now arena.old }
     requires bounds { AreBoundsOf chains.now.accepted stage.now.cut.items stage.now.fell.items thresholds.now }
     requires table { IfSome table (λ needs. (needs.now.accepted ≡ chains.now.accepted) × (stage.now.cut.items ≡ last_ranks chains.now.accepted)) }
-    ensures ranks { IfOk result (λ next. AreNextRanks chains.now.accepted stage.now.cut.items next.cut.items) }
-    ensures fallen { IfOk result (λ next. AreFallen stage.now.cut.items next.cut.items next.fell.items) }
-    ensures standing { IfOk result (λ next. IsStanding chains.now.accepted tops.now next.cut.items next.heads.items next.fell.items) }
-    ensures grounded { IfOk result (λ next. AreGroundedBy chains.now.accepted tops.now next.cut.items next.heads.items arena.new) }
-    ensures there { IfOk result (λ next. AreThere tops.now next.cut.items next.heads.items arena.new) }
-    ensures from { IfOk result (λ next. IsLoweredFrom chains.now.accepted next.before.items next.cut.items) }
-    ensures chains { IfOk result (λ next. AreChainsAt chains.now.accepted tops.now stage.now.cut.items stage.now.heads.items arena.old next.cut.items next.heads.items arena.new) }
+    ensures { IfOk result (λ next. IsNextStage chains.now.accepted tops.now stage.now arena.old next arena.new) }
 {
     let before = Vec::from_slice(chains.alloc(), &stage.cut)?;
     let mut cut = Vec::with_capacity(chains.alloc(), stage.cut.len())?;
@@ -148,18 +138,10 @@ pub(crate) fn round(
     tops: &[u32],
     stage: &Stage,
 ) -> Result<Stage, AllocError>
-    requires standing { IsStanding chains.now.accepted tops.now stage.now.cut.items stage.now.heads.items stage.now.fell.items }
-    requires grounded { AreGroundedBy chains.now.accepted tops.now stage.now.cut.items stage.now.heads.items arena.old }
-    requires there { AreThere tops.now stage.now.cut.items stage.now.heads.items arena.old }
+    requires stands { IsStageFrom chains.now.accepted tops.now stage.now arena.old }
     requires from { IsLoweredFrom chains.now.accepted stage.now.before.items stage.now.cut.items }
     requires table { IfSome table (λ needs. IsTableOf chains.now.accepted needs.now × (stage.now.cut.items ≡ last_ranks chains.now.accepted) × (stage.now.fell.items ≡ all_known chains.now.accepted)) }
-    ensures ranks { IfOk result (λ next. AreNextRanks chains.now.accepted stage.now.cut.items next.cut.items) }
-    ensures fallen { IfOk result (λ next. AreFallen stage.now.cut.items next.cut.items next.fell.items) }
-    ensures standing { IfOk result (λ next. IsStanding chains.now.accepted tops.now next.cut.items next.heads.items next.fell.items) }
-    ensures grounded { IfOk result (λ next. AreGroundedBy chains.now.accepted tops.now next.cut.items next.heads.items arena.new) }
-    ensures there { IfOk result (λ next. AreThere tops.now next.cut.items next.heads.items arena.new) }
-    ensures from { IfOk result (λ next. IsLoweredFrom chains.now.accepted next.before.items next.cut.items) }
-    ensures chains { IfOk result (λ next. AreChainsAt chains.now.accepted tops.now stage.now.cut.items stage.now.heads.items arena.old next.cut.items next.heads.items arena.new) }
+    ensures { IfOk result (λ next. IsNextStage chains.now.accepted tops.now stage.now arena.old next arena.new) }
 {
     match table {
         None => {

@@ -1,11 +1,14 @@
 -- How a service ends, by how its parts ended.
+use Rattle.std.specs.Prelude.{Result, Ok, Err, IfOk, IfErr}
 use Rattle.std.proofs.Common.{◌≡◌, ◌⊎◌, inl, inr, ℕ, List, length, ◌++◌, ◌∙◌, sym, ap, append_assoc, subst, Option, Some, None}
 use Rattle.line_disk.specs.Disk.{View}
 use Rattle.chains.specs.Held.{Held}
 use Rattle.coordinator.specs.Passes.{PassState}
+use Rattle.coordinator.specs.Closing.{IsEnded, IsRefused}
+use Rattle.coordinator.specs.declared.fault.CloseFault.{CloseFault}
 use Rattle.client_link.specs.Links.{LinkState}
 use Rattle.recline.specs.Driving.{WritesAll, WritesPart}
-use Rattle.recline.specs.Serving.{AreServed, EndsShort, EndsWith, IsServed, IsStopped, PrintsPort, PrintsSome, StopsBehind, WritesPort, end_line, port_line}
+use Rattle.recline.specs.Serving.{AreServed, EndsNot, EndsShort, EndsWith, IsServed, IsStopped, PrintsPort, PrintsSome, StopsBehind, WritesPort, end_line, port_line}
 use Rattle.recline.specs.declared.serving.Stop.{Stop}
 use Rattle.recline.specs.declared.serving.Stop.TheVariants as stops
 use Rattle.recline.proofs.Passes.{appends_then}
@@ -27,24 +30,29 @@ writes_port None old new (port, all) = (port, inl all)
 writes_port (Some stop) old new (port, inl all) = (port, inl all)
 writes_port (Some stop) old new (port, inr (device, part)) = (port, inr part)
 
+-- the coordinator ended, where it is not refused
+pub ended_so : {E U : Type 0} (Ends Tells : E → Type 0) (closed : Result E U) → IfOk closed Ends → IfOk closed Tells → IfErr closed (λ u. ⊥) → (e : E) × Ends e × Tells e
+ended_so Ends Tells (Ok e) ends tells never = (e, ends, tells)
+ended_so Ends Tells (Err u) ends tells never = absurd never
+
 -- the sessions were served to their end
-pub ends_served : {D : Type 0} (keeps : D → Type 0) (view : D → View) (opening : Held) (sessions dropped : ℕ) (passes : List PassState) (before behind : Option Stop) (old between new : LinkState) (disk : D)
-    → AreServed passes dropped → StopsBehind before (length passes) sessions behind → PrintsPort before old between → behind ≡ None → EndsWith keeps view opening passes between new disk
+pub ends_served : {D : Type 0} (keeps : D → Type 0) (view : D → View) (opening : Held) (sessions dropped : ℕ) (passes : List PassState) (turns front : ℕ) (ended : D) (before behind : Option Stop) (old between new : LinkState) (disk : D)
+    → AreServed passes dropped → StopsBehind before (length passes) sessions behind → PrintsPort before old between → IsEnded keeps view opening passes turns front ended → EndsWith behind front ended between new disk
     → IsServed keeps view opening sessions dropped old new disk
-ends_served keeps view opening sessions dropped passes before behind old between new disk served why printed none ends =
+ends_served {D = D} keeps view opening sessions dropped passes turns front ended before behind old between new disk served why printed ends (none, back, written) =
     let all_served : StopsBehind before (length passes) sessions None = subst (λ (o : Option Stop). StopsBehind before (length passes) sessions o) none why in
     let port : PrintsPort None old between = subst (λ (o : Option Stop). PrintsPort o old between) all_served.0 printed in
     record {
       port = port.0;
       passes = passes;
-      turns = ends.turns;
-      front = ends.front;
-      ends = ends.ends;
+      turns = turns;
+      front = front;
+      ends = subst (λ (d : D). IsEnded keeps view opening passes turns front d) (sym back) ends;
       served = served;
       number = all_served.1;
-      written = appends_then old.held between.held new.held (port_line port.0) (end_line ends.front) port.1.written ends.written.written;
-      nothing_waits = ends.written.nothing_waits;
-      sound = record { failures = ends.written.sound.failures ∙ port.1.sound.failures; stalls = ends.written.sound.stalls ∙ port.1.sound.stalls; ended = ends.written.sound.ended ∙ port.1.sound.ended };
+      written = appends_then old.held between.held new.held (port_line port.0) (end_line front) port.1.written written.written;
+      nothing_waits = written.nothing_waits;
+      sound = record { failures = written.sound.failures ∙ port.1.sound.failures; stalls = written.sound.stalls ∙ port.1.sound.stalls; ended = written.sound.ended ∙ port.1.sound.ended };
     }
 
 -- what was printed where the coordinator ended and nothing was told of it
@@ -65,19 +73,37 @@ port_and_part served sessions front stop before old between new why printed devi
     let port : PrintsPort None old between = subst (λ (o : Option Stop). PrintsPort o old between) why.0 printed in
     (port.0, inr (device, inr (why.1, part_then old between new (port_line port.0) (end_line front) port.1 part)))
 
--- the service stopped
-pub ends_stopped : {D : Type 0} (keeps : D → Type 0) (view : D → View) (opening : Held) (sessions dropped : ℕ) (passes : List PassState) (before behind : Option Stop) (old between new : LinkState) (disk : Option D) (stop : Stop)
-    → AreServed passes dropped → StopsBehind before (length passes) sessions behind → PrintsPort before old between → EndsShort keeps view opening passes behind between new disk stop
+-- the coordinator ended, and the service stopped
+cut_short : {D : Type 0} (keeps : D → Type 0) (view : D → View) (opening : Held) (sessions dropped : ℕ) (passes : List PassState) (turns front : ℕ) (ended : D) (before behind : Option Stop) (old between new : LinkState) (disk : Option D) (stop : Stop)
+    → AreServed passes dropped → StopsBehind before (length passes) sessions behind → PrintsPort before old between → IsEnded keeps view opening passes turns front ended → EndsShort behind front ended between new disk stop
     → IsStopped keeps view opening sessions old new disk stop
-ends_stopped keeps view opening sessions dropped passes before behind old between new None stop served why printed ((fault, refused, is), same) =
-    (inr (record { passes = passes; dropped = dropped; fault = fault; served = served; refused = refused; stop_is = is }), subst (λ (s : LinkState). WritesPort old s) (sym same) (writes_port before old between printed))
-ends_stopped keeps view opening sessions dropped passes before behind old between new (Some disk) stop served why printed ends =
-    record { passes = passes; dropped = dropped; turns = ends.turns; front = ends.front; ends = ends.ends; served = served; printed = go ends.told }
+cut_short {D = D} keeps view opening sessions dropped passes turns front ended before behind old between new disk stop served why printed ends (back, told) =
+    subst (λ (d : Option D). IsStopped keeps view opening sessions old new d stop) (sym back)
+    (record { passes = passes; dropped = dropped; turns = turns; front = front; ends = ends; served = served; printed = go told })
   where
-    go : ((behind ≡ Some stop) × (new ≡ between)) ⊎ ((behind ≡ None) × (stop ≡ stops.Device) × WritesPart between new (end_line ends.front))
-        → PrintsSome (length passes) sessions ends.front stop old new
+    go : ((behind ≡ Some stop) × (new ≡ between)) ⊎ ((behind ≡ None) × (stop ≡ stops.Device) × WritesPart between new (end_line front))
+        → PrintsSome (length passes) sessions front stop old new
     go (inl (is, same)) =
-        subst (λ (s : LinkState). PrintsSome (length passes) sessions ends.front stop old s) (sym same)
-        (port_alone (length passes) sessions ends.front stop before old between (subst (λ (o : Option Stop). StopsBehind before (length passes) sessions o) is why) printed)
+        subst (λ (s : LinkState). PrintsSome (length passes) sessions front stop old s) (sym same)
+        (port_alone (length passes) sessions front stop before old between (subst (λ (o : Option Stop). StopsBehind before (length passes) sessions o) is why) printed)
     go (inr (none, device, part)) =
-        port_and_part (length passes) sessions ends.front stop before old between new (subst (λ (o : Option Stop). StopsBehind before (length passes) sessions o) none why) printed device part
+        port_and_part (length passes) sessions front stop before old between new (subst (λ (o : Option Stop). StopsBehind before (length passes) sessions o) none why) printed device part
+
+-- or it did not
+unended : {D : Type 0} (keeps : D → Type 0) (view : D → View) (opening : Held) (sessions dropped : ℕ) (passes : List PassState) (fault : CloseFault) (before : Option Stop) (old between new : LinkState) (disk : Option D) (stop : Stop)
+    → AreServed passes dropped → PrintsPort before old between → IsRefused keeps view opening passes fault → EndsNot fault between new disk stop
+    → IsStopped keeps view opening sessions old new disk stop
+unended {D = D} keeps view opening sessions dropped passes fault before old between new disk stop served printed refused (none, is, same) =
+    subst (λ (d : Option D). IsStopped keeps view opening sessions old new d stop) (sym none)
+    (inr (record { passes = passes; dropped = dropped; fault = fault; served = served; refused = refused; stop_is = is }), subst (λ (s : LinkState). WritesPort old s) (sym same) (writes_port before old between printed))
+
+-- the service stopped
+pub ends_stopped : {D E U : Type 0} (keeps : D → Type 0) (view : D → View) (opening : Held) (sessions dropped : ℕ) (passes : List PassState) (turns_of front_of : E → ℕ) (disk_of : E → D) (fault_of : U → CloseFault) (closed : Result E U) (before behind : Option Stop) (old between new : LinkState) (disk : Option D) (stop : Stop)
+    → AreServed passes dropped → StopsBehind before (length passes) sessions behind → PrintsPort before old between
+    → IfOk closed (λ e. IsEnded keeps view opening passes (turns_of e) (front_of e) (disk_of e)) → IfErr closed (λ u. IsRefused keeps view opening passes (fault_of u))
+    → IfOk closed (λ e. EndsShort behind (front_of e) (disk_of e) between new disk stop) → IfErr closed (λ u. EndsNot (fault_of u) between new disk stop)
+    → IsStopped keeps view opening sessions old new disk stop
+ends_stopped keeps view opening sessions dropped passes turns_of front_of disk_of fault_of (Ok e) before behind old between new disk stop served why printed ends refused short not =
+    cut_short keeps view opening sessions dropped passes (turns_of e) (front_of e) (disk_of e) before behind old between new disk stop served why printed ends short
+ends_stopped keeps view opening sessions dropped passes turns_of front_of disk_of fault_of (Err u) before behind old between new disk stop served why printed ends refused short not =
+    unended keeps view opening sessions dropped passes (fault_of u) before old between new disk stop served printed refused not

@@ -190,22 +190,15 @@ abbrev pub StopsBehind : Option Stop → ℕ → ℕ → Option Stop → Type 0
 StopsBehind before served wanted None = (before ≡ None) × (served ≡ wanted)
 StopsBehind before served wanted (Some stop) = (before ≡ Some stop) ⊎ ((before ≡ None) × (served ≢ wanted) × (stop ≡ stops.Memory))
 
--- the coordinator ended with these passes, and that was told
-pub record EndsWith {D : Type 0} (keeps : D → Type 0) (view : D → View) (opening : Held) (passes : List PassState) (old new : LinkState) (disk : D) : Type 0 where
-  pub turns : ℕ
-  pub front : ℕ
-  pub ends : IsEnded keeps view opening passes turns front disk
-  pub written : WritesAll old new (end_line front)
+-- the coordinator ended with this front and left this disk, which comes back, and that was told
+abbrev pub EndsWith : {D : Type 0} → Option Stop → ℕ → D → LinkState → LinkState → D → Type 0
+EndsWith before front disk old new back = (before ≡ None) × (back ≡ disk) × WritesAll old new (end_line front)
 
--- the coordinator ended with these passes: nothing was told, since the service stops, or a part of the end
-pub record EndsWithStop {D : Type 0} (keeps : D → Type 0) (view : D → View) (opening : Held) (passes : List PassState) (before : Option Stop) (old new : LinkState) (disk : D) (stop : Stop) : Type 0 where
-  pub turns : ℕ
-  pub front : ℕ
-  pub ends : IsEnded keeps view opening passes turns front disk
-  pub told : ((before ≡ Some stop) × (new ≡ old)) ⊎ ((before ≡ None) × (stop ≡ stops.Device) × WritesPart old new (end_line front))
+-- nothing was told of it, since the service stops; or a part of the end
+abbrev pub EndsShort : {D : Type 0} → Option Stop → ℕ → D → LinkState → LinkState → Option D → Stop → Type 0
+EndsShort before front disk old new back stop =
+    (back ≡ Some disk) × (((before ≡ Some stop) × (new ≡ old)) ⊎ ((before ≡ None) × (stop ≡ stops.Device) × WritesPart old new (end_line front)))
 
--- or it did not
-abbrev pub EndsShort : {D : Type 0} → (D → Type 0) → (D → View) → Held → List PassState → Option Stop → LinkState → LinkState → Option D → Stop → Type 0
-EndsShort keeps view opening passes before old new (Some disk) stop = EndsWithStop keeps view opening passes before old new disk stop
-EndsShort keeps view opening passes before old new None stop =
-    ((fault : CloseFault) × IsRefused keeps view opening passes fault × (stop ≡ stopped_by fault)) × (new ≡ old)
+-- the coordinator did not end, for this fault
+abbrev pub EndsNot : {D : Type 0} → CloseFault → LinkState → LinkState → Option D → Stop → Type 0
+EndsNot fault old new back stop = (back ≡ None) × (stop ≡ stopped_by fault) × (new ≡ old)

@@ -9,8 +9,8 @@ ghost use Rattle.recline.specs.Outcome.{Tells};
 ghost use Rattle.recline.specs.Checking.{Checks, ChecksOn, IsCheckedOver, IsVerdictOn, check_fault, check_status};
 ghost use Rattle.recline.specs.declared.checking.Checked.TheVariants.{NoCertificate};
 
-use crate::driving::{Unread, read_all, tell_all, write_all};
-use crate::running::{tell, tell_unopened};
+use crate::driving::{Unread, read_all};
+use crate::telling::{tell, tell_all, tell_unopened, write_all};
 use chains::Chains;
 use client_link::Link;
 use desk::Desk;

@@ -2,8 +2,8 @@
 
 ghost use Rattle.std.specs.Prelude.{◌<◌, IfSome, length};
 
-use crate::driving::{Unread, read_all, tell_all, tell_refusal, write_all};
-use crate::running::tell;
+use crate::driving::{Unread, read_all};
+use crate::telling::{tell, tell_all, tell_refusal, write_all};
 use client_link::Link;
 use itoa::Buffer;
 use memchr::memchr;

@@ -1,14 +1,12 @@
 //! The command `drive`.
 
 ghost use Rattle.std.specs.Prelude.{◌≡◌, MatchResult};
-ghost use Rattle.std.specs.List.{flat_map};
 ghost use Rattle.recline.specs.Outcome.{Tells};
-ghost use Rattle.recline.specs.Driving.{Drives, IsDrivenOver, ReadsAll, ReadsSome, Writes, script_fault, script_status};
+ghost use Rattle.recline.specs.Driving.{Drives, IsDrivenOver, ReadsAll, ReadsSome, script_fault, script_status};
 
-use crate::running::tell;
-use client_link::{Link, LinkFault, put, put_all};
-use itoa::Buffer;
-use script::{Cause, End, drive};
+use crate::telling::{tell, tell_refusal, write_all};
+use client_link::{Link, LinkFault};
+use script::{End, drive};
 use std::alloc::Global;
 
 /// How many reads a script takes at most.
@@ -42,21 +40,6 @@ pub(crate) fn read_all<K: Link>(alloc: Global, link: &mut K) -> Result<Vec<u8>, 
     Err(Unread::Device)
 }
 
-/// Writes all of the text and hands it on.
-pub(crate) fn write_all<K: Link>(link: &mut K, text: &[u8]) -> Result<(), LinkFault>
-    ensures writes { Writes (K.told link.old) (K.told link.new) result text.now }
-    ensures left { (K.told link.new).left ≡ (K.told link.old).left }
-    ensures reads { (K.told link.new).reads ≡ (K.told link.old).reads }
-{
-    let Ok(()) = put(link, text) else {
-        return Err(LinkFault::Device);
-    };
-    match link.hand_on() {
-        Ok(()) => Ok(()),
-        Err(_) => Err(LinkFault::Device),
-    }
-}
-
 /// Reads a script, drives a world by it, and writes what it prints.
 fn drive_over<K: Link>(alloc: Global, client: &mut K) -> Result<End, LinkFault>
     ensures { IsDrivenOver (K.told client.old) (K.told client.new) result }
@@ -71,36 +54,6 @@ fn drive_over<K: Link>(alloc: Global, client: &mut K) -> Result<End, LinkFault>
         Ok(()) => Ok(end),
         Err(fault) => Err(fault),
     }
-}
-
-/// Writes the pieces of a fault line and hands them on, as far as that can be done.
-pub(crate) fn tell_all<F: Link>(faults: &mut F, pieces: &[&[u8]])
-    ensures { Tells (F.told faults.old) (F.told faults.new) (flat_map (λ p. p.now) pieces.now) }
-{
-    let Ok(()) = put_all(faults, pieces) else {
-        return;
-    };
-    match faults.hand_on() {
-        Ok(()) => {}
-        Err(_) => {}
-    }
-}
-
-/// Tells that the step of this line was refused.
-pub(crate) fn tell_refusal<F: Link>(faults: &mut F, step: u64, cause: Cause)
-    ensures { Tells (F.told faults.old) (F.told faults.new) (script_fault (Ok (End.Refused step cause))) }
-{
-    let mut digits = Buffer::new();
-    tell_all(
-        faults,
-        &[
-            b"recline: step ".as_slice(),
-            digits.format(step).as_bytes(),
-            b" ".as_slice(),
-            cause.words(),
-            b"\n".as_slice(),
-        ],
-    )
 }
 
 /// Tells how the script ended, where not all of its steps were taken.

@@ -1,16 +1,14 @@
-//! The command line, the command `run`, which is one session with a client over a record file, the command `serve`, which serves many
-//! over one, the command `check`, which checks a certificate over one, and the commands `drive` and `draw`, which stamp the steps of a
-//! script and draw them.
+//! The command `run`, which is one session with a client over a record file, the command `serve`, which serves many over one, the command
+//! `check`, which checks a certificate over one, and the commands `drive` and `draw`, which stamp the steps of a script and draw them.
 #![tactic(auto)]
 
-mod args;
 mod checking;
 mod drawing;
 mod driving;
 mod running;
 mod serving;
+mod telling;
 
-pub use args::{Command, read_args};
 pub use checking::check_on;
 pub use drawing::draw_on;
 pub use driving::drive_on;

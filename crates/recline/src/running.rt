@@ -1,29 +1,14 @@
 //! The command `run`.
 
 ghost use Rattle.std.specs.Prelude.{◌≡◌};
-ghost use Rattle.desk.specs.declared.fault.DeskFault.TheVariants as opening;
-ghost use Rattle.recline.specs.Outcome.{Runs, RunsOn, Tells, fault_line, status_of, open_fault_line};
+ghost use Rattle.recline.specs.Outcome.{Runs, RunsOn, fault_line, status_of};
 
-use crate::driving::tell_all;
-use client_link::{Link, put, put_all};
-use desk::{Desk, DeskFault};
-use itoa::Buffer;
+use crate::telling::{tell, tell_unopened};
+use client_link::Link;
+use desk::Desk;
 use line_disk::Disk;
 use session::{Kind, run};
 use std::alloc::Global;
-
-/// Writes a fault line and hands it on, as far as that can be done.
-pub(crate) fn tell<F: Link>(faults: &mut F, line: &[u8])
-    ensures { Tells (F.told faults.old) (F.told faults.new) line.now }
-{
-    let Ok(()) = put(faults, line) else {
-        return;
-    };
-    match faults.hand_on() {
-        Ok(()) => {}
-        Err(_) => {}
-    }
-}
 
 /// The status of the process for a session that ended so over a desk, which may be stopped.
 fn status_for(kind: Kind, stopped: bool) -> u8
@@ -56,68 +41,6 @@ pub fn run_over<D: Disk, K: Link, F: Link>(desk: &mut Desk<D>, client: &mut K, f
     let end = run(desk, client);
     tell(faults, fault_for(end.kind));
     status_for(end.kind, desk.stopped())
-}
-
-/// Tells that behind the open gate of the record of this number no whole record lies in the file.
-fn tell_damaged<F: Link>(faults: &mut F, number: usize)
-    ensures { Tells (F.told faults.old) (F.told faults.new) (open_fault_line (opening.Damaged number)) }
-{
-    let mut digits = Buffer::new();
-    tell_all(
-        faults,
-        &[
-            b"recline: damaged ".as_slice(),
-            digits.format(number).as_bytes(),
-            b"\n".as_slice(),
-        ],
-    )
-}
-
-/// Tells that the record of this number is not the line of a report.
-fn tell_line<F: Link>(faults: &mut F, number: usize)
-    ensures { Tells (F.told faults.old) (F.told faults.new) (open_fault_line (opening.Line number)) }
-{
-    let mut digits = Buffer::new();
-    tell_all(
-        faults,
-        &[
-            b"recline: line ".as_slice(),
-            digits.format(number).as_bytes(),
-            b"\n".as_slice(),
-        ],
-    )
-}
-
-/// Tells that the report of the record of this number is refused by this code.
-fn tell_refused<F: Link>(faults: &mut F, number: usize, code: u8)
-    ensures { Tells (F.told faults.old) (F.told faults.new) (open_fault_line (opening.Refused number code)) }
-{
-    let mut of_number = Buffer::new();
-    let mut of_code = Buffer::new();
-    tell_all(
-        faults,
-        &[
-            b"recline: refused ".as_slice(),
-            of_number.format(number).as_bytes(),
-            b" ".as_slice(),
-            of_code.format(code).as_bytes(),
-            b"\n".as_slice(),
-        ],
-    )
-}
-
-/// Tells why a record file was not opened.
-pub(crate) fn tell_unopened<F: Link>(faults: &mut F, fault: DeskFault)
-    ensures { Tells (F.told faults.old) (F.told faults.new) (open_fault_line fault) }
-{
-    match fault {
-        DeskFault::Foreign => tell(faults, b"recline: foreign\n"),
-        DeskFault::Damaged(number) => tell_damaged(faults, number),
-        DeskFault::Line(number) => tell_line(faults, number),
-        DeskFault::Refused(number, code) => tell_refused(faults, number, code),
-        DeskFault::Device => tell(faults, b"recline: device\n"),
-        DeskFault::Memory => tell(faults, b"recline: memory\n"),
-    }
 }
 
 /// The command `run`: opens the record file on a disk, serves one client over the desk of it, and answers the status of the process

@@ -1,15 +1,14 @@
 //! The command `serve`.
 
-ghost use Rattle.std.specs.Prelude.{◌≡◌, ◌+◌, ◌++◌, ◌<◌, ◌≤◌, IfOk, IfErr, IfSome, IfNone, OnOk, [], None, Some, length, map};
+ghost use Rattle.std.specs.Prelude.{◌≡◌, ◌+◌, ◌++◌, ◌<◌, ◌≤◌, IfOk, IfErr, IfSome, IfNone, MatchResult, OnOk, [], None, Some, length, map};
 ghost use Rattle.std.specs.List.{flat_map};
 ghost use Rattle.std.specs.Thread.{IsSend, IsSync};
 ghost use Rattle.recline.specs.Driving.{Writes};
-ghost use Rattle.recline.specs.Serving.{AreLimited, AreServed, EndsShort, EndsWith, IsService, IsServed, IsStopped, PrintsPort, ServesOn, Stops, StopsBehind, TellsDropped, WritesPort, dropped_in, drops, end_line, port_line, stop_line, stopped_by};
+ghost use Rattle.recline.specs.Serving.{AreLimited, AreServed, EndsNot, EndsShort, EndsWith, IsService, IsServed, IsStopped, PrintsPort, ServesOn, Stops, StopsBehind, TellsDropped, WritesPort, dropped_in, drops, end_line, port_line, stop_line, stopped_by};
 
-use crate::driving::tell_all;
-use crate::running::{tell, tell_unopened};
-use client_link::{ClientConnection, Link, LinkFault, put_all};
-use coordinator::{CloseFault, Coordinator, Ended, OpenGate, Pass, Refused};
+use crate::telling::{tell, tell_all, tell_unopened, write_pieces};
+use client_link::{ClientConnection, Link, LinkFault};
+use coordinator::{CloseFault, Coordinator, Ended, OpenGate, Pass, Refused, Unclosed};
 use crossbeam_channel::{Sender, bounded};
 use desk::Desk;
 use itoa::Buffer;
@@ -28,7 +27,7 @@ use std::time::{Clock, Duration};
 const MOST_WAITING: u64 = 256;
 
 /// How many sessions a service has, by how many workers, and how long a client may rest.
-#[derive(Clone, Copy, Debug, PartialEq, Eq)]
+#[derive(Clone, Copy)]
 pub struct Service {
     /// The number of sessions, 1 to 4,096.
     pub sessions: u64,
@@ -61,7 +60,7 @@ impl Service {
 }
 
 /// Why a service stops before its end.
-#[derive(Clone, Copy, Debug, PartialEq, Eq)]
+#[derive(Clone, Copy)]
 enum Stop {
     /// The listener failed, as where descriptors run out, or standard output did.
     Device,
@@ -89,19 +88,6 @@ fn line_of(stop: Stop) -> &'static [u8]
         Stop::Device => b"recline: device\n".as_slice(),
         Stop::Memory => b"recline: memory\n".as_slice(),
         Stop::Foreign => b"recline: foreign\n".as_slice(),
-    }
-}
-
-/// Writes the pieces and hands them on.
-fn write_pieces<O: Link>(output: &mut O, pieces: &[&[u8]]) -> Result<(), LinkFault>
-    ensures { Writes (O.told output.old) (O.told output.new) result (flat_map (λ p. p.now) pieces.now) }
-{
-    let Ok(()) = put_all(output, pieces) else {
-        return Err(LinkFault::Device);
-    };
-    match output.hand_on() {
-        Ok(()) => Ok(()),
-        Err(_) => Err(LinkFault::Device),
     }
 }
 
@@ -378,21 +364,20 @@ fn stop_behind<L: Ledger>(sessions: &Sessions<L>, wanted: u64) -> Option<Stop>
     sessions.stop
 }
 
-/// Ends the coordinator with the passes of its sessions, and tells the end where the service does not stop. Answers the disk.
+/// Ends the service whose coordinator was closed so, and tells the end where the service does not stop. Answers the disk.
 fn end_service<L: Ledger, D: Disk + Drop, O: Link>(
-    coordinator: Coordinator<L, D>,
-    passes: Vec<Pass<L>>,
+    closed: Result<Ended<D>, Unclosed<L, D>>,
     stop: Option<Stop>,
     output: &mut O,
 ) -> Result<D, Stopped<D>>
-    ensures ok { IfOk result (λ disk. (stop ≡ None) × EndsWith D.keeps D.view coordinator passes.items (O.told output.old) (O.told output.new) disk) }
-    ensures err { IfErr result (λ s. EndsShort D.keeps D.view coordinator passes.items stop (O.told output.old) (O.told output.new) s.disk s.stop) }
+    ensures ended { IfOk closed (λ e. MatchResult result (λ disk. EndsWith stop e.front e.disk (O.told output.old) (O.told output.new) disk) (λ s. EndsShort stop e.front e.disk (O.told output.old) (O.told output.new) s.disk s.stop)) }
+    ensures refused { IfErr closed (λ u. MatchResult result (λ disk. ⊥) (λ s. EndsNot u.fault (O.told output.old) (O.told output.new) s.disk s.stop)) }
 {
     let Ended {
         disk,
         front,
         turns: _,
-    } = match coordinator.close(passes) {
+    } = match closed {
         Ok(ended) => ended,
         Err(unclosed) => {
             return Err(Stopped {
@@ -457,7 +442,8 @@ fn serve_over<
     };
     let stop = stop_behind(&sessions, service.sessions);
     let dropped = sessions.dropped;
-    match end_service(coordinator, sessions.passes, stop, output) {
+    let closed = coordinator.close(sessions.passes);
+    match end_service(closed, stop, output) {
         Ok(disk) => Ok((disk, dropped)),
         Err(stopped) => Err(stopped),
     }

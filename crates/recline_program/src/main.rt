@@ -4,8 +4,9 @@
 use clap::Error;
 use clap::error::ErrorKind;
 use client_link::{Link, Streams};
+use command_line::{Command, read_args};
 use line_disk::{DiskFault, FileDisk, Modelled, NullDisk};
-use recline::{Command, Service, check_on, draw_on, drive_on, read_args, run_on, serve_on};
+use recline::{Service, check_on, draw_on, drive_on, run_on, serve_on};
 use record_file::RecordReach;
 use std::env;
 use std::fs::File;
@@ -234,7 +235,7 @@ fn act<T: Threads + Wait + Clock + Clone + Drop + Send + Sync, R: Read + Drop>(
     status
 }
 
-/// Does the command, which reads standard input or the file of a path.
+/// Does the command, which reads standard input, for which a path may stand that is `-`, or the file of a path.
 fn do_command<T: Threads + Wait + Clock + Clone + Drop + Send + Sync>(
     rt: &HostRuntime,
     threads: &T,
@@ -247,6 +248,9 @@ fn do_command<T: Threads + Wait + Clock + Clone + Drop + Send + Sync>(
         Command::Drive { script } => script,
         Command::Draw { script, .. } => script,
     };
+    if path == "-" {
+        return act(rt, threads, command, rt.reader());
+    }
     act(
         rt,
         threads,

@@ -1,7 +1,7 @@
 -- The text that the rounds choose: there is one, and where it holds.
 use Rattle.std.proofs.Common.{◌≡◌, ◌<◌, ◌↔◌, ℕ, List, length, sym, ap, subst, ◌∙◌, inl, inr, arith}
 use Rattle.std.specs.Prelude.{Contains}
-use Rattle.std.proofs.lemmas.Option.{slice_get_within, slice_get_cases}
+use Rattle.std.proofs.lemmas.Option.{slice_get_cases}
 use Rattle.report_line.specs.declared.report.Report.{Report}
 use Rattle.report_line.specs.declared.call.Call.{Call}
 use Rattle.report_line.specs.declared.call.Call.TheVariants as calls
@@ -9,7 +9,6 @@ use Rattle.report_line.specs.declared.reply.Reply.{Reply}
 use Rattle.chains.specs.Processes.{Name, known}
 use Rattle.chains.specs.Kept.{Kept}
 use Rattle.chains.specs.Held.{Held, held_of}
-use Rattle.chains.specs.Failures.{IsFailedSet}
 use Rattle.chains.specs.Turns.{IsTurn}
 use Rattle.chains.proofs.Turning.{unchanged}
 use Rattle.reasons.specs.declared.certificate.Certificate.{Certificate}
@@ -18,30 +17,7 @@ use Rattle.reasons.specs.CertificateText.{certificate_text}
 use Rattle.desk.specs.Lawful.{unstopped}
 use Rattle.propagate.specs.Choice.{IsChosenCertificate}
 use Rattle.propagate.proofs.Once.{one_certificate}
-use Rattle.session.specs.ChosenText.{IsChosenText, IsChosenFor}
-
--- ---- the certificate
-
--- it is chosen for its own numbers
-own_numbers : (held : Held) (failed : List ℕ) (c : Certificate) → IsChosenCertificate held failed c → IsChosenCertificate held c.failed c
-own_numbers held failed c h = record {
-  front = h.front;
-  in_order = h.in_order;
-  just_these = λ p. (λ has. (has, ((h.just_these p).0 has).1), λ both. both.0);
-  rounds = h.rounds;
-  chosen = h.chosen;
-}
-
--- one of a failed set that these names have is one for the names
-pub for_set : (held : Held) (names : List Name) (failed : List ℕ) (c : Certificate) → IsFailedSet held.accepted names failed
-    → ((p : ℕ) → (Contains c.failed p ↔ (Contains failed p × (p < length (known held.accepted))))) → IsForNames held.accepted names c
-for_set held names failed c set just p name at = (
-  λ there. (set.just_named p name at).0 ((just p).0 there).0,
-  λ named. (just p).1 ((set.just_named p name at).1 named, slice_get_within (known held.accepted) p name at),
-)
-
-pub text_of : (held : Held) (names : List Name) (failed text : List ℕ) (c : Certificate) → IsForNames held.accepted names c → IsChosenCertificate held failed c → text ≡ certificate_text held.accepted c → IsChosenText held names text
-text_of held names failed text c for chosen is = record { certificate = c; for_names = for; chosen = own_numbers held failed c chosen; text_is = is }
+use Rattle.line_text.specs.Questions.{IsChosenText, IsChosenFor}
 
 -- ---- one text
 

@@ -8,10 +8,11 @@ use Rattle.std.proofs.Math.Seq.{take-append_seam}
 use borrow.Author.Count.{below_more}
 use Rattle.report_line.specs.Cutting.{Stand, onto, cut_from, cut_of}
 use Rattle.report_line.proofs.Streams.{cut_append}
+use Rattle.session.specs.Exchanges.{Exchange}
 use Rattle.session.specs.declared.kind.Kind.{Kind}
 use Rattle.session.specs.declared.kind.Kind.TheVariants as kinds
 use Rattle.client_link.specs.Links.{up, LinkState, IsSound, IsFault, IsHandOn}
-use Rattle.session.specs.SessionText.{Exchange, Mean, NoBye, exchange_line, session_text, joined, most_reads, Grounds, ending_line, ending_count, IsWhole, IsCutInReply, Reached, Ends, Gave, GaveAll}
+use Rattle.session.specs.SessionText.{Mean, NoBye, exchange_line, session_text, joined, most_reads, Grounds, ending_line, ending_count, IsWhole, IsCutInReply, Reached, Ends, Gave, GaveAll}
 use Rattle.session.specs.Ends.{IsReadAt, IsPrompt, Leaves}
 use Rattle.session.specs.Parts.{AreLawful, IsSaid, FaultsAt, StepsTo, IsQuiet, GaveBy, Steps, Going, Closing, Closes, Ran}
 use Rattle.client_link.proofs.Sent.{appends_none, appends_then, sound_none, sound_then, fault_then}

@@ -14,10 +14,11 @@ use Rattle.report_line.specs.declared.call.Call.TheVariants as calls
 use Rattle.report_line.specs.declared.reply.Reply.{Reply}
 use Rattle.report_line.specs.Cutting.{ended}
 use Rattle.report_line.specs.Replies.{reply_text}
+use Rattle.session.specs.Exchanges.{Exchange}
 use Rattle.session.specs.declared.kind.Kind.{Kind}
 use Rattle.session.specs.declared.kind.Kind.TheVariants as kinds
 use Rattle.client_link.specs.Links.{LinkState, IsEnd, at_first_end, Puts}
-use Rattle.session.specs.SessionText.{Exchange, Means, at_pass, IsForeign}
+use Rattle.session.specs.SessionText.{Means, at_pass, IsForeign}
 use Rattle.session.specs.Ends.{IsReadAt, Leaves}
 use Rattle.session.specs.Gained.{exchange_of, GainsEach, Gains, LinkServed}
 use Rattle.session.specs.Parts.{AreLawful, PutsLast, refused_as, one_reply, Serves, Ran}

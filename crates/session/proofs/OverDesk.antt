@@ -11,9 +11,10 @@ use Rattle.desk.specs.declared.turn.TurnFault.{TurnFault}
 use Rattle.desk.specs.declared.turn.TurnFault.TheVariants as refusals
 use Rattle.report_line.specs.declared.call.Call.{Call}
 use Rattle.report_line.specs.declared.call.Call.TheVariants as calls
+use Rattle.session.specs.Exchanges.{Exchange}
 use Rattle.session.specs.declared.kind.Kind.{Kind}
 use Rattle.client_link.specs.Links.{LinkState}
-use Rattle.session.specs.SessionText.{Exchange, Means, IsQuestion, Grounds, at_desk}
+use Rattle.session.specs.SessionText.{Means, IsQuestion, Grounds, at_desk}
 use Rattle.session.specs.Turned.{Served, EachLineIsChosen, turns_of, MakesTurns}
 use Rattle.session.specs.Ends.{Ended}
 use Rattle.session.specs.Parts.{AreLawful, TakesNone, ended_by, one_reply, Serves, Ran}

@@ -20,9 +20,8 @@ use Rattle.settled_turns.proofs.Parted.{turns_alone, turns_in_parts, processes_o
 use Rattle.desk.specs.declared.turn.Turn.{Turn}
 use Rattle.desk.specs.Replays.{Replays, ReplaysFrom}
 use Rattle.desk.proofs.OneTurn.{turn_once}
-use Rattle.session.specs.SessionText.{Exchange}
-use Rattle.session.specs.Turned.{ComeTo}
-use Rattle.session.specs.Headline.{AsksForLine}
+use Rattle.session.specs.Exchanges.{Exchange, ComeTo}
+use Rattle.line_text.specs.Asking.{AsksForLine}
 use Rattle.session.specs.Current.{traced, IsRightNow, EachLineIsRightNow, trace_of, EachSharedLineIsRightNow, AreInOrder, NoLineIsBelowGarbage, NoSharedLineIsBelowGarbage}
 
 -- ---- exchanges as turns of a trace

@@ -11,8 +11,8 @@ use Rattle.desk.specs.Lawful.{unstopped}
 use Rattle.desk.proofs.OneTurn.{turn_once}
 use Rattle.desk.proofs.Reachables.{still_reachable}
 use Rattle.coordinator.proofs.Telling.{tells}
-use Rattle.session.specs.SessionText.{Exchange}
-use Rattle.session.specs.Turned.{IsExchange, Served, ComeTo}
+use Rattle.session.specs.Exchanges.{Exchange, ComeTo}
+use Rattle.session.specs.Turned.{IsExchange, Served}
 
 pub comes_once : (held a b : Held) (es : List Exchange) → ComeTo held es a → ComeTo held es b → a ≡ b
 comes_once held a b [] first second = first ∙ sym second

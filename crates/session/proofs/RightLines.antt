@@ -15,9 +15,10 @@ use Rattle.reasons.specs.Shown.{IsLineText, IsLineShown, IsShown}
 use Rattle.history_law.specs.Headline.{IsRightLine}
 use Rattle.history_law.proofs.Lines.{line_of_histories}
 use Rattle.propagate.proofs.Certified.{certified_is_greatest}
-use Rattle.session.specs.SessionText.{Exchange}
+use Rattle.session.specs.Exchanges.{Exchange}
 use Rattle.session.specs.Turned.{IsExchange, Served}
-use Rattle.session.specs.Headline.{AsksForLine, EachLineIsRight}
+use Rattle.line_text.specs.Asking.{AsksForLine}
+use Rattle.session.specs.Headline.{EachLineIsRight}
 use Rattle.session.proofs.Places.{served_at, comes_reached}
 
 -- the text of a certificate that certifies is right

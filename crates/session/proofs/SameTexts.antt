@@ -10,9 +10,10 @@ use Rattle.chains.specs.Held.{Held}
 use Rattle.chains.specs.Turns.{IsTurn}
 use Rattle.reasons.specs.Shown.{IsShown}
 use Rattle.report_line.specs.Cutting.{cut_of}
+use Rattle.session.specs.Exchanges.{Exchange}
 use Rattle.session.specs.declared.kind.Kind.TheVariants as kinds
-use Rattle.session.specs.SessionText.{Exchange, Means, Mean, Grounds, IsSession, joined, session_text}
-use Rattle.session.specs.ChosenText.{IsChosenFor}
+use Rattle.session.specs.SessionText.{Means, Mean, Grounds, IsSession, joined, session_text}
+use Rattle.line_text.specs.Questions.{IsChosenFor}
 use Rattle.session.specs.Turned.{IsExchange, Served, ShowsChosen, EachLineIsChosen}
 use Rattle.session.specs.OneText.{HadEnough, IsUndisturbed}
 use Rattle.desk.proofs.OneTurn.{turn_once}

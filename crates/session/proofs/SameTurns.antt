@@ -17,7 +17,7 @@ use Rattle.chains.specs.Turns.{Fate, fine, memory, before, unknown, no_memory, I
 use Rattle.desk.proofs.OneAnswer.{one, one_answer, one_settling}
 use Rattle.chains.proofs.FirstUnknown.{one_first, none_first}
 use Rattle.reasons.specs.Shown.{IsLineShown, IsShown}
-use Rattle.session.specs.ChosenText.{IsChosenFor}
+use Rattle.line_text.specs.Questions.{IsChosenFor}
 use Rattle.session.proofs.ChosenTexts.{one_for}
 
 -- ---- questions

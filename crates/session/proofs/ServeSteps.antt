@@ -4,10 +4,11 @@ use Rattle.std.specs.List.{slice_get}
 use Rattle.std.proofs.lemmas.Option.{slice_get_within, get_or_from_slice_get}
 use Rattle.std.proofs.lemmas.List.{take-append-drop, drop_more, take_more}
 use Rattle.report_line.specs.declared.call.Call.TheVariants as calls
+use Rattle.session.specs.Exchanges.{Exchange}
 use Rattle.session.specs.declared.kind.Kind.{Kind}
 use Rattle.session.specs.declared.kind.Kind.TheVariants as kinds
 use Rattle.client_link.specs.Links.{LinkState, IsSound, Puts}
-use Rattle.session.specs.SessionText.{Exchange, Means, Grounds, IsWorn, IsUnmade, IsForeign, exchange_line, session_text}
+use Rattle.session.specs.SessionText.{Means, Grounds, IsWorn, IsUnmade, IsForeign, exchange_line, session_text}
 use Rattle.session.specs.Parts.{AreLawful, FaultsAt, Serves}
 use Rattle.client_link.proofs.Sent.{appends_none, appends_then, sound_none, sound_then, fault_then}
 use Rattle.session.proofs.ServedTurns.{mean_then, far_then}

@@ -2,9 +2,10 @@
 use Rattle.std.proofs.Common.{◌≡◌, ◌≢◌, ℕ, ◌+◌, List, [], ◌∷◌, ◌++◌, length, Option, Some, None, refl, sym, ap, ◌∙◌, append_assoc, append-nil, arith}
 use Rattle.std.proofs.lemmas.List.{length-append}
 use Rattle.std.proofs.lemmas.List.Concat.{flat_map-append}
+use Rattle.session.specs.Exchanges.{Exchange}
 use Rattle.session.specs.declared.kind.Kind.{Kind}
 use Rattle.session.specs.declared.kind.Kind.TheVariants as kinds
-use Rattle.session.specs.SessionText.{Exchange, Mean, NoBye, LastSaysBye, StartsWithQuestion, Grounds, at_desk, at_pass, IsUnmade, exchange_line, session_text, IsCutInReply}
+use Rattle.session.specs.SessionText.{Mean, NoBye, LastSaysBye, StartsWithQuestion, Grounds, at_desk, at_pass, IsUnmade, exchange_line, session_text, IsCutInReply}
 use Rattle.session.specs.Parts.{AreLawful, IsSaid, HowFar}
 
 abbrev Lines : Type 0

@@ -3,10 +3,11 @@ use Rattle.std.proofs.Common.{◌≡◌, ℕ, ◌≤◌, ◌<◌, List, [], ◌�
 use Rattle.std.specs.Prelude.{Bool, ◌==◌, nat_lt, if◌then◌else◌}
 use Rattle.std.specs.Io.KnownBytes.{Appends, Consumes, Keeps}
 use Rattle.report_line.specs.Cutting.{Stand, onto, cut_from}
+use Rattle.session.specs.Exchanges.{Exchange}
 use Rattle.session.specs.declared.kind.Kind.{Kind}
 use Rattle.session.specs.declared.kind.Kind.TheVariants as kinds
 use Rattle.client_link.specs.Links.{LinkState, IsRead}
-use Rattle.session.specs.SessionText.{Exchange, Grounds}
+use Rattle.session.specs.SessionText.{Grounds}
 use Rattle.session.specs.Parts.{AreLawful, HowFar, FaultsAt, Serves, Follows, StepsTo, IsQuiet, GaveBy, Steps}
 use Rattle.client_link.proofs.Sent.{appends_none}
 use Rattle.session.proofs.ServeSteps.{faults_then}

@@ -1,6 +1,5 @@
 -- What a line is read as, and what is shown for the turn of it.
-use Rattle.std.proofs.Common.{◌≡◌, ◌≢◌, ℕ, zero, suc, ◌+◌, ◌-◌, ◌<◌, ◌≤◌, List, [], ◌∷◌, ◌++◌, length, Some, Result, Ok, Err, Bool, true, false, refl, sym, ap, subst, ◌∙◌, inl, inr, arith}
-use Rattle.std.specs.Prelude.{◌↔◌, Contains}
+use Rattle.std.proofs.Common.{◌≡◌, ◌≢◌, ◌↔◌, ℕ, zero, suc, ◌+◌, ◌-◌, ◌<◌, ◌≤◌, List, [], ◌∷◌, ◌++◌, length, Some, Result, Ok, Err, Bool, true, false, refl, sym, ap, subst, ◌∙◌, inl, inr, arith}
 use Rattle.std.specs.List.{slice_get, AllByRecursion}
 use Rattle.std.proofs.lemmas.List.{length-append}
 use Rattle.std.proofs.lemmas.Option.{same_Some}
@@ -16,7 +15,6 @@ use Rattle.report_line.specs.declared.reply.Reply.TheVariants as replies
 use Rattle.chains.specs.Processes.{Name, known}
 use Rattle.chains.specs.Kept.{Kept}
 use Rattle.chains.specs.Held.{Held, held_of}
-use Rattle.chains.specs.Failures.{IsFailedSet}
 use Rattle.chains.specs.Turns.{Fate, IsQuestionTurn, IsTurn}
 use Rattle.desk.specs.Desks.{DeskState}
 use Rattle.desk.specs.Files.{IsShort}
@@ -24,28 +22,15 @@ use Rattle.desk.specs.Lawful.{unstopped}
 use Rattle.desk.proofs.Short.{short_call}
 use Rattle.desk.proofs.Running.{is_unstopped}
 use Rattle.desk.specs.declared.turn.Turn.{Turn}
-use Rattle.reasons.specs.Shown.{IsLineText, IsLineShown, IsShown}
-use Rattle.reasons.specs.declared.certificate.Certificate.{Certificate}
-use Rattle.reasons.specs.Certificates.{Certifies}
-use Rattle.reasons.specs.CertificateText.{certificate_text}
+use Rattle.reasons.specs.Shown.{IsLineShown, IsShown}
 use Rattle.chains.proofs.Unfailing.{no_line}
 use Rattle.session.specs.SessionText.{Means}
-use Rattle.session.specs.ChosenText.{IsChosenFor}
+use Rattle.line_text.specs.Questions.{IsChosenFor}
 use Rattle.session.specs.Turned.{MakesTurns}
 use Rattle.session.specs.Parts.{call_read}
-use Rattle.session.proofs.ChosenTexts.{for_set, chosen_at}
+use Rattle.session.proofs.ChosenTexts.{chosen_at}
 
 -- ---- what is shown
-
--- the certificate for a failed set that these names have is one for the names
-pub line_of_names : (held : Held) (names : List Name) (failed text : List ℕ) (c : Certificate) → IsFailedSet held.accepted names failed
-    → ((p : ℕ) → (Contains c.failed p ↔ (Contains failed p × (p < length (known held.accepted))))) → Certifies held c → text ≡ certificate_text held.accepted c → IsLineText held names text
-line_of_names held names failed text c set just certifies is = record {
-  certificate = c;
-  for_names = for_set held names failed c set just;
-  certifies = certifies;
-  text_is = is;
-}
 
 line_as_is : (held : Held) (names : List Name) (reply : Reply) → ((front : ℕ) → reply ≢ replies.Taken front) → IsLineShown held names reply reply
 line_as_is held names (replies.Taken front) other = absurd (other front refl)

@@ -12,7 +12,7 @@ use Rattle.chains.specs.Held.{Held}
 use Rattle.chains.specs.Turns.{IsTurn}
 use Rattle.chains.proofs.Unfailing.{no_failure, stays_stopped}
 use Rattle.reasons.specs.Shown.{IsLineShown, IsShown}
-use Rattle.session.specs.SessionText.{Exchange}
+use Rattle.session.specs.Exchanges.{Exchange}
 use Rattle.session.specs.Turned.{IsExchange, Served, ShowsFailure}
 
 -- what is shown for a reply that is no failure is none

@@ -22,9 +22,9 @@ use Rattle.desk.specs.Records.{recorded_by, Opens}
 use Rattle.desk.specs.Replays.{Replays}
 use Rattle.coordinator.specs.Passes.{PassEntry}
 use Rattle.coordinator.specs.Closing.{ShowsRightly}
-use Rattle.session.specs.SessionText.{Exchange}
-use Rattle.session.specs.Turned.{ComeTo}
-use Rattle.session.specs.Headline.{AsksForLine, EachLineIsRight}
+use Rattle.session.specs.Exchanges.{Exchange, ComeTo}
+use Rattle.line_text.specs.Asking.{AsksForLine}
+use Rattle.session.specs.Headline.{EachLineIsRight}
 
 -- ---- what happened
 

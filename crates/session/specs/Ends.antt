@@ -3,10 +3,11 @@ use Rattle.std.specs.Prelude.{◌≡◌, ◌≤◌, ◌<◌, ℕ, List, [], ◌+
 use Rattle.std.specs.Io.KnownBytes.{Appends, Consumes, IsAtEnd}
 use Rattle.desk.specs.Desks.{DeskState}
 use Rattle.report_line.specs.Cutting.{cut_of}
+use Rattle.session.specs.Exchanges.{Exchange}
 use Rattle.session.specs.declared.kind.Kind.{Kind}
 use Rattle.session.specs.declared.kind.Kind.TheVariants as kinds
 use Rattle.client_link.specs.Links.{up, LinkState, IsSound, IsFault}
-use Rattle.session.specs.SessionText.{Exchange, NoBye, session_text, joined, most_reads, at_desk, IsSession}
+use Rattle.session.specs.SessionText.{NoBye, session_text, joined, most_reads, at_desk, IsSession}
 use Rattle.session.specs.Turned.{EachLineIsChosen, MakesTurns}
 use Rattle.session.specs.Headline.{EachLineIsRight}
 

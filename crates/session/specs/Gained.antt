@@ -2,9 +2,10 @@
 use Rattle.std.specs.Prelude.{◌≡◌, ◌≤◌, ℕ, List, [], ◌∷◌, ◌++◌, length, map}
 use Rattle.std.specs.Io.KnownBytes.{Appends, Consumes}
 use Rattle.coordinator.specs.Passes.{PassEntry, PassState, IsAnswered}
+use Rattle.session.specs.Exchanges.{Exchange}
 use Rattle.session.specs.declared.kind.Kind.{Kind}
 use Rattle.client_link.specs.Links.{up, LinkState, IsEnd}
-use Rattle.session.specs.SessionText.{Exchange, joined, most_reads, at_pass, IsSession}
+use Rattle.session.specs.SessionText.{joined, most_reads, at_pass, IsSession}
 use Rattle.session.specs.Ends.{IsPrompt, Leaves}
 
 -- an entry's call, its turn's reply, and the reply that is shown for it

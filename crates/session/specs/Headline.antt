@@ -1,12 +1,11 @@
 -- The headline for each LINE of a session.
-pub use Rattle.coordinator.specs.Passes.{AsksForLine}
 use Rattle.std.specs.Prelude.{◌≡◌, ℕ, List, ◌∷◌, ◌++◌}
 use Rattle.report_line.specs.declared.reply.Reply.TheVariants as replies
 use Rattle.chains.specs.Processes.{Name}
 use Rattle.chains.specs.Held.{Held}
 use Rattle.history_law.specs.Headline.{IsRightLine}
-use Rattle.session.specs.SessionText.{Exchange}
-use Rattle.session.specs.Turned.{ComeTo}
+use Rattle.line_text.specs.Asking.{AsksForLine}
+use Rattle.session.specs.Exchanges.{Exchange, ComeTo}
 
 -- Wherever among the exchanges a LINE is shown, a question for a line asked for it, and it is right over what was held at that
 -- place: its line is the greatest closed cut of every lawful history that agrees with what was accepted there.

@@ -1,5 +1,5 @@
+pub mod Exchanges
 pub mod SessionText
-pub mod ChosenText
 pub mod Turned
 pub mod OneText
 pub mod Ends

@@ -3,7 +3,7 @@ use Rattle.std.specs.Prelude.{◌≢◌, List}
 use Rattle.std.specs.List.{AllByRecursion}
 use Rattle.chains.specs.Held.{Held}
 use Rattle.chains.specs.Turns.{no_memory}
-use Rattle.session.specs.SessionText.{Exchange}
+use Rattle.session.specs.Exchanges.{Exchange}
 use Rattle.session.specs.Turned.{Served, ShowsFailure, EachLineIsChosen}
 
 -- what is shown tells of no want of memory, and of no device that failed

@@ -16,10 +16,11 @@ use Rattle.report_line.specs.Replies.{reply_text}
 use Rattle.coordinator.specs.Passes.{PassEntry}
 use Rattle.coordinator.specs.declared.fault.CallFault.{CallFault}
 use Rattle.coordinator.specs.declared.fault.CallFault.TheVariants as refused
+use Rattle.session.specs.Exchanges.{Exchange}
 use Rattle.session.specs.declared.kind.Kind.{Kind}
 use Rattle.session.specs.declared.kind.Kind.TheVariants as kinds
 use Rattle.client_link.specs.Links.{up, LinkState, IsSound, IsFault, Puts}
-use Rattle.session.specs.SessionText.{Exchange, Mean, NoBye, LastSaysBye, Grounds, IsWorn, IsUnmade, IsForeign, session_text, ending_line, ending_count, IsCutShort, IsCutInReply, joined, most_reads, Gave, IsSession}
+use Rattle.session.specs.SessionText.{Mean, NoBye, LastSaysBye, Grounds, IsWorn, IsUnmade, IsForeign, session_text, ending_line, ending_count, IsCutShort, IsCutInReply, joined, most_reads, Gave, IsSession}
 use Rattle.session.specs.Turned.{MakesTurns}
 use Rattle.session.specs.Ends.{IsPrompt}
 

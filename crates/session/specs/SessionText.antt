@@ -3,12 +3,12 @@ use Rattle.std.specs.Prelude.{◌≡◌, ◌≢◌, ◌⊎◌, ℕ, ◌+◌, ◌
 use Rattle.std.specs.List.{flat_map, AllByRecursion}
 use Rattle.report_line.specs.declared.call.Call.{Call}
 use Rattle.report_line.specs.declared.call.Call.TheVariants as calls
-use Rattle.report_line.specs.declared.reply.Reply.{Reply}
 use Rattle.report_line.specs.Cutting.{Stand, ended, cut_of}
 use Rattle.report_line.specs.Reading.{Spells}
 use Rattle.report_line.specs.Replies.{reply_text}
 use Rattle.desk.specs.Lawful.{turn_limit}
 use Rattle.coordinator.specs.Passes.{PassState}
+use Rattle.session.specs.Exchanges.{Exchange}
 use Rattle.session.specs.declared.kind.Kind.{Kind}
 use Rattle.session.specs.declared.kind.Kind.TheVariants as kinds
 
@@ -17,12 +17,6 @@ use Rattle.session.specs.declared.kind.Kind.TheVariants as kinds
 -- The line is read as this call: the one that it spells, or that it spells none, or memory was wanting.
 abbrev pub Means : List ℕ → Call → Type 0
 Means line call = Spells call line ⊎ ((call ≡ calls.Bad 1) × ((c : Call) → ¬ Spells c line)) ⊎ (call ≡ calls.Unread)
-
--- a call that took a turn, the turn's reply, and the reply that is shown for it
-pub record Exchange : Type 0 where
-  pub call : Call
-  pub reply : Reply
-  pub shown : Reply
 
 -- each line is read as the call of its exchange
 abbrev pub Mean : List (List ℕ) → List Exchange → Type 0

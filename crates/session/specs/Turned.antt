@@ -7,8 +7,8 @@ use Rattle.chains.specs.Turns.{IsTurn}
 use Rattle.reasons.specs.Shown.{IsShown}
 use Rattle.desk.specs.Desks.{DeskState}
 use Rattle.desk.specs.declared.turn.Turn.{Turn}
-use Rattle.session.specs.SessionText.{Exchange}
-use Rattle.session.specs.ChosenText.{IsChosenFor}
+use Rattle.session.specs.Exchanges.{Exchange}
+use Rattle.line_text.specs.Questions.{IsChosenFor}
 
 -- the call takes its turn with this reply, and what is shown is shown for it
 pub record IsExchange (held : Held) (exchange : Exchange) (after : Held) : Type 0 where
@@ -23,12 +23,6 @@ Served held (exchange ∷ exchanges) after = (between : Held) × IsExchange held
 -- what is shown tells that a device failed, or that the store was stopped by then
 abbrev pub ShowsFailure : Exchange → Type 0
 ShowsFailure exchange = (outcome : Outcome) × (exchange.shown ≡ Fail outcome)
-
--- From what is held the calls of these exchanges take turns with their replies, one after the other, and come to this. (They come to
--- one thing: a settlement returns all to the greatest cut, and that is one.)
-abbrev pub ComeTo : Held → List Exchange → Held → Type 0
-ComeTo held [] after = after ≡ held
-ComeTo held (e ∷ es) after = (between : Held) × IsTurn held e.call e.reply between × ComeTo between es after
 
 -- what is shown as a LINE is the chosen text for the call
 abbrev pub ShowsChosen : Held → Exchange → Type 0

@@ -1,7 +1,7 @@
 //! Why a session ended.
 
 /// Why a session ended.
-#[derive(Clone, Copy, Debug, PartialEq, Eq)]
+#[derive(Clone, Copy)]
 pub enum Kind {
     /// All input was read, and each line answered.
     End,
@@ -26,7 +26,7 @@ pub enum Kind {
 }
 
 /// How a session ended.
-#[derive(Clone, Copy, Debug, PartialEq, Eq)]
+#[derive(Clone, Copy)]
 pub struct SessionEnd {
     /// Why it ended.
     pub kind: Kind,

@@ -7,12 +7,13 @@ ghost use Rattle.chains.specs.Held.{Held};
 ghost use Rattle.chains.specs.Reachable.{IsReachable};
 ghost use Rattle.chains.specs.Folded.{IsReached};
 ghost use Rattle.desk.specs.Lawful.{unstopped};
+ghost use Rattle.session.specs.Exchanges.{Exchange, ComeTo};
 ghost use Rattle.session.specs.declared.kind.Kind.TheVariants as kinds;
-ghost use Rattle.session.specs.ChosenText.{IsChosenText};
+ghost use Rattle.line_text.specs.Questions.{IsChosenText};
 ghost use Rattle.session.specs.Current.{EachFileTellsARun, EachLineIsRightNow, EachSharedLineIsRightNow, NoLineIsBelowGarbage, NoSharedLineIsBelowGarbage};
 ghost use Rattle.session.specs.OneText.{IsUndisturbed};
-ghost use Rattle.session.specs.SessionText.{Exchange, Grounds, IsSession, Mean, joined, session_text};
-ghost use Rattle.session.specs.Turned.{Served, ShowsFailure, ComeTo};
+ghost use Rattle.session.specs.SessionText.{Grounds, IsSession, Mean, joined, session_text};
+ghost use Rattle.session.specs.Turned.{Served, ShowsFailure};
 
 /// What is held behind exchanges that took turns is told by the exchanges alone: they come to it, and to nothing else; and at each
 /// place among them something is held.

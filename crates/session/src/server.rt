@@ -2,7 +2,8 @@
 
 ghost use Rattle.std.specs.Prelude.{List, [], ◌∷◌};
 ghost use Rattle.report_line.specs.Cutting.{IsLine};
-ghost use Rattle.session.specs.SessionText.{Exchange, Grounds};
+ghost use Rattle.session.specs.Exchanges.{Exchange};
+ghost use Rattle.session.specs.SessionText.{Grounds};
 ghost use Rattle.session.specs.Parts.{Serves, one_reply};
 
 use crate::kind::Kind;

@@ -8,7 +8,8 @@
 //! - lines: `line TEXT` (a report as it is written again, `call` for another call); any line of a client gets its reply, over
 //!   the desk of the bench; `new` begins with a fresh desk, `keep` keeps a copy of its chains, `keep opening` of those that it was
 //!   opened with, `keep NAME POSITION NAME POSITION ...` what the line of these places keeps of its chains (`Unfit` where no process
-//!   can return to it), and `kept CALL` makes a call on these;
+//!   can return to it), `kept CALL` makes a call on these, and `hand REPORT / REPORT ..` hands reports over to them (their front, or the
+//!   place of the one that is refused, from 0, and why);
 //! - the disk in memory that the desk is over: `close` closes the desk, `disk HEX` puts a new disk that holds these bytes in place
 //!   of all (`disk` an empty one), and `open` opens a desk over the disk, behind the end of one that is open (its front, or the fault
 //!   as the program tells it). While no desk is open the calls above are answered by `closed`, but for `new` and `kept CALL`, and those
@@ -28,6 +29,7 @@ mod bench;
 mod certificates;
 mod disks;
 mod event_trees;
+mod handed;
 mod held;
 mod ids;
 mod lines;

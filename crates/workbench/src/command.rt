@@ -1,5 +1,6 @@
 //! What the words of the command line ask for.
 
+use crate::gates::gate::Place;
 use std::num::NonZeroU32;
 
 /// Which tool is wanted.
@@ -13,6 +14,14 @@ pub enum Command<'a> {
     Certificate,
     /// An answer to each line.
     Calls,
+    /// So many passes of a coordinator.
+    Passes(u32),
+    /// Three sessions over a coordinator that computes a line by so many threads, of which one waits at this place.
+    Gate { workers: NonZeroU32, place: Place },
+    /// A table of needs by so many threads, of which two may wait for each other.
+    Table { workers: NonZeroU32, place: Place },
+    /// A session over a coordinator of the record file of this path.
+    Served(&'a str),
     /// The calls of a coordinator over the record file of this path, made once more where memory was wanting.
     Shared(&'a str),
     /// The steps of a world, taken once more where memory was wanting.
@@ -45,6 +54,16 @@ pub fn read(words: &[String]) -> Option<Command<'_>> {
         ("clocks", []) => Some(Command::Clocks),
         ("certificate", []) => Some(Command::Certificate),
         ("calls", []) => Some(Command::Calls),
+        ("passes", [count]) => Some(Command::Passes(number_of(count.as_str())?)),
+        ("gate", [workers, place]) => Some(Command::Gate {
+            workers: count_of(workers.as_str())?,
+            place: place_of(place.as_str())?,
+        }),
+        ("table", [workers, place]) => Some(Command::Table {
+            workers: count_of(workers.as_str())?,
+            place: place_of(place.as_str())?,
+        }),
+        ("served", [path]) => Some(Command::Served(path.as_str())),
         ("shared", [path]) => Some(Command::Shared(path.as_str())),
         ("world", []) => Some(Command::World),
         ("steps", [processes, turns]) => Some(Command::Steps {
@@ -69,6 +88,17 @@ fn stream_of(words: &[String]) -> Option<Stream> {
             processes: count_of(processes.as_str())?,
             turns: number_of(turns.as_str())?,
         }),
+        _ => None,
+    }
+}
+
+fn place_of(word: &str) -> Option<Place> {
+    match word {
+        "open" => Some(Place::Open),
+        "session" => Some(Place::Session),
+        "line" => Some(Place::Line),
+        "run" => Some(Place::Run),
+        "runs" => Some(Place::Runs),
         _ => None,
     }
 }

@@ -4,6 +4,7 @@
 mod again;
 mod calls;
 mod command;
+mod gates;
 mod measures;
 mod traffic;
 
@@ -16,15 +17,26 @@ use std::thread::Threads;
 
 /// Which words there are.
 const USAGE: &str =
-    "usage: workbench session | clocks | certificate | calls | shared FILE | world | traffic STREAM | steps PROCESSES TURNS
+    "usage: workbench session | clocks | certificate | calls | served FILE | shared FILE | world | passes COUNT | gate THREADS PLACE |
+                 table THREADS PLACE | traffic STREAM | steps PROCESSES TURNS
 
 session      measures a session of one process against a loop that reads and compares the same lines
 clocks       measures clock operations on families of 2, 64 and 1,024 processes
 certificate  measures finding, writing, reading and checking the certificate of the reports on standard input
 calls        answers each line of standard input, a call of the libraries, by a line
+served       serves the client of standard input and output over a coordinator of the record file FILE; tells on standard error how the
+             session and the coordinator ended, and opens a desk over its disk
 shared       makes the calls of a coordinator for the lines on standard input over the record file FILE, each once more where
              memory was wanting for it; closes it likewise, and opens a desk over its disk
 world        drives a world by the steps on standard input, each taken once more where memory was wanting for it
+passes       takes COUNT passes of a coordinator, each of which makes a turn, or tells why there are no more; tells the number of the last
+             one, why the coordinator is not closed without it, and how it ends with all
+gate         serves three clients, whose texts on standard input are parted by empty lines, over a coordinator that computes a line by
+             THREADS threads, the last two at once. At PLACE a line of the last one waits until the one before was served: before it is
+             computed, in a session (session) or by a call (line), or before its first run (run). Or its first two runs wait for each
+             other (runs), or it waits nowhere (open). Writes what each got, what the gate counted, and how the coordinator ended
+table        makes the table of needs of the reports on standard input by THREADS threads, with a gate as above, and writes it, a line
+             for each element
 steps        makes the clock operations of `traffic script` for the same numbers, and writes nothing
 traffic      writes a stream of reports:
 
@@ -51,6 +63,12 @@ fn run<T: Threads + Wait + Sync>(
         Command::Clocks => measures::clocks::measure_all(rt),
         Command::Certificate => measures::certificates::measure_all(rt),
         Command::Calls => calls::answer_all(rt),
+        Command::Passes(count) => again::passes::put_passes(rt, threads, count),
+        Command::Gate { workers, place } => gates::sessions::answer_all(
+            rt, threads, workers, place,
+        ),
+        Command::Table { workers, place } => gates::tables::answer_all(rt, threads, workers, place),
+        Command::Served(path) => again::served::serve_one(rt, threads, path),
         Command::Shared(path) => again::shared::answer_all(rt, threads, path),
         Command::World => again::world::drive_all(rt),
         Command::Steps { processes, turns } => traffic::steps(rt.alloc(), processes, turns),

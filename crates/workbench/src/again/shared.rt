@@ -6,9 +6,11 @@ ghost use Rattle.desk.specs.Files.{IsShort};
 
 use super::put_again;
 use anyhow::{Error, Result};
-use coordinator::{CallFault, CloseFault, Coordinator, Ended, OpenGate, Pass, Refused, Unclosed};
+use coordinator::{
+    CallFault, CloseFault, Coordinator, Ended, Gate, OpenGate, Pass, Refused, Unclosed,
+};
 use desk::{Desk, DeskFault};
-use line_disk::{FileDisk, Modelled};
+use line_disk::{Disk, FileDisk, Modelled};
 use record_file::RecordReach;
 use report_line::{Call, LineFault, Reply, read_line, write_reply};
 use std::alloc::Global;
@@ -19,10 +21,10 @@ use std::sync::ledger::{Blank, Ledger};
 use std::thread::Threads;
 
 /// The disk of a record file.
-type File = FileDisk<Modelled>;
+pub type File = FileDisk<Modelled>;
 
-// A desk over the file on the disk.
-fn desk_over<W: Write>(alloc: Global, disk: File, out: &mut W) -> Result<Desk<File>>
+/// A desk over the file on the disk.
+pub fn desk_over<D: Disk + Drop, W: Write>(alloc: Global, disk: D, out: &mut W) -> Result<Desk<D>>
     ensures { IfOk result (λ desk. desk.turns ≡ []) }
 {
     let disk = match Desk::open(alloc, disk) {
@@ -37,13 +39,13 @@ fn desk_over<W: Write>(alloc: Global, disk: File, out: &mut W) -> Result<Desk<Fi
     }
 }
 
-// A coordinator of the desk.
-fn shared<L: Ledger, W: Write>(
+/// A coordinator of the desk.
+pub fn shared<L: Ledger, D: Disk + Drop, W: Write>(
     alloc: Global,
     blank: Blank,
-    desk: Desk<File>,
+    desk: Desk<D>,
     out: &mut W,
-) -> Result<Coordinator<L, File>>
+) -> Result<Coordinator<L, D>>
     requires name { blank.name ≡ L.name }
     requires parts { (blank.parts ≡ L.parts) × (blank.parts ≡ 8193) }
     requires fresh { desk.turns ≡ [] }
@@ -60,17 +62,18 @@ fn shared<L: Ledger, W: Write>(
 }
 
 // Makes the turn of a call.
-fn ask_once<L: Ledger, R: Wait + Threads + Sync>(
+fn ask_once<L: Ledger, D: Disk, G: Gate + Sync, R: Wait + Threads + Sync>(
     rt: &R,
-    coordinator: &Coordinator<L, File>,
+    coordinator: &Coordinator<L, D>,
     pass: &mut Pass<L>,
+    gate: &G,
     call: Call,
 ) -> Result<(), CallFault>
     requires { IsShort call }
 {
     match call {
-        Call::Line(names) => coordinator.line(rt, pass, &OpenGate, names),
-        Call::Garbage => coordinator.garbage_line(rt, pass, &OpenGate),
+        Call::Line(names) => coordinator.line(rt, pass, gate, names),
+        Call::Garbage => coordinator.garbage_line(rt, pass, gate),
         other => coordinator.call(rt, pass, other),
     }
 }
@@ -88,23 +91,24 @@ fn read(alloc: Global, line: &[u8]) -> Result<Call, LineFault>
 }
 
 // Makes the turn of a line.
-fn ask<L: Ledger, R: Wait + Threads + Sync, W: Write>(
+fn ask<L: Ledger, D: Disk, G: Gate + Sync, R: Wait + Threads + Sync, W: Write>(
     rt: &R,
-    coordinator: &Coordinator<L, File>,
+    coordinator: &Coordinator<L, D>,
     pass: &mut Pass<L>,
+    gate: &G,
     line: &[u8],
     out: &mut W,
 ) -> Result<()>
     requires { length line.now ≤ 8192 }
 {
     let call = read(coordinator.alloc(), line)?;
-    match ask_once(rt, coordinator, pass, call) {
+    match ask_once(rt, coordinator, pass, gate, call) {
         Ok(()) => return Ok(()),
         Err(CallFault::Memory) => put_again(out, b"call")?,
         Err(fault) => return Err(Error::from(fault)),
     }
     let call = read(coordinator.alloc(), line)?;
-    Ok(ask_once(rt, coordinator, pass, call)?)
+    Ok(ask_once(rt, coordinator, pass, gate, call)?)
 }
 
 // Writes a reply with its LF.
@@ -135,29 +139,30 @@ fn put_shown<L: Ledger, W: Write>(alloc: Global, pass: &Pass<L>, out: &mut W) ->
     }
 }
 
-// Makes the turn of each line, and writes what the pass shows for it.
-fn put_replies<L: Ledger, R: Wait + Threads + Sync, W: Write>(
+/// Makes the turn of each line, and writes what the pass shows for it.
+pub fn put_replies<L: Ledger, D: Disk, G: Gate + Sync, R: Wait + Threads + Sync, W: Write>(
     rt: &R,
-    coordinator: &Coordinator<L, File>,
+    coordinator: &Coordinator<L, D>,
     pass: &mut Pass<L>,
+    gate: &G,
     input: &[u8],
     out: &mut W,
 ) -> Result<()> {
     for line in input.split(|b| *b == b'\n') {
         if line.len() > 0 && line.len() <= 8192 {
-            ask(rt, coordinator, pass, line, out)?;
+            ask(rt, coordinator, pass, gate, line, out)?;
             put_shown(coordinator.alloc(), pass, out)?;
         }
     }
     Ok(())
 }
 
-// Closes the coordinator.
-fn close<L: Ledger, W: Write>(
-    coordinator: Coordinator<L, File>,
+/// Closes the coordinator.
+pub fn close<L: Ledger, D: Disk + Drop, W: Write>(
+    coordinator: Coordinator<L, D>,
     passes: Vec<Pass<L>>,
     out: &mut W,
-) -> Result<Ended<File>> {
+) -> Result<Ended<D>> {
     let (coordinator, passes) = match coordinator.close(passes) {
         Ok(ended) => return Ok(ended),
         Err(
@@ -176,8 +181,12 @@ fn close<L: Ledger, W: Write>(
     }
 }
 
-// Writes how many turns there were, the front at the end, and that of a desk that is opened over the disk.
-fn put_end<W: Write>(alloc: Global, ended: Ended<File>, out: &mut W) -> Result<()> {
+/// Writes how many turns there were, the front at the end, and that of a desk that is opened over the disk.
+pub fn put_end<D: Disk + Drop, W: Write>(
+    alloc: Global,
+    ended: Ended<D>,
+    out: &mut W,
+) -> Result<()> {
     let Ended { disk, front, turns } = ended;
     let text = format!(in alloc; "TURNS {turns}\nENDED {front}\n")?;
     out.write_all(text.as_bytes())?;
@@ -200,9 +209,9 @@ fn answer<L: Ledger, R: Wait + Threads + Sync, W: Write>(
     requires parts { (blank.parts ≡ L.parts) × (blank.parts ≡ 8193) }
 {
     let desk = desk_over(alloc, disk, out)?;
-    let coordinator = shared::<L, W>(alloc, blank, desk, out)?;
+    let coordinator = shared::<L, _, W>(alloc, blank, desk, out)?;
     let mut pass = coordinator.pass(rt)?;
-    put_replies(rt, &coordinator, &mut pass, input, out)?;
+    put_replies(rt, &coordinator, &mut pass, &OpenGate, input, out)?;
     let mut passes = Vec::new(alloc);
     passes.push(pass)?;
     let ended = close(coordinator, passes, out)?;

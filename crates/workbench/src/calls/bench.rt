@@ -1,6 +1,7 @@
 //! The desk that calls are made on.
 
 use super::answer::put_fault;
+use super::handed::put_handed;
 use super::held::Held;
 use super::{certificates, disks, event_trees, ids, lines, processes, replies, stamps};
 use chains::Chains;
@@ -132,8 +133,13 @@ impl Bench {
             self.renew(out)?;
             return Ok(true);
         }
-        if let Some(("kept", call)) = call.split_once(' ') {
-            return answer_over(&self.kept, call, out);
+        match call.split_once(' ') {
+            Some(("kept", call)) => return answer_over(&self.kept, call, out),
+            Some(("hand", text)) => {
+                put_handed(&mut self.kept, text, out)?;
+                return Ok(true);
+            }
+            _ => {}
         }
         if answer_disk(&mut self.held, call, out)? {
             return Ok(true);

@@ -3,8 +3,8 @@ use Rattle.driver.proofs.GoingOver.{is_ready, ready_still}
 use Rattle.driver.proofs.Lined.{step_line}
 use Rattle.driver.proofs.keeping.keep.Goals as goal
 
-pub add-none-requires-clause-ready : goal.add-none-requires-clause-ready
-add-none-requires-clause-ready c =
+pub add-requires-clause-ready : goal.add-requires-clause-ready
+add-requires-clause-ready c =
     let alive = c.in-Ok.ensures in
     ready_still c.args.tables.now c.reserve.new.tables c.in-Ok-remade.made c.reserve.ensures.same
     (is_ready c.args.tables.now.root (history_in c.args.tables.now) c.args.step.now c.in-Ok.alive.reports c.in-Ok-remade.made c.requires.lawful alive.reports c.in-Ok-remade.ensures.ok

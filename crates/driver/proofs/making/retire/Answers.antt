@@ -15,8 +15,8 @@ event-requires c = owner c.args.tables.now c.args.process.now c.in_ok-alive.aliv
 
 pub returns : goal.returns
 returns c =
-    makes_retire _ _ _ _ _ _ _ c.in_ok-alive.alive c.in_ok-stamp.stamp c.in_ok-kept.kept c.in_ok-reported.reported c.in_ok-number.number c.told.result
+    makes_retire _ _ _ _ _ _ _ c.in_ok-alive.alive c.in_ok-stamp.stamp c.in-Ok.report c.told.result
     c.in_ok-alive.ensures c.in_ok-stamp.ensures
     (λ unborn. true≢false (sym c.if-not-is_born.false ∙ c.is_born.ensures.1 unborn))
     (differs c.as_bytes.result.now c.as_bytes-2.result.now c.args.target.now c.args.process.now c.eq.result c.eq.ensures c.if-eq.false c.as_bytes.ensures.value c.as_bytes-2.ensures.value)
-    c.in_ok-kept.ensures c.in_ok-reported.ensures c.in_ok-number.ensures.ok c.copy-4.ensures c.copy-5.ensures (c.in_ok-into.ensures ∙ c.copy-3.ensures) c.told.ensures
+    c.in-Ok.ensures.report c.copy.ensures c.copy-2.ensures c.in-Ok.ensures.name c.told.ensures

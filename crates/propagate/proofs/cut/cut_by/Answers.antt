@@ -1,5 +1,7 @@
-use Rattle.std.proofs.Common.{◌≡◌, ◌+◌, ap, sym, subst, ◌∙◌, arith, List, ℕ, sum}
+use Rattle.std.proofs.Common.{◌≡◌, ◌+◌, ap, sym, subst, ◌∙◌, arith, List, ℕ, length, map, sum}
+use Rattle.std.specs.List.{range_with_len}
 use Rattle.chains.specs.declared.position.Place.{Place}
+use Rattle.chains.specs.Processes.{known}
 use Rattle.knows_row.specs.Knowing.{IsLawful}
 use Rattle.knows_row.proofs.Lawful.{lawful}
 use Rattle.reasons.specs.Certificates.{AreReasons, positions_of}
@@ -7,7 +9,7 @@ use Rattle.history_law.proofs.Lines.{line_of_histories}
 use Rattle.propagate.specs.Greatest.{IsGreatestCut}
 use Rattle.propagate.specs.Ranks.{IsStage, positions_from, places_from}
 use Rattle.propagate.specs.Rounds.{AreTops, AreRounds}
-use Rattle.propagate.specs.Choice.{ChainsAfter}
+use Rattle.propagate.specs.Choice.{AreChosen, ChainsAfter}
 use Rattle.propagate.specs.Stages.{chains_at, chains_due, shown}
 use Rattle.propagate.proofs.Grounding.{are_reasons}
 use Rattle.propagate.proofs.Rounding.{settled_is_greatest, are_rounds}
@@ -38,56 +40,59 @@ module _ (c : goal.After-drop-tops-2) where
       subst (IsGreatestCut c.args.chains.now.accepted c.args.failed.now) positions
       (settled_is_greatest c.args.chains.now.accepted c.args.failed.now c.deref-2.result.now c.in_ok-last.last.stage.cut.items rounds.0 laws tops rounds.2 c.in_ok-last.ensures.still)
 
-pub returns-clause-in_order : goal.returns-clause-in_order
-returns-clause-in_order c = line_in_order c.args.chains.now.accepted c.in_ok-last.last.stage.cut.items c.in_ok-line.line c.in_ok-last.ensures.standing.complete (line c)
+  due : let s = c.in_ok-last.last in c.in_ok-reasons.reasons ≡ chains_due c.deref-2.result.now s.stage.cut.items (chains_at s.arena s.stage.heads.items)
+  due =
+      let s = c.in_ok-last.last in
+      c.in_ok-reasons.ensures ∙ ap (λ (xs : List ℕ). chains_due xs s.stage.cut.items (chains_at s.arena s.stage.heads.items)) (c.deref-4.ensures.value ∙ sym c.deref-2.ensures.value)
 
-pub returns-clause-line : goal.returns-clause-line
-returns-clause-line c = greatest c
+  stage : let s = c.in_ok-last.last in IsStage c.args.chains.now.accepted c.args.failed.now c.deref-2.result.now s.stage.cut.items (chains_at s.arena s.stage.heads.items)
+  stage =
+      let s = c.in_ok-last.last in
+      let stands = c.in_ok-last.ensures.stands in
+      stage_of c.args.chains.now.accepted c.args.failed.now c.deref-2.result.now s.stage.cut.items s.stage.heads.items s.stage.fell.items s.arena tops stands.standing stands.grounded
 
-pub returns-clause-of_histories : goal.returns-clause-of_histories
-returns-clause-of_histories c = line_of_histories c.args.chains.now.accepted c.args.failed.now (positions_of c.in_ok-line.line) c.lawful.ensures.folded (greatest c)
+  in_order : map (λ (x : Place). x.process) c.in_ok-line.line ≡ range_with_len 0 (length (known c.args.chains.now.accepted))
+  in_order = line_in_order c.args.chains.now.accepted c.in_ok-last.last.stage.cut.items c.in_ok-line.line c.in_ok-last.ensures.stands.standing.complete line
 
-due : (c : goal.After-drop-tops-2) → let s = c.in_ok-last.last in c.in_ok-reasons.reasons ≡ chains_due c.deref-2.result.now s.stage.cut.items (chains_at s.arena s.stage.heads.items)
-due c =
-    let s = c.in_ok-last.last in
-    c.in_ok-reasons.ensures ∙ ap (λ (xs : List ℕ). chains_due xs s.stage.cut.items (chains_at s.arena s.stage.heads.items)) (c.deref-4.ensures.value ∙ sym c.deref-2.ensures.value)
+  reasons : AreReasons c.args.chains.now.accepted c.args.failed.now (positions_of c.in_ok-line.line) c.in_ok-reasons.reasons
+  reasons =
+      let s = c.in_ok-last.last in
+      subst (λ (reasons : List (List Place)). AreReasons c.args.chains.now.accepted c.args.failed.now (positions_of c.in_ok-line.line) reasons) (sym due)
+      (subst (λ cut. AreReasons c.args.chains.now.accepted c.args.failed.now cut (chains_due c.deref-2.result.now s.stage.cut.items (chains_at s.arena s.stage.heads.items))) positions
+      (are_reasons c.args.chains.now.accepted c.args.failed.now c.deref-2.result.now s.stage.cut.items (chains_at s.arena s.stage.heads.items) tops stage))
 
-stage : (c : goal.After-drop-tops-2) → let s = c.in_ok-last.last in IsStage c.args.chains.now.accepted c.args.failed.now c.deref-2.result.now s.stage.cut.items (chains_at s.arena s.stage.heads.items)
-stage c =
-    let s = c.in_ok-last.last in
-    stage_of c.args.chains.now.accepted c.args.failed.now c.deref-2.result.now s.stage.cut.items s.stage.heads.items s.stage.fell.items s.arena (tops c) c.in_ok-last.ensures.standing c.in_ok-last.ensures.grounded
+  rounds : AreRounds c.args.chains.now.accepted c.args.failed.now c.in_ok-last.last.rounds (positions_of c.in_ok-line.line)
+  rounds =
+      let rounds = c.in_ok-last.ensures.rounds in
+      subst (λ (n : ℕ). AreRounds c.args.chains.now.accepted c.args.failed.now n (positions_of c.in_ok-line.line)) (sym rounds.1)
+      (subst (AreRounds c.args.chains.now.accepted c.args.failed.now (rounds.0 + 1)) positions
+      (are_rounds c.args.chains.now.accepted c.args.failed.now c.deref-2.result.now c.in_ok-last.last.stage.cut.items rounds.0 laws tops rounds.2 c.in_ok-last.ensures.still))
 
-pub returns-clause-reasons : goal.returns-clause-reasons
-returns-clause-reasons c =
-    let s = c.in_ok-last.last in
-    subst (λ (reasons : List (List Place)). AreReasons c.args.chains.now.accepted c.args.failed.now (positions_of c.in_ok-line.line) reasons) (sym (due c))
-    (subst (λ cut. AreReasons c.args.chains.now.accepted c.args.failed.now cut (chains_due c.deref-2.result.now s.stage.cut.items (chains_at s.arena s.stage.heads.items))) (positions c)
-    (are_reasons c.args.chains.now.accepted c.args.failed.now c.deref-2.result.now s.stage.cut.items (chains_at s.arena s.stage.heads.items) (tops c) (stage c)))
+  chosen : AreChosen c.args.chains.now.accepted c.args.failed.now c.in_ok-line.line c.in_ok-reasons.reasons c.in_ok-last.last.rounds
+  chosen =
+      let s = c.in_ok-last.last in
+      let turns = c.in_ok-last.ensures.rounds in
+      let chains = shown c.deref-2.result.now s.stage.cut.items (chains_at s.arena s.stage.heads.items) in
+      record {
+        in_order = in_order;
+        changing = turns.0;
+        counted = turns.1;
+        chains = chains;
+        after = subst (λ cut. ChainsAfter c.args.chains.now.accepted c.args.failed.now turns.0 cut chains) positions (turns.3 c.args.failed.now tops);
+        settled = rounds.3;
+        reasons_are = due ∙ given_reasons c.args.chains.now.accepted c.args.failed.now c.deref-2.result.now s.stage.cut.items (chains_at s.arena s.stage.heads.items) stage;
+      }
 
-pub returns-clause-rounds : goal.returns-clause-rounds
-returns-clause-rounds c =
-    let rounds = c.in_ok-last.ensures.rounds in
-    subst (λ (n : ℕ). AreRounds c.args.chains.now.accepted c.args.failed.now n (positions_of c.in_ok-line.line)) (sym rounds.1)
-    (subst (AreRounds c.args.chains.now.accepted c.args.failed.now (rounds.0 + 1)) (positions c)
-    (are_rounds c.args.chains.now.accepted c.args.failed.now c.deref-2.result.now c.in_ok-last.last.stage.cut.items rounds.0 (laws c) (tops c) rounds.2 c.in_ok-last.ensures.still))
-
-pub returns-clause-few : goal.returns-clause-few
-returns-clause-few c = λ ts h. omega (arith, c.in_ok-last.ensures.few, ap sum (same_tops c.args.chains.now.accepted c.args.failed.now ts c.deref-2.result.now h (tops c)))
-
-pub returns-clause-chosen : goal.returns-clause-chosen
-returns-clause-chosen c =
-    let s = c.in_ok-last.last in
-    let rounds = c.in_ok-last.ensures.rounds in
-    let chains = shown c.deref-2.result.now s.stage.cut.items (chains_at s.arena s.stage.heads.items) in
-    record {
-      in_order = returns-clause-in_order c;
-      changing = rounds.0;
-      counted = rounds.1;
-      chains = chains;
-      after = subst (λ cut. ChainsAfter c.args.chains.now.accepted c.args.failed.now rounds.0 cut chains) (positions c) (rounds.3 c.args.failed.now (tops c));
-      settled = (returns-clause-rounds c).3;
-      reasons_are = due c ∙ given_reasons c.args.chains.now.accepted c.args.failed.now c.deref-2.result.now s.stage.cut.items (chains_at s.arena s.stage.heads.items) (stage c);
-    }
+pub returns : goal.returns
+returns c = record {
+  in_order = in_order c;
+  line = greatest c;
+  of_histories = line_of_histories c.args.chains.now.accepted c.args.failed.now (positions_of c.in_ok-line.line) c.lawful.ensures.folded (greatest c);
+  reasons = reasons c;
+  rounds = rounds c;
+  chosen = chosen c;
+  few = λ ts h. omega (arith, c.in_ok-last.ensures.few, ap sum (same_tops c.args.chains.now.accepted c.args.failed.now ts c.deref-2.result.now h (tops c)));
+}
 
 pub last_stage-requires-clause-table : goal.last_stage-requires-clause-table
 last_stage-requires-clause-table c = rw (c.deref-2.ensures.value ∙ sym c.deref.ensures.value) (c.at_last.ensures c.args.chains.now.accepted c.requires)

@@ -11,7 +11,7 @@ use Rattle.propagate.proofs.cut.last_stage.Goals as goal
 pub loop-stage-init : goal.loop-stage-init
 loop-stage-init c =
     let s = c.in_ok-stage.stage in (
-      running_first c.args.chains.now.accepted c.args.tops.now s.before.items s.cut.items s.heads.items s.fell.items c.new-arena.result
+      running_first c.args.chains.now.accepted c.args.tops.now s c.new-arena.result
           c.in_ok-stage.ensures.cut c.in_ok-stage.ensures.standing (c.in_ok-stage.ensures.there c.new-arena.result)
           c.in_ok-stage.ensures.from
           (subst (λ (cut : List ℕ). AreChosenBy c.args.chains.now.accepted c.args.tops.now 0 cut s.heads.items c.new-arena.result) (sym c.in_ok-stage.ensures.cut)
@@ -37,7 +37,7 @@ returns-then-is_empty-clause-rounds c =
       rounds.1,
       subst (RanksAfter accepted tops rounds.0) (same c) rounds.2,
       chosen_still accepted tops s.cut.items next.cut.items s.heads.items next.heads.items s.fell.items next.fell.items c.loop-stage.arena c.round.new.arena
-          c.loop-stage.invariant.0.standing c.in_ok-next.ensures.standing c.in_ok-next.ensures.ranks c.in_ok-next.ensures.chains rounds.0 (same c) rounds.3,
+          c.loop-stage.invariant.0.stands.standing c.in_ok-next.ensures.stands.standing c.in_ok-next.ensures.ranks c.in_ok-next.ensures.chains rounds.0 (same c) rounds.3,
     )
 
 pub returns-then-is_empty-clause-still : goal.returns-then-is_empty-clause-still
@@ -68,11 +68,9 @@ pub loop-stage-preserved : goal.loop-stage-preserved
 loop-stage-preserved c =
     let s = c.loop-stage.stage in
     let next = c.in_ok-next.next in (
-      running_more c.args.chains.now.accepted c.args.tops.now s.before.items s.cut.items s.heads.items s.fell.items c.loop-stage.arena c.loop-stage.rounds c.loop-stage.invariant.0
-          next.before.items next.cut.items next.heads.items next.fell.items c.round.new.arena
-          c.in_ok-next.ensures.ranks (changed c) c.in_ok-next.ensures.standing c.in_ok-next.ensures.grounded c.in_ok-next.ensures.there c.in_ok-next.ensures.from
+      running_more c.args.chains.now.accepted c.args.tops.now s c.loop-stage.arena c.loop-stage.rounds c.loop-stage.invariant.0 next c.round.new.arena c.in_ok-next.ensures (changed c)
           (λ t chosen. chosen_more c.args.chains.now.accepted c.args.tops.now s.cut.items next.cut.items s.heads.items next.heads.items s.fell.items next.fell.items c.loop-stage.arena c.round.new.arena
-          c.loop-stage.invariant.0.standing c.in_ok-next.ensures.standing c.in_ok-next.ensures.ranks c.in_ok-next.ensures.chains t (changed c) chosen),
+          c.loop-stage.invariant.0.stands.standing c.in_ok-next.ensures.stands.standing c.in_ok-next.ensures.ranks c.in_ok-next.ensures.chains t (changed c) chosen),
       tt,
     )
 

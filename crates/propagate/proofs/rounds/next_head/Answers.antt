@@ -13,10 +13,10 @@ use Rattle.propagate.proofs.rounds.next_head.Goals as goal
 
 pub returns-in_default-clause-grounded : goal.returns-in_default-clause-grounded
 returns-in_default-clause-grounded c =
-    let s = c.requires.standing in
+    let s = c.requires.stands.standing in
     rw (c.index.ensures ∙ get_or_default c.args.stage.now.heads.items c.args.process c.index.result.now 0 (omega (arith, c.requires.process, s.headed)))
     (head_stays c.args.chains.now.accepted c.args.tops.now c.args.stage.now.cut.items c.args.stage.now.heads.items c.args.stage.now.fell.items c.args.arena.now c.args.process c.args.low.now.rank s c.requires.process
-    c.requires.grounded (rw c.in_default.is at c.requires.cause))
+    c.requires.stands.grounded (rw c.in_default.is at c.requires.cause))
 
 -- the chains that are there when the new one is added
 grown : (c : goal.After-prolong) → (more : List (List Place)) × (c.if-after-tops.arena ≡ c.args.arena.now ++ more)
@@ -42,7 +42,7 @@ after_is c =
 
 pub returns-clause-grounded : goal.returns-clause-grounded
 returns-clause-grounded c = IfOk-weaker c.prolong.result _ _ (λ head h.
-    let s = c.requires.standing in
+    let s = c.requires.stands.standing in
     let accepted = c.args.chains.now.accepted in
     let tops = c.args.tops.now in
     let cut = c.args.stage.now.cut.items in
@@ -60,7 +60,7 @@ returns-clause-grounded c = IfOk-weaker c.prolong.result _ _ (λ head h.
           head_starts accepted tops cut heads fell arena p r s c.requires.process q chain (lawful accepted c.lawful.ensures.folded) cause (sym (after_is c) ∙ w.if-after-tops.true)
           (rw (first, w.place_at.ensures, c.place_at-place.ensures, after_is c) refl)
       | else-after-tops w ↦ let there : before ≡ get_or arena (slice_index heads q) [] = rw (w.before-is, w.arena-is) (rw (w.index-else-after-tops.ensures ∙ get_or_default heads q w.index-else-after-tops.result.now 0 (omega (arith, s.headed, cause.1))) refl) in
-          head_prolongs accepted tops cut heads fell arena p r s c.requires.process q chain (lawful accepted c.lawful.ensures.folded) c.requires.grounded cause (λ e. w.if-after-tops.false (after_is c ∙ e))
+          head_prolongs accepted tops cut heads fell arena p r s c.requires.process q chain (lawful accepted c.lawful.ensures.folded) c.requires.stands.grounded cause (λ e. w.if-after-tops.false (after_is c ∙ e))
           (rw (there, c.place_at-place.ensures) refl)
     ])) c.prolong.ensures.ok
 
@@ -68,13 +68,13 @@ pub returns-in_default-clause-chain : goal.returns-in_default-clause-chain
 returns-in_default-clause-chain c =
     inl (
       rw c.in_default.is at c.requires.cause,
-      λ below. ap (λ h. get_or c.args.arena.now h []) (c.index.ensures ∙ get_or_default c.args.stage.now.heads.items c.args.process c.index.result.now 0 (omega (arith, c.requires.process, c.requires.standing.headed))),
+      λ below. ap (λ h. get_or c.args.arena.now h []) (c.index.ensures ∙ get_or_default c.args.stage.now.heads.items c.args.process c.index.result.now 0 (omega (arith, c.requires.process, c.requires.stands.standing.headed))),
     )
 
 -- what the new chain goes on from
 begins : (c : goal.After-prolong) → BeginsAt c.args.chains.now.accepted c.args.tops.now c.args.stage.now.cut.items c.args.stage.now.heads.items c.args.arena.now c.in-Some.cause (get_or c.if-after-tops.arena c.if-after-tops.before [])
 begins c =
-    let s = c.requires.standing in
+    let s = c.requires.stands.standing in
     let accepted = c.args.chains.now.accepted in
     let tops = c.args.tops.now in
     let cut = c.args.stage.now.cut.items in

@@ -11,14 +11,10 @@ pub loop-process-init : goal.loop-process-init
 loop-process-init c = rw (c.in_ok-cut.ensures.items, c.in_ok-heads.ensures.items, c.new-fell.ensures.items) (record {
   ranks = next_none c.args.chains.now.accepted c.args.stage.now.cut.items;
   heads = heads_none c.args.chains.now.accepted c.args.tops.now c.args.stage.now.cut.items c.args.arena.now;
-  grounded = c.requires.grounded;
-  there = c.requires.there;
+  stands = c.requires.stands;
   more = ([], sym (append-nil c.args.arena.now));
   chains = λ p lt. absurd (omega (arith, lt));
 })
-
-pub next_head-requires-clause-grounded : goal.next_head-requires-clause-grounded
-next_head-requires-clause-grounded c = c.loop-process.invariant.grounded
 
 pub loop-process-preserved : goal.loop-process-preserved
 loop-process-preserved c =
@@ -30,7 +26,7 @@ loop-process-preserved c =
     let r = c.lower-low.result.rank in
     let was = c.loop-process.invariant in
     let more = c.in_ok-head.ensures.more in
-    let lt : i < length cut = omega (arith, c.loop-process-test.true, c.count-process-end.ensures, c.requires.standing.complete) in
+    let lt : i < length cut = omega (arith, c.loop-process-test.true, c.count-process-end.ensures, c.requires.stands.standing.complete) in
     let here = c.index.ensures ∙ get_or_default cut i c.index.result.now 0 lt in
     let rank : IsNextRank accepted cut i r = c.lower-low.ensures.rank in
     rw (c.in_ok-push-2.ensures.items, c.in_ok-push-3.ensures.items) (record {
@@ -40,40 +36,41 @@ loop-process-preserved c =
       ];
       heads = heads_more accepted tops cut i next c.loop-process.heads.items c.loop-process.arena more.0 c.next_head.new.arena r c.in_ok-head.head was.heads was.ranks.complete more.1
           c.in_ok-head.ensures.there c.in_ok-head.ensures.grounded;
-      grounded = grounded_grown accepted tops cut c.args.stage.now.heads.items c.loop-process.arena more.0 c.next_head.new.arena more.1 c.requires.standing.headed was.there was.grounded;
-      there = there_grown tops cut c.args.stage.now.heads.items c.loop-process.arena more.0 c.next_head.new.arena more.1 was.there;
+      stands = record {
+        standing = was.stands.standing;
+        grounded = grounded_grown accepted tops cut c.args.stage.now.heads.items c.loop-process.arena more.0 c.next_head.new.arena more.1 was.stands.standing.headed was.stands.there was.stands.grounded;
+        there = there_grown tops cut c.args.stage.now.heads.items c.loop-process.arena more.0 c.next_head.new.arena more.1 was.stands.there;
+      };
       more = (was.more.0 ++ more.0, more.1 ∙ ap (λ (xs : List (List Place)). xs ++ more.0) was.more.1 ∙ append_assoc c.args.arena.now was.more.0 more.0);
-      chains = chains_more accepted tops cut c.args.stage.now.heads.items c.args.arena.now c.requires.standing.surviving i next c.loop-process.heads.items c.loop-process.arena more.0 c.next_head.new.arena was.more.0
-          r c.in_ok-head.head lt was.ranks.complete was.heads.complete c.requires.there was.more.1 more.1 was.heads.there was.chains c.in_ok-head.ensures.chain;
+      chains = chains_more accepted tops cut c.args.stage.now.heads.items c.args.arena.now c.requires.stands.standing.surviving i next c.loop-process.heads.items c.loop-process.arena more.0 c.next_head.new.arena was.more.0
+          r c.in_ok-head.head lt was.ranks.complete was.heads.complete c.requires.stands.there was.more.1 more.1 was.heads.there was.chains c.in_ok-head.ensures.chain;
     })
 
 -- all processes were looked at
 all_done : (c : goal.After-loop-process) → c.loop-process.process ≡ length c.args.stage.now.cut.items
-all_done c = omega (arith, c.loop-process-test.false, c.loop-process.auto.process-end, c.count-process-end.ensures, c.requires.standing.complete)
+all_done c = omega (arith, c.loop-process-test.false, c.loop-process.auto.process-end, c.count-process-end.ensures, c.requires.stands.standing.complete)
 
-pub returns-clause-ranks : goal.returns-clause-ranks
-returns-clause-ranks c = next_ranks c.args.chains.now.accepted c.args.stage.now.cut.items c.loop-process.process c.loop-process.cut.items c.loop-process.fell.items c.loop-process.invariant.ranks (all_done c)
-
-pub returns-clause-fallen : goal.returns-clause-fallen
-returns-clause-fallen c = next_fell c.args.chains.now.accepted c.args.stage.now.cut.items c.loop-process.process c.loop-process.cut.items c.loop-process.fell.items c.loop-process.invariant.ranks (all_done c)
-
-pub returns-clause-standing : goal.returns-clause-standing
-returns-clause-standing c =
-    next_standing c.args.chains.now.accepted c.args.stage.now.cut.items c.loop-process.process c.loop-process.cut.items c.loop-process.fell.items c.loop-process.invariant.ranks (all_done c)
-    c.args.tops.now c.loop-process.heads.items c.args.stage.now.heads.items c.args.stage.now.fell.items c.requires.standing (c.loop-process.invariant.heads.complete ∙ all_done c)
-
-pub returns-clause-grounded : goal.returns-clause-grounded
-returns-clause-grounded c =
-    heads_grounded c.args.chains.now.accepted c.args.tops.now c.args.stage.now.cut.items c.loop-process.process c.loop-process.cut.items c.loop-process.heads.items c.loop-process.arena
-    c.loop-process.invariant.heads c.loop-process.invariant.ranks.complete (returns-clause-ranks c)
-
-pub returns-clause-there : goal.returns-clause-there
-returns-clause-there c =
-    heads_there c.args.chains.now.accepted c.args.tops.now c.args.stage.now.cut.items c.loop-process.process c.loop-process.cut.items c.loop-process.heads.items c.loop-process.arena
-    c.loop-process.invariant.heads c.loop-process.invariant.ranks.complete
-
-pub returns-clause-from : goal.returns-clause-from
-returns-clause-from c = rw (c.in_ok-before.ensures.items, c.deref.ensures.value) (next_lowered c.args.chains.now.accepted c.args.stage.now.cut.items c.loop-process.cut.items (returns-clause-ranks c))
-
-pub returns-clause-chains : goal.returns-clause-chains
-returns-clause-chains c = λ p lt. c.loop-process.invariant.chains p (omega (arith, lt, c.loop-process.invariant.ranks.complete))
+pub returns : goal.returns
+returns c =
+    let accepted = c.args.chains.now.accepted in
+    let tops = c.args.tops.now in
+    let cut = c.args.stage.now.cut.items in
+    let i = c.loop-process.process in
+    let next = c.loop-process.cut.items in
+    let heads = c.loop-process.heads.items in
+    let fell = c.loop-process.fell.items in
+    let arena = c.loop-process.arena in
+    let done = c.loop-process.invariant in
+    let stage = c.requires.stands.standing in
+    let ranks = next_ranks accepted cut i next fell done.ranks (all_done c) in
+    record {
+      ranks = ranks;
+      fallen = next_fell accepted cut i next fell done.ranks (all_done c);
+      stands = record {
+        standing = next_standing accepted cut i next fell done.ranks (all_done c) tops heads c.args.stage.now.heads.items c.args.stage.now.fell.items stage (done.heads.complete ∙ all_done c);
+        grounded = heads_grounded accepted tops cut i next heads arena done.heads done.ranks.complete ranks;
+        there = heads_there accepted tops cut i next heads arena done.heads done.ranks.complete;
+      };
+      from = rw (c.in_ok-before.ensures.items, c.deref.ensures.value) (next_lowered accepted cut next ranks);
+      chains = λ p lt. done.chains p (omega (arith, lt, done.ranks.complete));
+    }

@@ -1,6 +1,6 @@
 use Rattle.std.proofs.Common.{◌≡◌, ◌++◌, List}
 use Rattle.chains.specs.declared.position.Place.{Place}
-use Rattle.propagate.specs.Stages.{AreGroundedBy, AreThere}
+use Rattle.propagate.specs.Stages.{IsStageFrom}
 use Rattle.propagate.proofs.Staging.{AreNextTo, AreHeadsTo}
 use Rattle.propagate.proofs.Choosing.{AreChainsTo}
 use Rattle.propagate.proofs.rounds.round_by.Given as goal
@@ -9,8 +9,7 @@ abbrev pub invariant-loop-process : goal.invariant-loop-process
 invariant-loop-process l = record {
   ranks : AreNextTo l.chains.accepted l.stage.cut.items l.process l.cut.items l.fell.items;
   heads : AreHeadsTo l.chains.accepted l.tops l.stage.cut.items l.process l.cut.items l.heads.items l.arena;
-  grounded : AreGroundedBy l.chains.accepted l.tops l.stage.cut.items l.stage.heads.items l.arena;
-  there : AreThere l.tops l.stage.cut.items l.stage.heads.items l.arena;
+  stands : IsStageFrom l.chains.accepted l.tops l.stage l.arena;
   more : (more : List (List Place)) × (l.arena ≡ l.fn.arena ++ more);
   chains : AreChainsTo l.chains.accepted l.tops l.stage.cut.items l.stage.heads.items l.fn.arena l.process l.cut.items l.heads.items l.arena;
 }

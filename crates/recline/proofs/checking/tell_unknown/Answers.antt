@@ -1,6 +1,6 @@
 use Rattle.std.proofs.Common.{◌≡◌, ◌∷◌, [], List, ℕ, codes, rules, subst, string_bytes}
 use Rattle.recline.specs.Outcome.{Tells}
-use Rattle.recline.proofs.Telling.{unknown_line}
+use Rattle.recline.proofs.FaultLines.{unknown_line}
 use Rattle.recline.proofs.checking.tell_unknown.Goals as goal
 
 pub returns : goal.returns

@@ -2,5 +2,5 @@
 use Rattle.std.proofs.Common.{refl}
 use Rattle.recline.proofs.serving.end_service.Goals as goal
 
-pub returns-in-Err-clause-err : goal.returns-in-Err-clause-err
-returns-in-Err-clause-err g c = ((c.in-Err.unclosed.fault, c.in-Err.ensures.cause, c.stop_of.ensures), refl)
+pub returns-in-Err-clause-refused : goal.returns-in-Err-clause-refused
+returns-in-Err-clause-refused g c = rw c.in-Err.is (refl, c.stop_of.ensures, refl)

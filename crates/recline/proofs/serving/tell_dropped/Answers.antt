@@ -1,7 +1,7 @@
 -- `tell_dropped`: the pieces of its line.
 use Rattle.std.proofs.Common.{◌≡◌, ◌∷◌, [], ◌∙◌, List, ℕ, codes, inr, rules, subst}
 use Rattle.recline.specs.Outcome.{Tells}
-use Rattle.recline.proofs.Telling.{numbered_line}
+use Rattle.recline.proofs.FaultLines.{numbered_line}
 use Rattle.recline.proofs.serving.tell_dropped.Goals as goal
 
 pub returns : goal.returns

@@ -1,6 +1,6 @@
 use Rattle.std.proofs.Common.{◌≡◌, ◌∷◌, [], ◌∙◌, List, ℕ, codes, rules, subst}
 use Rattle.recline.specs.Driving.{Writes}
-use Rattle.recline.proofs.Telling.{numbered_line}
+use Rattle.recline.proofs.FaultLines.{numbered_line}
 use Rattle.recline.proofs.serving.write_end.Goals as goal
 
 pub returns : goal.returns
@@ -8,4 +8,4 @@ returns g c =
     let front : c.as_slice.result.now ≡ codes "ENDED " = search rules in
     let end : c.as_slice-2.result.now ≡ 10 ∷ [] = search rules in
     let line = numbered_line c.as_slice.result.now c.as_bytes.result.now c.as_slice-2.result.now (codes "ENDED ") c.args.front front (c.as_bytes.ensures.value ∙ c.format.ensures.text) end in
-    subst (λ (l : List ℕ). Writes (g.O.Link.told c.args.output.now) (g.O.Link.told c.write_pieces.new.output) c.write_pieces.result l) line c.write_pieces.ensures
+    subst (λ (l : List ℕ). Writes (g.O.Link.told c.args.output.now) (g.O.Link.told c.write_pieces.new.link) c.write_pieces.result l) line c.write_pieces.ensures.writes

@@ -1,0 +1,126 @@
+-- The numbers of the command `serve`.
+use Rattle.std.proofs.Common.{◌≡◌, Bool, ℕ, true, false, Option, Some, None, [], ◌∷◌, refl, sym, subst, codes, true≢false}
+use Rattle.std.specs.Prelude.{◌&&◌, IfNone, if◌then◌else◌}
+use Rattle.std.specs.Borrow.{Bor}
+use Rattle.clap.specs.Kinds.{HasKind, Kinds}
+use Rattle.clap.specs.Matches.{first_value}
+use Rattle.clap.specs.Walk.{Text, first_of, rows_of}
+use Rattle.clap.specs.Values.{IsUnsignedIn}
+use Rattle.clap.specs.ValueTests.{is_unsigned_in}
+use Rattle.clap.specs.declared.error.Error.{Error}
+use Rattle.clap.specs.declared.error.kind.ErrorKind.TheVariants as kinds
+use Rattle.clap.specs.declared.parser.matches.Found.{Found}
+use Rattle.clap.specs.declared.builder.value_parser.ValueParser.TheVariants as vp
+use Rattle.clap.proofs.ValueTestLemmas.{accepts-Accepts, Accepts-accepts}
+use Rattle.clap.proofs.WalkLemmas.{first_value-rows}
+use Rattle.command_line.specs.declared.args.Command.TheVariants as commands
+use Rattle.command_line.specs.Arguments.{IsNumber, IsServe, MayBeNumber, has_number, may_have_number, number_refusals}
+
+-- a text that is no number within the limits, by the test
+no_number : (least most : ℕ) (text : Text) → (IsUnsignedIn least most text → ⊥) → is_unsigned_in least most text ≡ false
+no_number least most text none = go (is_unsigned_in least most text) refl
+  where
+    go : (b : Bool) → is_unsigned_in least most text ≡ b → is_unsigned_in least most text ≡ false
+    go true e = absurd (none (accepts-Accepts false (vp.Unsigned least most) text e))
+    go false e = e
+
+pub none_in : (least most : ℕ) (text : Text) (value : Option Text) (o : Option ℕ) → Some text ≡ value → IfNone o (IsUnsignedIn least most text → ⊥) → IfNone o (has_number least most value ≡ false)
+none_in least most text value None is none = subst (λ (v : Option Text). has_number least most v ≡ false) is (no_number least most text none)
+none_in least most text value (Some n) is none = none
+
+pub none_in_optional : {T : Type 0} (least most : ℕ) (text : Text) (value : Option Text) (o : Option T) → Some text ≡ value → (IsUnsignedIn least most text → ⊥)
+    → IfNone o (may_have_number least most value ≡ false)
+none_in_optional least most text value None is none = subst (λ (v : Option Text). may_have_number least most v ≡ false) is (no_number least most text none)
+none_in_optional least most text value (Some x) is none = tt
+
+-- a number within the limits, by the test
+number_there : (least most n : ℕ) (value : Option Text) → IsNumber least most n value → has_number least most value ≡ true
+number_there least most n (Some text) is = Accepts-accepts false (vp.Unsigned least most) text is.0
+number_there least most n None is = absurd is
+
+may_there : (least most : ℕ) (o : Option ℕ) (value : Option Text) → MayBeNumber least most o value → may_have_number least most value ≡ true
+may_there least most (Some n) (Some text) is = Accepts-accepts false (vp.Unsigned least most) text is.0
+may_there least most (Some n) None is = refl
+may_there least most None value is = subst (λ (v : Option Text). may_have_number least most v ≡ true) (sym is) refl
+
+-- ---- the four tests
+
+abbrev kinds_by : Bool → Bool → Bool → Bool → Kinds
+kinds_by p s w i = if p && (s && (w && i)) then [] else kinds.ValueValidation ∷ []
+
+abbrev IsValueFault : Error → Type 0
+IsValueFault e = HasKind (kinds.ValueValidation ∷ []) e
+
+by_port : (p s w i : Bool) (e : Error) → p ≡ false → IsValueFault e → HasKind (kinds_by p s w i) e
+by_port true s w i e is has = absurd (true≢false is)
+by_port false s w i e is has = has
+
+by_sessions : (p s w i : Bool) (e : Error) → s ≡ false → IsValueFault e → HasKind (kinds_by p s w i) e
+by_sessions p true w i e is has = absurd (true≢false is)
+by_sessions true false w i e is has = has
+by_sessions false false w i e is has = has
+
+by_workers : (p s w i : Bool) (e : Error) → w ≡ false → IsValueFault e → HasKind (kinds_by p s w i) e
+by_workers p s true i e is has = absurd (true≢false is)
+by_workers true true false i e is has = has
+by_workers true false false i e is has = has
+by_workers false s false i e is has = has
+
+by_idle : (p s w i : Bool) (e : Error) → i ≡ false → IsValueFault e → HasKind (kinds_by p s w i) e
+by_idle p s w true e is has = absurd (true≢false is)
+by_idle true true true false e is has = has
+by_idle true true false false e is has = has
+by_idle true false w false e is has = has
+by_idle false s w false e is has = has
+
+by_none : (p s w i : Bool) → p ≡ true → s ≡ true → w ≡ true → i ≡ true → kinds_by p s w i ≡ []
+by_none p s w i e f g h = rw (e, f, g, h) refl
+
+-- ---- over what was found
+
+module _ (f : Found) where
+  abbrev has_port : Bool
+  has_port = has_number 0 65535 (first_of (codes "port") (rows_of f))
+
+  abbrev has_sessions : Bool
+  has_sessions = has_number 1 4096 (first_of (codes "sessions") (rows_of f))
+
+  abbrev has_workers : Bool
+  has_workers = has_number 1 64 (first_of (codes "workers") (rows_of f))
+
+  abbrev may_have_idle : Bool
+  may_have_idle = may_have_number 1 4294967295 (first_of (codes "idle") (rows_of f))
+
+  in_rows : (key : Text) (P : Option Text → Type 0) → P (first_value f key) → P (first_of key (rows_of f))
+  in_rows key P here = subst P (first_value-rows f key) here
+
+  pub no_port : (e : Error) → has_number 0 65535 (first_value f (codes "port")) ≡ false → IsValueFault e → HasKind (number_refusals (rows_of f)) e
+  no_port e none has = by_port has_port has_sessions has_workers may_have_idle e (in_rows (codes "port") (λ v. has_number 0 65535 v ≡ false) none) has
+
+  pub no_sessions : (e : Error) → has_number 1 4096 (first_value f (codes "sessions")) ≡ false → IsValueFault e → HasKind (number_refusals (rows_of f)) e
+  no_sessions e none has = by_sessions has_port has_sessions has_workers may_have_idle e (in_rows (codes "sessions") (λ v. has_number 1 4096 v ≡ false) none) has
+
+  pub no_workers : (e : Error) → has_number 1 64 (first_value f (codes "workers")) ≡ false → IsValueFault e → HasKind (number_refusals (rows_of f)) e
+  no_workers e none has = by_workers has_port has_sessions has_workers may_have_idle e (in_rows (codes "workers") (λ v. has_number 1 64 v ≡ false) none) has
+
+  pub no_idle : (e : Error) → may_have_number 1 4294967295 (first_value f (codes "idle")) ≡ false → IsValueFault e → HasKind (number_refusals (rows_of f)) e
+  no_idle e none has = by_idle has_port has_sessions has_workers may_have_idle e (in_rows (codes "idle") (λ v. may_have_number 1 4294967295 v ≡ false) none) has
+
+  module _ (port sessions workers : ℕ) (idle : Option ℕ) (port_is : IsNumber 0 65535 port (first_value f (codes "port")))
+      (sessions_is : IsNumber 1 4096 sessions (first_value f (codes "sessions"))) (workers_is : IsNumber 1 64 workers (first_value f (codes "workers")))
+      (idle_is : MayBeNumber 1 4294967295 idle (first_value f (codes "idle"))) where
+    pub all_numbers : number_refusals (rows_of f) ≡ []
+    all_numbers =
+        by_none has_port has_sessions has_workers may_have_idle (in_rows (codes "port") (λ v. has_number 0 65535 v ≡ true) (number_there 0 65535 port _ port_is))
+        (in_rows (codes "sessions") (λ v. has_number 1 4096 v ≡ true) (number_there 1 4096 sessions _ sessions_is))
+        (in_rows (codes "workers") (λ v. has_number 1 64 v ≡ true) (number_there 1 64 workers _ workers_is))
+        (in_rows (codes "idle") (λ v. may_have_number 1 4294967295 v ≡ true) (may_there 1 4294967295 idle _ idle_is))
+
+    pub serve_is : (file : Bor Text) → Some file.now ≡ first_value f (codes "FILE") → IsServe (rows_of f) (commands.Serve file port sessions workers idle)
+    serve_is file file_is = (
+      sym (in_rows (codes "FILE") (λ v. Some file.now ≡ v) file_is),
+      in_rows (codes "port") (IsNumber 0 65535 port) port_is,
+      in_rows (codes "sessions") (IsNumber 1 4096 sessions) sessions_is,
+      in_rows (codes "workers") (IsNumber 1 64 workers) workers_is,
+      in_rows (codes "idle") (MayBeNumber 1 4294967295 idle) idle_is,
+    )

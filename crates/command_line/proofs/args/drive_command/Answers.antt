@@ -1,0 +1,12 @@
+use Rattle.std.proofs.Common.{rules, ◌≡◌, ap₂, ◌∙◌, codes}
+use Rattle.std.proofs.lemmas.Result.{IfOk-weaker}
+use Rattle.clap.specs.Words.{app_of, new_app, with_rule}
+use Rattle.command_line.proofs.args.drive_command.Goals as goal
+
+pub returns-clause-app : goal.returns-clause-app
+returns-clause-app c =
+    let named : app_of c.about.result ≡ new_app (codes "drive") = search rules in
+    IfOk-weaker c.arg.result _ _ (λ made h. h.shape (search rules) ∙ ap₂ with_rule named c.script_argument.ensures.rule) c.arg.ensures
+
+pub returns-clause-local : goal.returns-clause-local
+returns-clause-local c = IfOk-weaker c.arg.result _ _ (λ made h. search rules) c.arg.ensures

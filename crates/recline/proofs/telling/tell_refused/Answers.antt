@@ -1,0 +1,14 @@
+use Rattle.std.proofs.Common.{◌≡◌, ◌∷◌, [], ◌∙◌, List, ℕ, codes, rules, subst}
+use Rattle.recline.specs.Outcome.{Tells}
+use Rattle.recline.proofs.FaultLines.{refused_line}
+use Rattle.recline.proofs.telling.tell_refused.Goals as goal
+
+pub returns : goal.returns
+returns g c =
+    let front : c.as_slice.result.now ≡ codes "recline: refused " = search rules in
+    let space : c.as_slice-2.result.now ≡ codes " " = search rules in
+    let end : c.as_slice-3.result.now ≡ 10 ∷ [] = search rules in
+    let line =
+    refused_line c.as_slice.result.now c.as_bytes.result.now c.as_slice-2.result.now c.as_bytes-2.result.now c.as_slice-3.result.now c.args.number c.args.code front (c.as_bytes.ensures.value ∙ c.format.ensures.text) space
+    (c.as_bytes-2.ensures.value ∙ c.format-2.ensures.text) end in
+    subst (λ (l : List ℕ). Tells (g.F.Link.told c.args.faults.now) (g.F.Link.told c.tell_all.new.faults) l) line c.tell_all.ensures

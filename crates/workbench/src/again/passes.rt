@@ -1,0 +1,117 @@
+//! Passes of a coordinator over a disk in memory.
+
+ghost use Rattle.std.specs.Prelude.{◌≡◌};
+
+use super::shared::{close, desk_over, put_end, shared};
+use anyhow::Result;
+use coordinator::{Coordinator, Pass, Unclosed};
+use line_disk::MemoryDisk;
+use report_line::Call;
+use std::alloc::Global;
+use std::io::Write;
+use std::marker::Brand;
+use std::sync::Wait;
+use std::sync::ledger::{Blank, Ledger};
+
+// Writes a line with a number behind a word.
+fn put_number<W: Write>(alloc: Global, word: &str, number: u64, out: &mut W) -> Result<()> {
+    let text = format!(in alloc; "{word} {number}\n")?;
+    Ok(out.write_all(text.as_bytes())?)
+}
+
+// Makes a turn.
+fn turn<L: Ledger, R: Wait>(
+    rt: &R,
+    coordinator: &Coordinator<L, MemoryDisk>,
+    pass: &mut Pass<L>,
+) -> Result<()> {
+    Ok(coordinator.call(rt, pass, Call::Bad(1))?)
+}
+
+// Takes so many passes, each of which makes a turn, or writes why there are no more.
+fn take<L: Ledger, R: Wait, W: Write>(
+    rt: &R,
+    coordinator: &Coordinator<L, MemoryDisk>,
+    passes: &mut Vec<Pass<L>>,
+    count: u32,
+    out: &mut W,
+) -> Result<()> {
+    for _ in 0..count {
+        match coordinator.pass(rt) {
+            Ok(mut pass) => {
+                turn(rt, coordinator, &mut pass)?;
+                passes.push(pass)?;
+            }
+            Err(fault) => {
+                let text = format!(in coordinator.alloc(); "{fault}\n")?;
+                out.write_all(text.as_bytes())?;
+                return Ok(());
+            }
+        }
+    }
+    Ok(())
+}
+
+// Closes a coordinator whose close is refused, and writes why. What is handed back is as it was.
+fn close_short<L: Ledger, W: Write>(
+    alloc: Global,
+    coordinator: Coordinator<L, MemoryDisk>,
+    passes: Vec<Pass<L>>,
+    out: &mut W,
+) -> Result<Option<(Coordinator<L, MemoryDisk>, Vec<Pass<L>>)>> {
+    let Err(unclosed) = coordinator.close(passes) else {
+        return Ok(None);
+    };
+    let Unclosed {
+        fault,
+        coordinator,
+        passes,
+    } = unclosed;
+    let text = format!(in alloc; "{fault}\n")?;
+    out.write_all(text.as_bytes())?;
+    Ok(Some((coordinator, passes)))
+}
+
+// Closes the coordinator without its last pass, and then with it.
+fn close_twice<L: Ledger, W: Write>(
+    alloc: Global,
+    coordinator: Coordinator<L, MemoryDisk>,
+    mut passes: Vec<Pass<L>>,
+    out: &mut W,
+) -> Result<()> {
+    let Some(last) = passes.pop() else {
+        return Ok(());
+    };
+    put_number(alloc, "PASS", u64::from(last.number()), out)?;
+    let Some((coordinator, mut passes)) = close_short(alloc, coordinator, passes, out)? else {
+        return Ok(());
+    };
+    passes.push(last)?;
+    let ended = close(coordinator, passes, out)?;
+    put_end(alloc, ended, out)
+}
+
+// Takes so many passes of a coordinator of its own, and closes it.
+fn take_all<L: Ledger, R: Wait, W: Write>(
+    rt: &R,
+    alloc: Global,
+    blank: Blank,
+    count: u32,
+    out: &mut W,
+) -> Result<()>
+    requires name { blank.name ≡ L.name }
+    requires parts { (blank.parts ≡ L.parts) × (blank.parts ≡ 8193) }
+{
+    let desk = desk_over(alloc, MemoryDisk::new(alloc, &[])?, out)?;
+    let coordinator = shared::<L, _, W>(alloc, blank, desk, out)?;
+    let mut passes = Vec::new(alloc);
+    take(rt, &coordinator, &mut passes, count, out)?;
+    close_twice(alloc, coordinator, passes, out)
+}
+
+/// Takes so many passes of a coordinator, each of which makes a turn, or tells why there are no more. Tells the number of the last one, why
+/// the coordinator is not closed without it, and how it ends with all.
+pub fn put_passes<T: Wait>(rt: &HostRuntime, threads: &T, count: u32) -> Result<()> {
+    let alloc = rt.alloc();
+    take_all::<Brand, _, _>(threads, alloc, Blank::new(8193), count, &mut rt.stdout())
+}

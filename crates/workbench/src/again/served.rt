@@ -1,0 +1,97 @@
+//! A session over a coordinator of a record file, whose link is standard input and output.
+
+ghost use Rattle.std.specs.Prelude.{◌≡◌};
+
+use super::shared::{File, close, desk_over, put_end, shared};
+use anyhow::Result;
+use client_link::Streams;
+use coordinator::{Coordinator, OpenGate, Pass};
+use line_disk::FileDisk;
+use record_file::RecordReach;
+use session::{Kind, SessionEnd, serve_link};
+use std::alloc::Global;
+use std::io::{BufWriter, Read, Write};
+use std::marker::Brand;
+use std::sync::Wait;
+use std::sync::ledger::{Blank, Ledger};
+use std::thread::Threads;
+
+// The word for a kind of end.
+fn word_of(kind: Kind) -> &'static str {
+    match kind {
+        Kind::End => "END",
+        Kind::Bye => "BYE",
+        Kind::TooLong => "TOO-LONG",
+        Kind::Worn => "WORN",
+        Kind::Memory => "MEMORY",
+        Kind::ReadFailed => "READ-FAILED",
+        Kind::WriteFailed => "WRITE-FAILED",
+        Kind::Endless => "ENDLESS",
+        Kind::Foreign => "FOREIGN",
+    }
+}
+
+// Serves the client of these streams, to which each write goes through at once. Answers how the session ended.
+fn serve_streams<L: Ledger, R: Wait + Threads + Sync, I: Read + Drop, W: Write + Drop>(
+    rt: &R,
+    coordinator: &Coordinator<L, File>,
+    pass: &mut Pass<L>,
+    input: I,
+    output: W,
+) -> Result<SessionEnd> {
+    let output = BufWriter::with_capacity(coordinator.alloc(), 0, output)?;
+    let mut link = Streams::new(input, output);
+    Ok(serve_link(rt, coordinator, pass, &OpenGate, &mut link))
+}
+
+// Writes how a session ended.
+fn put_kind<W: Write>(alloc: Global, end: SessionEnd, out: &mut W) -> Result<()> {
+    let SessionEnd { kind, replies } = end;
+    let word = word_of(kind);
+    let text = format!(in alloc; "{word} {replies}\n")?;
+    Ok(out.write_all(text.as_bytes())?)
+}
+
+// Serves the client over a coordinator of its own, and tells how that ended.
+fn serve_over<L: Ledger, R: Wait + Threads + Sync, I: Read + Drop, W: Write + Drop, E: Write>(
+    rt: &R,
+    alloc: Global,
+    blank: Blank,
+    disk: File,
+    input: I,
+    output: W,
+    told: &mut E,
+) -> Result<()>
+    requires name { blank.name ≡ L.name }
+    requires parts { (blank.parts ≡ L.parts) × (blank.parts ≡ 8193) }
+{
+    let desk = desk_over(alloc, disk, told)?;
+    let coordinator = shared::<L, _, E>(alloc, blank, desk, told)?;
+    let mut pass = coordinator.pass(rt)?;
+    let end = serve_streams(rt, &coordinator, &mut pass, input, output)?;
+    put_kind(alloc, end, told)?;
+    let mut passes = Vec::new(alloc);
+    passes.push(pass)?;
+    let ended = close(coordinator, passes, told)?;
+    put_end(alloc, ended, told)
+}
+
+/// Serves the client of standard input and output over a coordinator of the record file of this path. Tells on standard error how the
+/// session ended, how many lines it wrote whole, how the coordinator ended, and what the front of a desk is that is opened over its disk.
+pub fn serve_one<T: Wait + Threads + Sync>(
+    rt: &HostRuntime,
+    threads: &T,
+    path: &str,
+) -> Result<()> {
+    let alloc = rt.alloc();
+    let disk = FileDisk::open(rt, alloc, path, &mut RecordReach::new())?;
+    serve_over::<Brand, _, _, _, _>(
+        threads,
+        alloc,
+        Blank::new(8193),
+        disk,
+        rt.reader(),
+        rt.stdout(),
+        &mut rt.stderr(),
+    )
+}

@@ -1,0 +1,250 @@
+//! Sessions over one coordinator, of which one waits at a gate.
+
+ghost use Rattle.std.specs.Prelude.{◌≡◌, ◌<◌, ◌≤◌};
+
+use super::gate::{HeldGate, Place};
+use crate::again::shared::{close, desk_over, put_end, put_replies};
+use anyhow::{Error, Result};
+use client_link::MemoryLink;
+use coordinator::{CallFault, Coordinator, Gate, OpenGate, Pass, PassFault};
+use line_disk::MemoryDisk;
+use session::serve_link;
+use std::alloc::{AllocError, Global};
+use std::io::{Read, Write};
+use std::marker::Brand;
+use std::num::NonZeroU32;
+use std::sync::Wait;
+use std::sync::ledger::{Blank, Ledger};
+use std::thread::{Threads, join};
+
+/// The texts of three clients.
+#[derive(Drop)]
+struct Texts<'a> {
+    first: &'a [u8],
+    second: &'a [u8],
+    third: &'a [u8],
+}
+
+// The text up to an empty line, which may be the first one, and what stands behind that.
+fn cut(text: &[u8]) -> (&[u8], &[u8]) {
+    if text.starts_with(b"\n") {
+        return (b"".as_slice(), &text[1..]);
+    }
+    for i in 0..text.len() {
+        if text[i..].starts_with(b"\n\n") {
+            return (&text[..i + 1], &text[i + 2..]);
+        }
+    }
+    (text, b"".as_slice())
+}
+
+// The texts that are parted by empty lines.
+fn texts_of(input: &[u8]) -> Texts<'_> {
+    let (first, rest) = cut(input);
+    let (second, third) = cut(rest);
+    Texts {
+        first,
+        second,
+        third,
+    }
+}
+
+// A client: what it sends, its pass, and what it got.
+#[derive(Drop)]
+struct Client<'a, L: Ledger> {
+    text: &'a [u8],
+    pass: Pass<L>,
+    got: Vec<u8>,
+}
+
+// A client that sends the text.
+fn make_client<'a, L: Ledger, R: Wait>(
+    rt: &R,
+    coordinator: &Coordinator<L, MemoryDisk>,
+    text: &'a [u8],
+) -> Result<Client<'a, L>, PassFault> {
+    let pass = coordinator.pass(rt)?;
+    Ok(Client {
+        text,
+        pass,
+        got: Vec::new(coordinator.alloc()),
+    })
+}
+
+// Serves the client by a session.
+fn serve<'a, L: Ledger, G: Gate, R: Threads + Wait + Sync>(
+    rt: &R,
+    coordinator: &Coordinator<L, MemoryDisk>,
+    gate: &G,
+    mut client: Client<'a, L>,
+) -> Result<Client<'a, L>, AllocError> {
+    let mut link = MemoryLink::new(coordinator.alloc(), &[client.text], 64)?;
+    let _end = serve_link(rt, coordinator, &mut client.pass, gate, &mut link);
+    client.got.extend_from_slice(link.written())?;
+    Ok(client)
+}
+
+// Answers the client by calls.
+fn answer<'a, L: Ledger, R: Threads + Wait + Sync>(
+    rt: &R,
+    coordinator: &Coordinator<L, MemoryDisk>,
+    gate: &HeldGate,
+    client: Client<'a, L>,
+) -> Result<Client<'a, L>, AllocError> {
+    let Client {
+        text,
+        mut pass,
+        mut got,
+    } = client;
+    match put_replies(rt, coordinator, &mut pass, gate, text, &mut got) {
+        Ok(()) => Ok(Client { text, pass, got }),
+        Err(_) => Err(AllocError),
+    }
+}
+
+// Serves the client once another one is held at the gate, which goes on then.
+fn serve_and_open<'a, L: Ledger, R: Threads + Wait + Sync>(
+    rt: &R,
+    coordinator: &Coordinator<L, MemoryDisk>,
+    gate: &HeldGate,
+    client: Client<'a, L>,
+) -> Result<Client<'a, L>, AllocError> {
+    gate.wait();
+    let served = serve(rt, coordinator, &OpenGate, client);
+    gate.open();
+    served
+}
+
+// Serves or answers the client, who may be held at the gate.
+fn serve_held<'a, L: Ledger, R: Threads + Wait + Sync>(
+    rt: &R,
+    coordinator: &Coordinator<L, MemoryDisk>,
+    gate: &HeldGate,
+    client: Client<'a, L>,
+) -> Result<Client<'a, L>, AllocError> {
+    if gate.is_of_session() {
+        serve(rt, coordinator, gate, client)
+    } else {
+        answer(rt, coordinator, gate, client)
+    }
+}
+
+// Serves two clients at once, of which the second may be held at the gate.
+fn serve_both<'a, L: Ledger + Send + Sync, R: Threads + Wait + Sync>(
+    rt: &R,
+    coordinator: &Coordinator<L, MemoryDisk>,
+    gate: &HeldGate,
+    one: Client<'a, L>,
+    other: Client<'a, L>,
+) -> Result<(Client<'a, L>, Client<'a, L>), AllocError> {
+    let (one, other) = join(
+        rt,
+        move || serve_and_open(rt, coordinator, gate, one),
+        move || serve_held(rt, coordinator, gate, other),
+    );
+    Ok((one?, other?))
+}
+
+// Writes what a client got, and keeps its pass.
+fn put_client<'a, L: Ledger, W: Write>(
+    passes: &mut Vec<Pass<L>>,
+    client: Client<'a, L>,
+    out: &mut W,
+) -> Result<()> {
+    let Client { text: _, pass, got } = client;
+    passes.push(pass)?;
+    out.write_all(&got)?;
+    Ok(out.write_all(b"\n")?)
+}
+
+// Serves the first client.
+fn put_first<L: Ledger, R: Threads + Wait + Sync, W: Write>(
+    rt: &R,
+    coordinator: &Coordinator<L, MemoryDisk>,
+    text: &[u8],
+    passes: &mut Vec<Pass<L>>,
+    out: &mut W,
+) -> Result<()> {
+    let first = make_client(rt, coordinator, text)?;
+    let first = serve(rt, coordinator, &OpenGate, first)?;
+    put_client(passes, first, out)
+}
+
+// Serves the other two at once.
+fn put_both<L: Ledger + Send + Sync, R: Threads + Wait + Sync, W: Write>(
+    rt: &R,
+    coordinator: &Coordinator<L, MemoryDisk>,
+    gate: &HeldGate,
+    texts: &Texts<'_>,
+    passes: &mut Vec<Pass<L>>,
+    out: &mut W,
+) -> Result<()> {
+    let second = make_client(rt, coordinator, texts.second)?;
+    let third = make_client(rt, coordinator, texts.third)?;
+    let (second, third) = serve_both(rt, coordinator, gate, second, third)?;
+    put_client(passes, second, out)?;
+    put_client(passes, third, out)
+}
+
+// Serves three clients; answers their passes.
+fn serve_all<L: Ledger + Send + Sync, R: Threads + Wait + Sync, W: Write>(
+    rt: &R,
+    coordinator: &Coordinator<L, MemoryDisk>,
+    place: Place,
+    texts: &Texts<'_>,
+    out: &mut W,
+) -> Result<Vec<Pass<L>>> {
+    let gate = HeldGate::new(place);
+    let mut passes = Vec::new(coordinator.alloc());
+    put_first(rt, coordinator, texts.first, &mut passes, out)?;
+    put_both(rt, coordinator, &gate, texts, &mut passes, out)?;
+    gate.put(coordinator.alloc(), out)?;
+    Ok(passes)
+}
+
+// The same over a coordinator of its own, which is closed.
+fn put_all<L: Ledger + Send + Sync, R: Threads + Wait + Sync, W: Write>(
+    rt: &R,
+    alloc: Global,
+    blank: Blank,
+    workers: usize,
+    place: Place,
+    texts: &Texts<'_>,
+    out: &mut W,
+) -> Result<()>
+    requires name { blank.name ≡ L.name }
+    requires parts { (blank.parts ≡ L.parts) × (blank.parts ≡ 8193) }
+    requires workers { (0 < workers) × (workers ≤ 64) }
+{
+    let desk = desk_over(alloc, MemoryDisk::new(alloc, &[])?, out)?;
+    let Ok(coordinator) = Coordinator::<L, MemoryDisk>::with_workers(alloc, blank, desk, workers)
+    else {
+        return Err(Error::from(CallFault::Memory));
+    };
+    let passes = serve_all(rt, &coordinator, place, texts, out)?;
+    let ended = close(coordinator, passes, out)?;
+    put_end(alloc, ended, out)
+}
+
+/// Serves three clients over a coordinator that computes a line by so many threads, 64 at most, the last two at once; a line of the last one, by calls
+/// or in a session, waits at its place until the one before was served. Their texts are parted by empty lines, and so is what they get. Tells what the gate
+/// counted, and how the coordinator ended.
+pub fn answer_all<T: Wait + Threads + Sync>(
+    rt: &HostRuntime,
+    threads: &T,
+    workers: NonZeroU32,
+    place: Place,
+) -> Result<()> {
+    let alloc = rt.alloc();
+    let mut input = Vec::new(alloc);
+    rt.reader().read_to_end(&mut input)?;
+    put_all::<Brand, _, _>(
+        threads,
+        alloc,
+        Blank::new(8193),
+        workers.get().min(64) as usize,
+        place,
+        &texts_of(&input),
+        &mut rt.stdout(),
+    )
+}

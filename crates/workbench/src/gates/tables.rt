@@ -1,0 +1,101 @@
+//! Tables of needs that are made by several threads.
+
+ghost use Rattle.std.specs.Prelude.{◌<◌, ◌≤◌, length};
+ghost use Rattle.chains.specs.Processes.{known};
+
+use super::gate::{HeldGate, Place};
+use anyhow::Result;
+use chains::{Chains, Position};
+use knows_row::{Needs, needs};
+use report_line::{Call, read_line};
+use std::alloc::Global;
+use std::io::{Read, Write};
+use std::num::NonZeroU32;
+use std::thread::Threads;
+
+// The chains that accept the reports of these lines.
+fn chains_of(alloc: Global, input: &[u8]) -> Chains {
+    let mut chains = Chains::new(alloc);
+    for line in input.split(|b| *b == b'\n') {
+        if let Ok(Call::Report(report)) = read_line(alloc, line) {
+            let _ = chains.admit_shared(report);
+        }
+    }
+    chains
+}
+
+// Writes what an element needs of each process.
+fn put_needs<W: Write>(
+    chains: &Chains,
+    table: &Needs<'_>,
+    place: chains::Place,
+    out: &mut W,
+) -> Result<()> {
+    for other in 0..chains.count() {
+        let need = table.get(place, other);
+        let text = format!(in chains.alloc(); " {need}")?;
+        out.write_all(text.as_bytes())?;
+    }
+    Ok(())
+}
+
+// Writes a line for each element of a process.
+fn put_process<W: Write>(
+    chains: &Chains,
+    table: &Needs<'_>,
+    process: u32,
+    out: &mut W,
+) -> Result<()>
+    requires { process < length (known chains.now.accepted) }
+{
+    for k in 1..=chains.elements(process).len() {
+        let text = format!(in chains.alloc(); "{process} {k}:")?;
+        out.write_all(text.as_bytes())?;
+        let position = Position::At(k);
+        put_needs(chains, table, chains::Place { process, position }, out)?;
+        out.write_all(b"\n")?;
+    }
+    Ok(())
+}
+
+// Makes the table of the reports by so many threads, and writes it.
+fn put_table<R: Threads + Sync, W: Write>(
+    rt: &R,
+    chains: &Chains,
+    workers: usize,
+    gate: &HeldGate,
+    out: &mut W,
+) -> Result<()>
+    requires { (0 < workers) × (workers ≤ 64) }
+{
+    let table = needs(rt, chains, workers, gate)?;
+    for process in 0..chains.count() {
+        put_process(chains, &table, process, out)?;
+    }
+    Ok(())
+}
+
+/// Makes the table of needs of the reports on standard input by so many threads, 64 at most, of which the first two wait for each other where
+/// that is wanted. Writes a line for each element, processes and elements by their numbers, with what it needs of each process, and what the
+/// gate counted.
+pub fn answer_all<T: Threads + Sync>(
+    rt: &HostRuntime,
+    threads: &T,
+    workers: NonZeroU32,
+    place: Place,
+) -> Result<()> {
+    let alloc = rt.alloc();
+    let mut input = Vec::new(alloc);
+    rt.reader().read_to_end(&mut input)?;
+    let chains = chains_of(alloc, &input);
+    let gate = HeldGate::new(place);
+    let mut out = rt.stdout();
+    put_table(
+        threads,
+        &chains,
+        workers.get().min(64) as usize,
+        &gate,
+        &mut out,
+    )?;
+    gate.put(alloc, &mut out)
+}

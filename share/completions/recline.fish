@@ -1,0 +1,73 @@
+# Completes what is typed behind recline, in fish. share/make writes this file from share/commands.
+
+# The command in front of the cursor and its arguments, a line each. It fails where the cursor stands in the value of an option.
+function __recline_words
+    set -l words (commandline -opc)
+    set -l found
+    set -e words[1]
+    while set -q words[1]
+        switch $words[1]
+            case --failed --idle --port --sessions --workers
+                set -q words[2]; or return 1
+                set -e words[1]
+            case --
+                set -a found $words[2..-1]
+                break
+            case '*'
+                string match -qr -- '^-.' $words[1]; or set -a found $words[1]
+        end
+        set -e words[1]
+    end
+    string join \n -- $found
+    return 0
+end
+
+# Whether a command stands in front of the cursor, or none where it is empty, with so many arguments.
+function __recline_stands
+    set -l found (__recline_words); or return
+    test "$found[1]" = "$argv[1]"; or return
+    test -n "$argv[1]"; and set -e found[1]
+    test (count $found) = $argv[2]
+end
+
+# Whether a command stands there, or none, without any of these options.
+function __recline_takes
+    set -l found (__recline_words); or return
+    test "$found[1]" = "$argv[1]"; or return
+    for option in $argv[2..-1]
+        contains -- $option (commandline -opc | string replace -r '=.*' ''); and return 1
+    end
+    return 0
+end
+
+complete -c recline -f
+complete -c recline -n '__recline_stands "" 0' -a run -d 'Answers each line of standard input on standard output'
+complete -c recline -n '__recline_stands "" 0' -a serve -d 'Answers the lines of clients that connect, and ends after the last session'
+complete -c recline -n '__recline_stands "" 0' -a check -d 'Checks a certificate over the accepted reports, and prints YES or NO with the cause'
+complete -c recline -n '__recline_stands "" 0' -a drive -d 'Stamps the steps of a script and prints the lines that report them'
+complete -c recline -n '__recline_stands "" 0' -a draw -d 'Draws the history of a script with its recovery line as SVG'
+complete -c recline -n '__recline_stands "" 0' -a help -d 'Print this message or the help of the given subcommand(s)'
+complete -c recline -n '__recline_takes "" -h --help' -s h -l help -d 'Print help'
+complete -c recline -n '__recline_takes "" -V --version' -s V -l version -d 'Print version'
+complete -c recline -n '__recline_takes "run" -h --help' -s h -l help -d 'Print help'
+complete -c recline -n '__recline_stands "run" 0' -F
+complete -c recline -n '__recline_takes "serve" --port' -l port -x -d 'The port on this machine, 0 to 65535; 0 lets the system choose'
+complete -c recline -n '__recline_takes "serve" --sessions' -l sessions -x -d 'How many sessions are served, 1 to 4096'
+complete -c recline -n '__recline_takes "serve" --workers' -l workers -x -d 'How many threads serve them, 1 to 64'
+complete -c recline -n '__recline_takes "serve" --idle' -l idle -x -d 'How long a client may be silent, 1 to 4294967295; without it any time'
+complete -c recline -n '__recline_takes "serve" -h --help' -s h -l help -d 'Print help'
+complete -c recline -n '__recline_stands "serve" 0' -F
+complete -c recline -n '__recline_takes "check" -h --help' -s h -l help -d 'Print help'
+complete -c recline -n '__recline_stands "check" 0' -F
+complete -c recline -n '__recline_stands "check" 1' -F
+complete -c recline -n '__recline_takes "drive" -h --help' -s h -l help -d 'Print help'
+complete -c recline -n '__recline_stands "drive" 0' -F
+complete -c recline -n '__recline_takes "draw" --failed' -l failed -x -d 'The processes that failed, parted by commas, or \'-\' for none'
+complete -c recline -n '__recline_takes "draw" -h --help' -s h -l help -d 'Print help'
+complete -c recline -n '__recline_stands "draw" 0' -F
+complete -c recline -n '__recline_stands "help" 0' -a run -d 'Answers each line of standard input on standard output'
+complete -c recline -n '__recline_stands "help" 0' -a serve -d 'Answers the lines of clients that connect, and ends after the last session'
+complete -c recline -n '__recline_stands "help" 0' -a check -d 'Checks a certificate over the accepted reports, and prints YES or NO with the cause'
+complete -c recline -n '__recline_stands "help" 0' -a drive -d 'Stamps the steps of a script and prints the lines that report them'
+complete -c recline -n '__recline_stands "help" 0' -a draw -d 'Draws the history of a script with its recovery line as SVG'
+complete -c recline -n '__recline_stands "help" 0' -a help -d 'Print this message or the help of the given subcommand(s)'

@@ -1,0 +1,1 @@
+cat "$rows/../../examples/one_failure.script"

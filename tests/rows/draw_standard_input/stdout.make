@@ -1,0 +1,1 @@
+cat "$rows/../../docs/pictures/one_failure.svg"

@@ -1,0 +1,88 @@
+//! The commands of `recline`, over bytes in memory.
+
+use crate::digest::Digest;
+use anyhow::{Result, ensure};
+use client_link::Streams;
+use line_disk::{Disk, MemoryDisk, NullDisk};
+use recline::{check_on, draw_on, drive_on, run_on};
+use std::alloc::{AllocError, Global};
+use std::io::{self, BufWriter, Empty, Sink};
+
+/// A client that gives bytes, and keeps what is written.
+type Client<'a> = Streams<&'a [u8], Vec<u8>>;
+
+fn client_of(alloc: Global, input: &[u8]) -> Result<Client<'_>, AllocError> {
+    let output = BufWriter::new(alloc, Vec::new(alloc)).map_err(|_| AllocError)?;
+    Ok(Streams::new(input, output))
+}
+
+// Where fault lines go.
+fn no_faults(alloc: Global) -> Result<Streams<Empty, Sink>, AllocError> {
+    let errors = BufWriter::with_capacity(alloc, 0, io::sink()).map_err(|_| AllocError)?;
+    Ok(Streams::new(io::empty(), errors))
+}
+
+// What was written.
+fn written_by(client: Client<'_>) -> Vec<u8> {
+    let (_rest, output) = client.into_inner();
+    let (written, _waiting) = output.into_parts();
+    written
+}
+
+// What the client of a command that ended so got, which counts.
+fn counted(digest: &mut Digest, status: u8, client: Client<'_>) -> Vec<u8> {
+    let text = written_by(client);
+    digest.take_status(status);
+    digest.take(&text);
+    text
+}
+
+/// The report lines of a script.
+pub fn drive(alloc: Global, digest: &mut Digest, script: &[u8]) -> Result<Vec<u8>> {
+    let mut client = client_of(alloc, script)?;
+    let mut faults = no_faults(alloc)?;
+    let status = drive_on(alloc, &mut client, &mut faults);
+    let text = counted(digest, status, client);
+    ensure!(status == 0, "drive ended with {status}");
+    Ok(text)
+}
+
+/// The picture of a script, where the first process failed.
+pub fn draw(alloc: Global, digest: &mut Digest, script: &[u8]) -> Result<()> {
+    let mut client = client_of(alloc, script)?;
+    let mut faults = no_faults(alloc)?;
+    let status = draw_on(alloc, &mut client, &mut faults, Some("p0"));
+    let _picture = counted(digest, status, client);
+    ensure!(status == 0, "draw ended with {status}");
+    Ok(())
+}
+
+/// The replies to a stream of lines.
+pub fn run(alloc: Global, digest: &mut Digest, lines: &[u8]) -> Result<Vec<u8>> {
+    let mut client = client_of(alloc, lines)?;
+    let mut faults = no_faults(alloc)?;
+    let (status, _disk) = run_on(alloc, NullDisk::new(), &mut client, &mut faults);
+    let replies = counted(digest, status, client);
+    ensure!(status == 0, "run ended with {status}");
+    Ok(replies)
+}
+
+fn check_over<D: Disk + Drop>(
+    alloc: Global,
+    digest: &mut Digest,
+    disk: D,
+    certificate: &[u8],
+) -> Result<u8> {
+    let mut client = client_of(alloc, certificate)?;
+    let mut faults = no_faults(alloc)?;
+    let (status, _disk) = check_on(alloc, disk, &mut client, &mut faults);
+    let _verdict = counted(digest, status, client);
+    Ok(status)
+}
+
+/// Checks a certificate over a file of these records.
+pub fn check(alloc: Global, digest: &mut Digest, records: &[u8], certificate: &[u8]) -> Result<()> {
+    let status = check_over(alloc, digest, MemoryDisk::new(alloc, records)?, certificate)?;
+    ensure!(status == 0 || status == 4, "check ended with {status}");
+    Ok(())
+}

@@ -4,6 +4,7 @@ pub mod Closed
 pub mod Measures
 pub mod Orders
 pub mod Numerals
+pub mod Takes
 pub mod Texts
 pub mod Runs
 pub mod Spelled

@@ -35,6 +35,7 @@ mod part;
 mod pointwise;
 mod reader;
 mod restricted;
+mod straight;
 
 pub use fault::{EventFault, EventsFault};
 use id_tree::{Id, IdPart};
@@ -170,6 +171,10 @@ impl Events {
         ensures err { IfErr result (λ fault. IsFaultOf fault bytes.now) }
         ensures only { (t : EventTree) → IsEvents t → bytes.now ≡ spelling t → MatchResult result (λ e. e ≡ t) (λ fault. fault ≡ EventsFault.Memory) }
     {
+        // What is spelled right is mostly read so; which fault a text has, and what memory is wanting for, the reader says.
+        if let Some(node) = straight::read(alloc, bytes) {
+            return Ok(Events { node });
+        }
         match reader::read(alloc, bytes)? {
             Part::Normal(_, _, Some(tree)) => Ok(Events {
                 node: tree.node(alloc)?,

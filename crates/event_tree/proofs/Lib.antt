@@ -6,6 +6,7 @@ pub mod Orders
 pub mod Numerals
 pub mod Takes
 pub mod Texts
+pub mod Lengths
 pub mod Runs
 pub mod Spelled
 pub mod Verdicts

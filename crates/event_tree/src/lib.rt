@@ -36,6 +36,7 @@ mod pointwise;
 mod reader;
 mod restricted;
 mod straight;
+mod text;
 
 pub use fault::{EventFault, EventsFault};
 use id_tree::{Id, IdPart};

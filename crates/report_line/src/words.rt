@@ -3,13 +3,14 @@
 ghost use Rattle.std.specs.Prelude.{◌≡◌, ◌↔◌, ◌++◌, ◌∷◌, [], IfNone, IsTrue, MatchOption};
 ghost use Rattle.report_line.specs.Cuts.{Lacks, words_in};
 
+use memchr::memchr;
 use std::marker::Model;
 
 // What stands in front of the first such byte, and what behind it.
 pub(crate) fn cut_once(byte: u8, bytes: &[u8]) -> Option<(&[u8], &[u8])>
     ensures { MatchOption result (Lacks byte bytes.now) (λ parts. Lacks byte parts.0.now × (bytes.now ≡ parts.0.now ++ byte ∷ parts.1.now)) }
 {
-    let at = bytes.iter().position(|b| *b == byte)?;
+    let at = memchr(byte, bytes)?;
     Some((&bytes[..at], &bytes[at + 1..]))
 }
 

@@ -15,13 +15,17 @@ use crate::name::{Name, Names};
 use crate::packed::{ActionView, NumberedView, PackedReport, ReportView};
 use crate::reply::{Outcome, Reply};
 use crate::text::Text;
+use itoa::Buffer;
 use std::alloc::{AllocError, Global};
 
-fn push_number(out: &mut Vec<u8>, alloc: Global, n: u32) -> Result<(), AllocError>
+/// Room for the line of a report with a small stamp.
+const SHORT_LINE: usize = 96;
+
+fn push_number(out: &mut Vec<u8>, n: u32) -> Result<(), AllocError>
     ensures { OnOk result (out.new.items ≡ out.old.items ++ decimal n) }
 {
-    let text = n.to_string(alloc)?;
-    out.extend_from_slice(text.as_bytes())
+    let mut digits = Buffer::new();
+    out.extend_from_slice(digits.format(n).as_bytes())
 }
 
 fn push_kind(out: &mut Vec<u8>, action: ActionView<'_>) -> Result<(), AllocError>
@@ -37,24 +41,24 @@ fn push_kind(out: &mut Vec<u8>, action: ActionView<'_>) -> Result<(), AllocError
 }
 
 // The mark of an epoch, which epoch 0 has none of.
-fn push_mark(out: &mut Vec<u8>, alloc: Global, epoch: u32) -> Result<(), AllocError>
+fn push_mark(out: &mut Vec<u8>, epoch: u32) -> Result<(), AllocError>
     ensures { OnOk result (out.new.items ≡ out.old.items ++ mark_text epoch) }
 {
     if epoch > 0 {
         out.push(b'@')?;
-        push_number(out, alloc, epoch)?;
+        push_number(out, epoch)?;
     }
     Ok(())
 }
 
 // The words that each report with a number has behind its kind, each with a space in front of it.
-fn push_head(out: &mut Vec<u8>, alloc: Global, report: NumberedView<'_>) -> Result<(), AllocError>
+fn push_head(out: &mut Vec<u8>, report: NumberedView<'_>) -> Result<(), AllocError>
     ensures { OnOk result (out.new.items ≡ out.old.items ++ 32 ∷ (report.entry.process.now ++ 32 ∷ (decimal report.entry.number ++ 32 ∷ stamp_text report.entry.stamp.now))) }
 {
     out.push(b' ')?;
     out.extend_from_slice(report.process.as_bytes())?;
     out.push(b' ')?;
-    push_number(out, alloc, report.number)?;
+    push_number(out, report.number)?;
     out.push(b' ')?;
     report.stamp.write_to(out)
 }
@@ -94,7 +98,7 @@ pub fn write_line(alloc: Global, report: &PackedReport) -> Result<Vec<u8>, Alloc
 pub fn write_marked(alloc: Global, epoch: u32, report: &PackedReport) -> Result<Vec<u8>, AllocError>
     ensures { IfOk result (λ v. v.items ≡ spelling (calls.Report (record { epoch = epoch; report = report.now }))) }
 {
-    let mut out = Vec::new(alloc);
+    let mut out = Vec::with_capacity(alloc, SHORT_LINE)?;
     match report.view() {
         ReportView::Begin { process } => {
             out.extend_from_slice(b"BEGIN ")?;
@@ -103,8 +107,8 @@ pub fn write_marked(alloc: Global, epoch: u32, report: &PackedReport) -> Result<
         }
         ReportView::Numbered(numbered) => {
             push_kind(&mut out, numbered.action)?;
-            push_mark(&mut out, alloc, epoch)?;
-            push_head(&mut out, alloc, numbered)?;
+            push_mark(&mut out, epoch)?;
+            push_head(&mut out, numbered)?;
             push_fields(&mut out, numbered.action)?;
             Ok(out)
         }
@@ -143,7 +147,7 @@ pub fn write_settle(alloc: Global, front: u32, names: &Names) -> Result<Vec<u8>,
 {
     let mut out = Vec::new(alloc);
     out.extend_from_slice(b"SETTLE ")?;
-    push_number(&mut out, alloc, front)?;
+    push_number(&mut out, front)?;
     out.push(b' ')?;
     push_names(&mut out, names.as_slice())?;
     Ok(out)
@@ -193,15 +197,15 @@ pub fn write_reply(alloc: Global, reply: &Reply) -> Result<Vec<u8>, AllocError>
     match reply {
         Reply::Accepted(front) => {
             out.extend_from_slice(b"OK ")?;
-            push_number(&mut out, alloc, *front)?;
+            push_number(&mut out, *front)?;
         }
         Reply::Old(front) => {
             out.extend_from_slice(b"OLD ")?;
-            push_number(&mut out, alloc, *front)?;
+            push_number(&mut out, *front)?;
         }
         Reply::No { code, name, value } => {
             out.extend_from_slice(b"NO ")?;
-            push_number(&mut out, alloc, u32::from(code.number()))?;
+            push_number(&mut out, u32::from(code.number()))?;
             out.push(b' ')?;
             push_name(&mut out, name)?;
             out.push(b' ')?;
@@ -209,7 +213,7 @@ pub fn write_reply(alloc: Global, reply: &Reply) -> Result<Vec<u8>, AllocError>
         }
         Reply::Bad(code) => {
             out.extend_from_slice(b"BAD ")?;
-            push_number(&mut out, alloc, u32::from(*code))?;
+            push_number(&mut out, u32::from(*code))?;
         }
         Reply::Fail(outcome) => {
             out.extend_from_slice(b"FAIL ")?;
@@ -229,9 +233,9 @@ pub fn write_reply(alloc: Global, reply: &Reply) -> Result<Vec<u8>, AllocError>
             out.extend_from_slice(b"STATE ")?;
             out.extend_from_slice(name.as_bytes())?;
             out.push(b' ')?;
-            push_number(&mut out, alloc, *reports)?;
+            push_number(&mut out, *reports)?;
             out.push(b' ')?;
-            push_number(&mut out, alloc, *elements)?;
+            push_number(&mut out, *elements)?;
             out.push(b' ')?;
             out.extend_from_slice(live_word(*live))?;
             out.push(b' ')?;
@@ -239,9 +243,9 @@ pub fn write_reply(alloc: Global, reply: &Reply) -> Result<Vec<u8>, AllocError>
         }
         Reply::Settled { epoch, front } => {
             out.extend_from_slice(b"SETTLED ")?;
-            push_number(&mut out, alloc, *epoch)?;
+            push_number(&mut out, *epoch)?;
             out.push(b' ')?;
-            push_number(&mut out, alloc, *front)?;
+            push_number(&mut out, *front)?;
         }
         Reply::Bye => out.extend_from_slice(b"BYE")?,
         Reply::Taken(_) => unreachable!(),

@@ -1,52 +1,35 @@
 -- How a process goes down to a rank that is clear.
-use Rattle.std.proofs.Common.{◌≡◌, inl, inr, ℕ, ◌+◌, ◌-◌, ◌≤◌, ◌<◌, List, length, Option, Some, None, sym, ap, ◌∙◌, subst, arith}
+use Rattle.std.proofs.Common.{◌≡◌, inl, inr, ℕ, ◌+◌, ◌≤◌, ◌<◌, List, length, Option, Some, None, sym, ap, ◌∙◌, subst, arith}
 use Rattle.std.specs.Prelude.{slice_index, Contains, MatchOption}
-use Rattle.std.proofs.lemmas.Bool.{cases_lt, cases_eq}
+use Rattle.std.proofs.lemmas.Bool.{cases_lt}
 use Rattle.report_line.specs.declared.report.Report.{Report}
 use Rattle.chains.specs.Positions.{last_rank}
 use Rattle.knows_row.specs.Knowing.{KnowsRank, IsLawful}
 use Rattle.propagate.specs.Ranks.{IsClearBut, IsClearRank, IsNextRank, IsCauseOf}
+use Rattle.propagate.specs.Brackets.{IsBracket}
+use Rattle.propagate.specs.declared.falls.Bracket.{Bracket}
 use Rattle.chains.specs.Processes.{known}
 use Rattle.knows_row.specs.Looks.{IsFirstKnown, KnowsOne, last_ranks}
 use Rattle.knows_row.specs.Needs.{IsUnknownAtLast}
 use Rattle.knows_row.proofs.Lasts.{lasts_len, last_at}
 use Rattle.propagate.proofs.Rounding.{clear_of_fallen}
 
--- how far a process went down from its rank in the cut
-pub record IsLoweredTo (accepted : List Report) (fell cut : List ℕ) (p rank : ℕ) : Type 0 where
-  pub within : rank ≤ slice_index cut p
-  pub above : (j : ℕ) → rank < j → j ≤ slice_index cut p → ¬ IsClearRank accepted cut p j
-  pub next : rank < slice_index cut p → KnowsOne accepted fell cut p (rank + 1)
-
-pub lowered_first : (accepted : List Report) (fell cut : List ℕ) (p rank : ℕ) → rank ≡ slice_index cut p → IsLoweredTo accepted fell cut p rank
-lowered_first accepted fell cut p rank e = record {
-  within = omega (arith, e);
-  above = λ j past within. absurd (omega (arith, e, past, within));
-  next = λ lt. absurd (omega (arith, e, lt));
-}
-
 module _ (accepted : List Report) (fell cut : List ℕ) (p rank : ℕ) where
-  -- one rank down, where one of these processes is known
-  pub one_lower : ((q : ℕ) → Contains fell q → q < length cut) → 0 < rank → IsLoweredTo accepted fell cut p rank → KnowsOne accepted fell cut p rank → IsLoweredTo accepted fell cut p (rank - 1)
-  one_lower within some h one =
-      let up : rank ≡ rank - 1 + 1 = omega arith in
-      let le = h.within in
-      record {
-        within = omega arith;
-        above = λ j past least clear. elim (cases_eq j rank) [
-          | inl e ↦ clear one.0 (within one.0 one.1) (subst (λ (r : ℕ). KnowsRank accepted p r one.0 (slice_index cut one.0)) (sym e) one.2)
-          | inr ne ↦ h.above j (omega (arith, past, ne)) least clear
-        ];
-        next = λ lt. subst (KnowsOne accepted fell cut p) up one;
-      }
-
   module _ (laws : IsLawful accepted) (but : IsClearBut accepted fell cut) (known_one : p < length cut) (top : slice_index cut p ≤ last_rank accepted p) where
-    -- where none of those that fell is known, the rank is the next one
-    pub next_clear : IsLoweredTo accepted fell cut p rank → ¬ KnowsOne accepted fell cut p rank → IsNextRank accepted cut p rank
-    next_clear h none = record {
-      before = h.within;
-      clear = clear_of_fallen accepted fell cut p rank laws but known_one h.within top (λ q fallen lt knows. none (q, fallen, knows));
-      greatest = h.above;
+    -- where none of those that fell is known, the rank is clear
+    pub look_clear : rank ≤ slice_index cut p → ¬ KnowsOne accepted fell cut p rank → IsClearRank accepted cut p rank
+    look_clear within none = clear_of_fallen accepted fell cut p rank laws but known_one within top (λ q fallen lt knows. none (q, fallen, knows))
+
+    -- where one is known, no rank from there on is clear
+    pub unclear_above : ((q : ℕ) → Contains fell q → q < length cut) → KnowsOne accepted fell cut p rank → (j : ℕ) → rank ≤ j → j ≤ slice_index cut p → ¬ IsClearRank accepted cut p j
+    unclear_above within one j past least clear = clear one.0 (within one.0 one.1) (laws.later p rank j one.0 (slice_index cut one.0) past (omega (arith, least, top)) one.2)
+
+    -- a clear rank right below one that is not is the next one
+    pub next_below : ((q : ℕ) → Contains fell q → q < length cut) → (b : Bracket) → b.high ≡ rank → b.high ≡ b.low + 1 → IsBracket accepted fell cut p b → IsNextRank accepted cut p b.low
+    next_below within b here close h = record {
+      before = omega (arith, h.order, h.within);
+      clear = h.clear;
+      greatest = λ j past least. unclear_above within (subst (KnowsOne accepted fell cut p) here h.known) j (omega (arith, past, close, here)) least;
     }
 
     -- the first known of the processes that fell is the first of all
@@ -57,12 +40,8 @@ module _ (accepted : List Report) (fell cut : List ℕ) (p rank : ℕ) where
     ]
 
 -- nothing is known at rank 0
-pub next_unborn : (accepted : List Report) (fell cut : List ℕ) (p rank : ℕ) → IsLawful accepted → rank ≤ 0 → IsLoweredTo accepted fell cut p rank → IsNextRank accepted cut p rank
-next_unborn accepted fell cut p rank laws low h = record {
-  before = h.within;
-  clear = λ q lt knows. laws.unborn p q (slice_index cut q) (subst (λ (r : ℕ). KnowsRank accepted p r q (slice_index cut q)) (omega (arith, low)) knows);
-  greatest = h.above;
-}
+pub unborn_knows_none : (accepted : List Report) (fell cut : List ℕ) (p rank : ℕ) → IsLawful accepted → rank ≤ 0 → ¬ KnowsOne accepted fell cut p rank
+unborn_knows_none accepted fell cut p rank laws low one = laws.unborn p one.0 (slice_index cut one.0) (subst (λ (r : ℕ). KnowsRank accepted p r one.0 (slice_index cut one.0)) (omega (arith, low)) one.2)
 
 -- what is found above the next rank is the cause
 pub cause_of : (accepted : List Report) (fell cut : List ℕ) (p r : ℕ) → IsLawful accepted → IsClearBut accepted fell cut → p < length cut → slice_index cut p ≤ last_rank accepted p

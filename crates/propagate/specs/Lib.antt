@@ -5,3 +5,4 @@ pub mod Ranks
 pub mod Stages
 pub mod Nodes
 pub mod Cuts
+pub mod Brackets

@@ -4,6 +4,7 @@ ghost use Rattle.std.specs.Prelude.{◌≡◌, ◌<◌, ◌≤◌, ◌+◌, ◌�
 ghost use Rattle.chains.specs.Processes.{known};
 ghost use Rattle.knows_row.specs.Looks.{AreBoundsOf, IsFirstOf, KnowsOne, last_ranks};
 ghost use Rattle.propagate.specs.Ranks.{IsClearRank, IsNextRank, IsCauseOf};
+ghost use Rattle.propagate.specs.Brackets.{IsBracket};
 ghost use Rattle.propagate.specs.Stages.{IsStanding};
 
 use crate::rounds::Stage;
@@ -66,6 +67,81 @@ fn stays(chains: &Chains, table: Option<&Needs<'_>>, stage: &Stage, process: u32
     }
 }
 
+/// The rank to be looked at below this one, for a process that has fallen so far from its rank in the cut: near by at first, and farther
+/// the farther it has fallen.
+fn next_look(top: u32, high: u32) -> u32
+    requires within { high ≤ top }
+    requires some { 0 < high }
+    ensures { result < high }
+{
+    high.saturating_sub((top - high) / 4 + 1)
+}
+
+/// A clear rank, and one above it at which the place knows one of the processes that fell.
+#[derive(Clone, Copy)]
+pub(crate) struct Bracket {
+    pub(crate) low: u32,
+    pub(crate) high: u32,
+}
+
+/// A clear rank and one that is not, from the rank in the cut on, which is none: what is known at a rank is known at each later one.
+fn bracketed(
+    chains: &Chains,
+    thresholds: &Thresholds,
+    tops: &[u32],
+    stage: &Stage,
+    process: u32,
+) -> Bracket
+    requires standing { IsStanding chains.now.accepted tops.now stage.now.cut.items stage.now.heads.items stage.now.fell.items }
+    requires bounds { AreBoundsOf chains.now.accepted stage.now.cut.items stage.now.fell.items thresholds.now }
+    requires process { process < length stage.now.cut.items }
+    requires known { KnowsOne chains.now.accepted stage.now.fell.items stage.now.cut.items process (slice_index stage.now.cut.items process) }
+    ensures { IsBracket chains.now.accepted stage.now.fell.items stage.now.cut.items process result }
+{
+    chains.lawful();
+    let _tops = tops;
+    let top = stage.cut[process as usize];
+    let mut high = top;
+    while high > 0 {
+        let low = next_look(top, high);
+        if !knows_one(chains, thresholds, stage, process, low) {
+            return Bracket { low, high };
+        }
+        high = low;
+    }
+    Bracket { low: 0, high }
+}
+
+/// The clear rank right below one that is not, by halves.
+fn narrowed(
+    chains: &Chains,
+    thresholds: &Thresholds,
+    tops: &[u32],
+    stage: &Stage,
+    process: u32,
+    wide: Bracket,
+) -> u32
+    requires standing { IsStanding chains.now.accepted tops.now stage.now.cut.items stage.now.heads.items stage.now.fell.items }
+    requires bounds { AreBoundsOf chains.now.accepted stage.now.cut.items stage.now.fell.items thresholds.now }
+    requires process { process < length stage.now.cut.items }
+    requires bracket { IsBracket chains.now.accepted stage.now.fell.items stage.now.cut.items process wide }
+    ensures { IsBracket chains.now.accepted stage.now.fell.items stage.now.cut.items process (record { low = result; high = result + 1 }) }
+{
+    chains.lawful();
+    let _tops = tops;
+    let mut low = wide.low;
+    let mut high = wide.high;
+    while high - low > 1 {
+        let middle = low + (high - low) / 2;
+        if knows_one(chains, thresholds, stage, process, middle) {
+            high = middle;
+        } else {
+            low = middle;
+        }
+    }
+    low
+}
+
 /// The rank that a round brings a process to.
 fn next_rank(
     chains: &Chains,
@@ -81,14 +157,12 @@ fn next_rank(
     ensures known { result < slice_index stage.now.cut.items process → KnowsOne chains.now.accepted stage.now.fell.items stage.now.cut.items process (result + 1) }
 {
     chains.lawful();
-    let mut rank = stage.cut[process as usize];
-    while rank > 0 {
-        if !knows_one(chains, thresholds, stage, process, rank) {
-            return rank;
-        }
-        rank -= 1;
+    let rank = stage.cut[process as usize];
+    if !knows_one(chains, thresholds, stage, process, rank) {
+        return rank;
     }
-    rank
+    let wide = bracketed(chains, thresholds, tops, stage, process);
+    narrowed(chains, thresholds, tops, stage, process, wide)
 }
 
 /// What a round makes of a process.

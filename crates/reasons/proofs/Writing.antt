@@ -1,28 +1,27 @@
 -- What is written of values in a row, and of a whole certificate.
-use Rattle.std.proofs.Common.{◌≡◌, ℕ, ◌+◌, ◌<◌, ◌≤◌, List, [], ◌∷◌, ◌++◌, true, false, codes, decimal, string_bytes, String, Global, map, take, get_or, length, IsTrue, Result, Ok, Err, refl, sym, ap, ap₂, subst, ◌∙◌, append_assoc, append-nil}
-use Rattle.std.proofs.lemmas.List.{map_more, take_all}
-use Rattle.std.specs.Prelude.{IfOk}
-use Rattle.std.specs.Global.{Vec}
-use Rattle.std.specs.List.{list_all, join_with_byte}
-use Rattle.report_line.specs.declared.report.Report.{Report}
-use Rattle.report_line.specs.Names.{is_name_byte}
+use Rattle.std.proofs.Common.{◌≡◌, ℕ, ◌+◌, ◌<◌, List, [], ◌∷◌, ◌++◌, true, false, codes, decimal, map, take, get_or, length, refl, sym, ap, ap₂, ◌∙◌, arith, append_assoc, append-nil}
+use Rattle.std.proofs.lemmas.List.{map_more, length-map, length-take-le}
+use Rattle.std.specs.List.{join_with_byte}
 use Rattle.serde_json.proofs.OnLiterals.{serde_json_on_literals}
-use Rattle.serde_json.proofs.Views.{view-Array}
-use Rattle.serde_json.specs.Data.{Data, string, number, unsigned, array, object, Items, no_items, item, member, no_members}
-use Rattle.serde_json.specs.Written.{has_float, items_have_float, items_text, compact_text}
-use Rattle.serde_json.specs.View.{view, items_view}
-use Rattle.serde_json.specs.declared.value.Value.{Value, Array}
-use Rattle.reasons.specs.CertificateText.{quoted, key, bracketed, shown_name, place_text, certificate_text}
-use Rattle.reasons.specs.declared.certificate.Certificate.{Certificate}
-use Rattle.reasons.proofs.PlainNames.{plain_text}
-use Rattle.reasons.specs.Json.{IsWritten, AreWritten}
+use Rattle.serde_json.specs.Data.{Data, number, unsigned, array, object, Items, no_items, item, member, no_members}
+use Rattle.serde_json.specs.Written.{items_have_float, items_text}
+use Rattle.reasons.specs.CertificateText.{key, bracketed}
+use Rattle.reasons.specs.Json.{IsWritten, AreWritten, comma_before}
 
--- a name is written between quotes
-pub name_written : {E : Type 0} (result : Result Value E) (name text : List ℕ) → IsTrue (list_all is_name_byte text) → text ≡ name
-    → IfOk result (λ v. view v ≡ string text) → IfOk result (λ v. IsWritten (view v) (quoted name))
-name_written (Err e) name text plain is written = tt
-name_written (Ok v) name text plain is written =
-    subst (λ (d : Data). IsWritten d (quoted name)) (sym written) (record { no_float = refl; text_is = plain_text text plain ∙ ap quoted is })
+-- ---- texts in a row, written one by one
+
+joined_more : (texts : List (List ℕ)) (text : List ℕ) → join_with_byte 44 (texts ++ text ∷ []) ≡ join_with_byte 44 texts ++ (comma_before (length texts) ++ text)
+joined_more [] text = refl
+joined_more (one ∷ []) text = refl
+joined_more (one ∷ next ∷ texts) text =
+    ap (λ (l : List ℕ). one ++ 44 ∷ l) (joined_more (next ∷ texts) text) ∙ sym (append_assoc one (44 ∷ join_with_byte 44 (next ∷ texts)) (44 ∷ text))
+
+-- one more of what is mapped to texts, behind its comma
+pub one_more : {X : Type 0} (f : X → List ℕ) (xs : List X) (i : ℕ) (d : X) (before out comma new : List ℕ) → i < length xs → out ≡ before ++ join_with_byte 44 (map f (take i xs)) → comma ≡ out ++ comma_before i → new ≡ comma ++ f (get_or xs i d)
+    → new ≡ before ++ join_with_byte 44 (map f (take (i + 1) xs))
+one_more {X = X} f xs i d before out comma new lt e g h =
+    let count : length (map f (take i xs)) ≡ i = length-map (take i xs) f ∙ length-take-le i xs (omega arith) in
+    rw (map_more f xs i d lt, joined_more (map f (take i xs)) (f (get_or xs i d)), count) (h ∙ rw (g, e) (simp append_assoc))
 
 -- ---- values in a row
 
@@ -61,24 +60,6 @@ no_floats (item d ds) (text ∷ texts) are = rw (are.0.no_float, no_floats ds te
 pub array_written : (ds : Items) (texts : List (List ℕ)) → AreWritten ds texts → IsWritten (array ds) (bracketed texts)
 array_written ds texts are = record { no_float = no_floats ds texts are; text_is = ap (λ (l : List ℕ). 91 ∷ l) (first_text ds texts are) }
 
--- one more value behind those before
-written_more : (vs : List Value) (v : Value) (texts : List (List ℕ)) (text : List ℕ) → AreWritten (items_view vs) texts → IsWritten (view v) text
-    → AreWritten (items_view (vs ++ v ∷ [])) (texts ++ text ∷ [])
-written_more [] v [] text are is = (is, tt)
-written_more [] v (t ∷ texts) text are is = absurd are
-written_more (w ∷ vs) v [] text are is = absurd are
-written_more (w ∷ vs) v (t ∷ texts) text are is = (are.0, written_more vs v texts text are.1 is)
-
--- one more of what is mapped to texts
-pub mapped_more : {X : Type 0} (f : X → List ℕ) (xs : List X) (i : ℕ) (d : X) (vs : List Value) (v : Value) → i < length xs → AreWritten (items_view vs) (map f (take i xs)) → IsWritten (view v) (f (get_or xs i d))
-    → AreWritten (items_view (vs ++ v ∷ [])) (map f (take (i + 1) xs))
-mapped_more f xs i d vs v lt are is = rw (map_more f xs i d lt) (written_more vs v (map f (take i xs)) (f (get_or xs i d)) are is)
-
--- all of what is mapped
-pub all_written : {X : Type 0} (f : X → List ℕ) (xs : List X) (i : ℕ) (vs : Vec Value) → length xs ≤ i → AreWritten (items_view vs.items) (map f (take i xs)) → IsWritten (view (Array vs)) (bracketed (map f xs))
-all_written {X = X} f xs i vs past are =
-    subst (λ (d : Data). IsWritten d (bracketed (map f xs))) (sym (view-Array vs)) (array_written (items_view vs.items) (map f xs) (subst (λ (ys : List X). AreWritten (items_view vs.items) (map f ys)) (take_all i xs past) are))
-
 -- ---- the whole text
 
 regroup : (p kf f m kn n kl l kr r z : List ℕ) → p ++ (kf ++ (f ++ (m ++ (kn ++ (n ++ (m ++ (kl ++ (l ++ (m ++ (kr ++ (r ++ z))))))))))) ≡ p ++ kf ++ f ++ m ++ kn ++ n ++ m ++ kl ++ l ++ m ++ kr ++ r ++ z
@@ -96,12 +77,31 @@ object_written failed line reasons front f l r wf wl wr =
           (regroup (codes "{") (key (codes "failed")) f (codes ",") (key (codes "front")) (decimal front) (key (codes "line")) l (key (codes "reasons")) r (codes "}"));
     }
 
-pub certificate_written : {E : Type 0} (result : Result (String Global) E) (accepted : List Report) (c : Certificate) (d failed line reasons : Data)
-    → IsWritten failed (bracketed (map (λ p. quoted (shown_name accepted p)) c.failed)) → IsWritten line (bracketed (map (place_text accepted) c.line))
-    → IsWritten reasons (bracketed (map (λ chain. bracketed (map (place_text accepted) chain)) c.reasons))
-    → d ≡ object (member (codes "failed") failed (member (codes "front") (number (unsigned c.front)) (member (codes "line") line (member (codes "reasons") reasons no_members))))
-    → IfOk result (λ s. has_float d ≡ false → string_bytes s ≡ compact_text d) → IfOk result (λ s. string_bytes s ≡ certificate_text accepted c)
-certificate_written (Err e) accepted c d failed line reasons wf wl wr is written = tt
-certificate_written (Ok s) accepted c d failed line reasons wf wl wr is written =
-    let w : IsWritten d (certificate_text accepted c) = rw is (object_written failed line reasons c.front _ _ _ wf wl wr) in
-    written w.no_float ∙ w.text_is
+-- the parts of a certificate's text, one behind the other
+pub record ArePut (before f l r new : List ℕ) (front : ℕ) : Type 0 where
+  pub opened : List ℕ
+  pub failed : List ℕ
+  pub front_key : List ℕ
+  pub front_put : List ℕ
+  pub line_key : List ℕ
+  pub line : List ℕ
+  pub reasons_key : List ℕ
+  pub reasons : List ℕ
+  pub opened_is : opened ≡ before ++ (codes "{" ++ key (codes "failed"))
+  pub failed_is : failed ≡ opened ++ f
+  pub front_key_is : front_key ≡ failed ++ (codes "," ++ key (codes "front"))
+  pub front_is : front_put ≡ front_key ++ decimal front
+  pub line_key_is : line_key ≡ front_put ++ (codes "," ++ key (codes "line"))
+  pub line_is : line ≡ line_key ++ l
+  pub reasons_key_is : reasons_key ≡ line ++ (codes "," ++ key (codes "reasons"))
+  pub reasons_is : reasons ≡ reasons_key ++ r
+  pub closed : new ≡ reasons ++ codes "}"
+
+regroup_put : (before p kf f m kn n kl l kr r z : List ℕ) → before ++ (p ++ kf) ++ f ++ (m ++ kn) ++ n ++ (m ++ kl) ++ l ++ (m ++ kr) ++ r ++ z ≡ before ++ (p ++ kf ++ f ++ m ++ kn ++ n ++ m ++ kl ++ l ++ m ++ kr ++ r ++ z)
+regroup_put before p kf f m kn n kl l kr r z = simp append_assoc
+
+pub all_put : (before f l r new : List ℕ) (front : ℕ) → ArePut before f l r new front
+    → new ≡ before ++ (codes "{" ++ key (codes "failed") ++ f ++ codes "," ++ key (codes "front") ++ decimal front ++ codes "," ++ key (codes "line") ++ l ++ codes "," ++ key (codes "reasons") ++ r ++ codes "}")
+all_put before f l r new front h =
+    h.closed ∙ rw (h.reasons_is, h.reasons_key_is, h.line_is, h.line_key_is, h.front_is, h.front_key_is, h.failed_is, h.opened_is)
+    (regroup_put before (codes "{") (key (codes "failed")) f (codes ",") (key (codes "front")) (decimal front) (key (codes "line")) l (key (codes "reasons")) r (codes "}"))

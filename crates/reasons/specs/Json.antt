@@ -1,5 +1,5 @@
 -- Which JSON values are written as which texts.
-use Rattle.std.specs.Prelude.{◌≡◌, ℕ, List, [], ◌∷◌, false, ⊤}
+use Rattle.std.specs.Prelude.{◌≡◌, ℕ, zero, suc, List, [], ◌∷◌, false, ⊤}
 use Rattle.serde_json.specs.Data.{Data, Items, no_items, item}
 use Rattle.serde_json.specs.Written.{has_float, compact_text}
 
@@ -14,3 +14,8 @@ AreWritten no_items [] = ⊤
 AreWritten (item d ds) (text ∷ texts) = IsWritten d text × AreWritten ds texts
 AreWritten no_items (text ∷ texts) = ⊥
 AreWritten (item d ds) [] = ⊥
+
+-- what stands in front of the entry of this number in a list
+abbrev pub comma_before : ℕ → List ℕ
+comma_before zero = []
+comma_before (suc i) = 44 ∷ []

@@ -1,17 +1,15 @@
 //! The text of a certificate.
 
-ghost use Rattle.std.specs.Prelude.{◌≡◌, IfOk, IsTrue, codes, map, string_bytes};
+ghost use Rattle.std.specs.Prelude.{◌≡◌, ◌++◌, IfOk, OnOk, IsTrue, map, string_bytes};
 ghost use Rattle.std.specs.List.{list_all};
 ghost use Rattle.report_line.specs.Names.{is_name_byte};
-ghost use Rattle.serde_json.specs.Data.{object, member, no_members, number, unsigned};
-ghost use Rattle.serde_json.specs.View.{view};
 ghost use Rattle.reasons.specs.CertificateText.{quoted, bracketed, position_text, shown_name, place_text, certificate_text};
-ghost use Rattle.reasons.specs.Json.{IsWritten};
+ghost use Rattle.reasons.specs.Json.{comma_before};
 
 use crate::certificate::Certificate;
 use chains::{Chains, Place, Places, Position};
-use serde_json::{Value, json};
-use std::alloc::{AllocError, Global};
+use itoa::Buffer;
+use std::alloc::AllocError;
 
 /// The name that is shown for the number of a process.
 fn shown_name(chains: &Chains, number: u32) -> &str
@@ -27,82 +25,104 @@ fn shown_name(chains: &Chains, number: u32) -> &str
     }
 }
 
-/// The name of a process by its number.
-fn name_value(chains: &Chains, number: u32) -> Result<Value, AllocError>
-    ensures { IfOk result (λ v. IsWritten (view v) (quoted (shown_name chains.now.accepted number))) }
+/// Appends the name of a process by its number.
+fn put_name(out: &mut String, chains: &Chains, number: u32) -> Result<(), AllocError>
+    ensures { OnOk result (string_bytes out.new ≡ string_bytes out.old ++ quoted (shown_name chains.now.accepted number)) }
 {
-    Value::try_from_str(chains.alloc(), shown_name(chains, number))
+    out.push_str("\"")?;
+    out.push_str(shown_name(chains, number))?;
+    out.push_str("\"")
 }
 
-/// A position, without its process.
-fn position_value(alloc: Global, position: Position) -> Result<Value, AllocError>
-    ensures { IfOk result (λ v. IsWritten (view v) (position_text position)) }
+/// Appends a position, without its process.
+fn put_position(out: &mut String, position: Position) -> Result<(), AllocError>
+    ensures { OnOk result (string_bytes out.new ≡ string_bytes out.old ++ position_text position) }
 {
     match position {
-        Position::At(k) => Ok(Value::from(k)),
-        Position::Retired => Value::try_from_str(alloc, "retired"),
+        Position::At(k) => {
+            let mut digits = Buffer::new();
+            out.push_str(digits.format(k))
+        }
+        Position::Retired => out.push_str("\"retired\""),
     }
 }
 
-/// A name and a position.
-fn place_value(chains: &Chains, place: Place) -> Result<Value, AllocError>
-    ensures { IfOk result (λ v. IsWritten (view v) (place_text chains.now.accepted place)) }
+/// Appends a name and a position.
+fn put_place(out: &mut String, chains: &Chains, place: Place) -> Result<(), AllocError>
+    ensures { OnOk result (string_bytes out.new ≡ string_bytes out.old ++ place_text chains.now.accepted place) }
 {
-    let name = name_value(chains, place.process)?;
-    let position = position_value(chains.alloc(), place.position)?;
-    let entry = Vec::from_array(chains.alloc(), [name, position])?;
-    Ok(Value::Array(entry))
+    out.push_str("[")?;
+    put_name(out, chains, place.process)?;
+    out.push_str(",")?;
+    put_position(out, place.position)?;
+    out.push_str("]")
 }
 
-/// The names of processes by their numbers.
-fn names_value(chains: &Chains, numbers: &[u32]) -> Result<Value, AllocError>
-    ensures { IfOk result (λ v. IsWritten (view v) (bracketed (map (λ p. quoted (shown_name chains.now.accepted p)) numbers.now))) }
+/// Appends the comma that stands in front of each entry of a list but the first.
+fn put_comma(out: &mut String, entry: usize) -> Result<(), AllocError>
+    ensures { OnOk result (string_bytes out.new ≡ string_bytes out.old ++ comma_before entry) }
 {
-    let mut names = Vec::with_capacity(chains.alloc(), numbers.len())?;
-    for number in numbers {
-        names.push(name_value(chains, *number)?)?;
+    if entry == 0 {
+        return Ok(());
     }
-    Ok(Value::Array(names))
+    out.push_str(",")
 }
 
-/// Places in a row.
-fn places_value(chains: &Chains, places: &[Place]) -> Result<Value, AllocError>
-    ensures { IfOk result (λ v. IsWritten (view v) (bracketed (map (place_text chains.now.accepted) places.now))) }
+/// Appends the names of processes by their numbers.
+fn put_names(out: &mut String, chains: &Chains, numbers: &[u32]) -> Result<(), AllocError>
+    ensures { OnOk result (string_bytes out.new ≡ string_bytes out.old ++ bracketed (map (λ p. quoted (shown_name chains.now.accepted p)) numbers.now)) }
 {
-    let mut entries = Vec::with_capacity(chains.alloc(), places.len())?;
-    for place in places {
-        entries.push(place_value(chains, *place)?)?;
+    out.push_str("[")?;
+    for i in 0..numbers.len() {
+        put_comma(out, i)?;
+        put_name(out, chains, numbers[i])?;
     }
-    Ok(Value::Array(entries))
+    out.push_str("]")
 }
 
-/// Reason chains in a row.
-fn reasons_value(chains: &Chains, reasons: &[Places]) -> Result<Value, AllocError>
-    ensures { IfOk result (λ v. IsWritten (view v) (bracketed (map (λ chain. bracketed (map (place_text chains.now.accepted) chain)) reasons.now))) }
+/// Appends places in a row.
+fn put_places(out: &mut String, chains: &Chains, places: &[Place]) -> Result<(), AllocError>
+    ensures { OnOk result (string_bytes out.new ≡ string_bytes out.old ++ bracketed (map (place_text chains.now.accepted) places.now)) }
 {
-    let mut values = Vec::with_capacity(chains.alloc(), reasons.len())?;
-    for chain in reasons {
-        values.push(places_value(chains, chain.as_slice())?)?;
+    out.push_str("[")?;
+    for i in 0..places.len() {
+        put_comma(out, i)?;
+        put_place(out, chains, places[i])?;
     }
-    Ok(Value::Array(values))
+    out.push_str("]")
 }
 
-/// A certificate of these parts. An object has its members in the order of their keys.
-fn certificate_value(
-    alloc: Global,
-    failed: Value,
-    front: u64,
-    line: Value,
-    reasons: Value,
-) -> Result<Value, AllocError>
-    ensures { IfOk result (λ v. view v ≡ object (member (codes "failed") (view failed) (member (codes "front") (number (unsigned front)) (member (codes "line") (view line) (member (codes "reasons") (view reasons) no_members))))) }
+/// Appends reason chains in a row.
+fn put_reasons(out: &mut String, chains: &Chains, reasons: &[Places]) -> Result<(), AllocError>
+    ensures { OnOk result (string_bytes out.new ≡ string_bytes out.old ++ bracketed (map (λ chain. bracketed (map (place_text chains.now.accepted) chain)) reasons.now)) }
 {
-    json!(in alloc; {
-        "failed": failed,
-        "front": front,
-        "line": line,
-        "reasons": reasons,
-    })
+    out.push_str("[")?;
+    for i in 0..reasons.len() {
+        put_comma(out, i)?;
+        put_places(out, chains, reasons[i].as_slice())?;
+    }
+    out.push_str("]")
+}
+
+/// Appends the text of a certificate.
+fn put_certificate(
+    out: &mut String,
+    chains: &Chains,
+    certificate: &Certificate,
+) -> Result<(), AllocError>
+    ensures { OnOk result (string_bytes out.new ≡ string_bytes out.old ++ certificate_text chains.now.accepted certificate.now) }
+{
+    out.push_str("{\"failed\":")?;
+    put_names(out, chains, certificate.failed.as_slice())?;
+    out.push_str(",\"front\":")?;
+    let mut digits = Buffer::new();
+    out.push_str(digits.format(certificate.front))?;
+    out.push_str(",\"line\":")?;
+    put_places(out, chains, certificate.line.as_slice())?;
+    out.push_str(",\"reasons\":")?;
+    put_reasons(out, chains, certificate.reasons.as_slice())?;
+    out.push_str("}")?;
+    Ok(())
 }
 
 /// The compact JSON text of a certificate over these chains, whose names it shows. A number that no process has is shown
@@ -110,9 +130,7 @@ fn certificate_value(
 pub fn to_json(chains: &Chains, certificate: &Certificate) -> Result<String, AllocError>
     ensures { IfOk result (λ text. string_bytes text ≡ certificate_text chains.now.accepted certificate.now) }
 {
-    let failed = names_value(chains, certificate.failed.as_slice())?;
-    let line = places_value(chains, certificate.line.as_slice())?;
-    let reasons = reasons_value(chains, certificate.reasons.as_slice())?;
-    let value = certificate_value(chains.alloc(), failed, certificate.front, line, reasons)?;
-    value.to_string(chains.alloc())
+    let mut text = String::new(chains.alloc());
+    put_certificate(&mut text, chains, certificate)?;
+    Ok(text)
 }

@@ -87,7 +87,7 @@ pub fn close(out: &mut Entries, n: u32, start: usize, middle: usize) -> Result<(
     seal(out, n + k, start)
 }
 
-fn owns_all(id: &IdView) -> bool
+pub fn owns_all(id: &IdView) -> bool
     ensures { IsTrue result ↔ (id.now ≡ One) }
 {
     matches!(id.part(), IdPart::Everything)

@@ -1,10 +1,11 @@
 //! The step of an event: fill where that changes the tree, and grow otherwise.
 
-ghost use Rattle.std.specs.Prelude.{◌≡◌, ◌≢◌, ◌+◌, ◌≤◌, ◌<◌, ◌^◌, ◌++◌, true, false, cond, max, IfOk, OnOk, MatchOption};
-ghost use Rattle.id_tree.specs.IdTree.{Zero};
+ghost use Rattle.std.specs.Prelude.{◌≡◌, ◌≢◌, ◌+◌, ◌≤◌, ◌<◌, ◌^◌, ◌++◌, true, false, cond, max, IsTrue, IfOk, OnOk, MatchOption};
+ghost use Rattle.id_tree.specs.IdTree.{Zero, One};
 ghost use Rattle.id_tree.specs.NormalForm.{IsNormal as IsNormalId, depth as id_depth};
 ghost use Rattle.event_tree.specs.EventTree as trees;
 ghost use Rattle.event_tree.specs.NormalForm.{greatest, IsNormal};
+ghost use Rattle.event_tree.specs.Halves.{root};
 ghost use Rattle.event_tree.specs.Entries.{preorder};
 ghost use Rattle.event_tree.specs.Event as events;
 ghost use Rattle.event_tree.specs.Walks as walks;
@@ -182,6 +183,35 @@ fn filled(alloc: Global, id: &IdView, e: &EventView) -> Result<Node, AllocError>
     Ok(Node::of(out))
 }
 
+// Whether the half `e` of a node needs no raise to the least value of the other one, which in normal form stands at its root: it is
+// at or above that, or is not owned whole.
+fn is_raised(id: &IdView, e: &EventView, other: &EventView) -> bool
+    ensures { IsTrue result → id.now ≡ One → root other.now ≤ root e.now }
+{
+    e.root() >= other.root() || !closing::owns_all(id)
+}
+
+// Whether filling leaves the tree as it is. Nothing is built, and the halves are walked only where both are raised.
+fn is_filled(id: &IdView, e: &EventView) -> bool
+    requires normal { IsNormalId id.now }
+    requires tree_normal { IsNormal e.now }
+    ensures { IsTrue result → walks.filled id.now e.now ≡ e.now }
+{
+    match id.part() {
+        IdPart::Nothing => true,
+        IdPart::Everything => matches!(e.part(), EventPart::Leaf(_)),
+        IdPart::Halves(l, r) => match e.part() {
+            EventPart::Leaf(_) => true,
+            EventPart::Node(_, a, b) => {
+                is_raised(&l, &a, &b)
+                    && is_raised(&r, &b, &a)
+                    && is_filled(&l, &a)
+                    && is_filled(&r, &b)
+            }
+        },
+    }
+}
+
 // What an event makes of the tree, or `None` where a value would pass the limit.
 pub fn event_step(alloc: Global, id: &IdView, e: &Node) -> Result<Option<Node>, AllocError>
     requires normal { IsNormalId id.now }
@@ -191,6 +221,10 @@ pub fn event_step(alloc: Global, id: &IdView, e: &Node) -> Result<Option<Node>, 
     ensures { IfOk result (λ o. MatchOption o (events.PassesLimit id.now e.now) (λ node. events.IsEventStep id.now e.now node × (greatest node < 2 ^ 32))) }
 {
     let view = e.view();
+    if is_filled(id, &view) {
+        return grown(alloc, id, &view);
+    }
+    // That `is_filled` refuses says nothing of the tree, so what is built is compared.
     let tree = filled(alloc, id, &view)?;
     if tree.is_same(e) {
         grown(alloc, id, &view)

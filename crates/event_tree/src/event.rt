@@ -1,6 +1,6 @@
 //! The step of an event: fill where that changes the tree, and grow otherwise.
 
-ghost use Rattle.std.specs.Prelude.{◌≡◌, ◌≢◌, ◌+◌, ◌≤◌, ◌<◌, ◌^◌, ◌++◌, true, false, cond, max, IsTrue, IfOk, OnOk, MatchOption};
+ghost use Rattle.std.specs.Prelude.{◌≡◌, ◌≢◌, ◌+◌, ◌≤◌, ◌<◌, ◌^◌, ◌++◌, true, false, max, IsTrue, IfOk, OnOk, MatchOption};
 ghost use Rattle.id_tree.specs.IdTree.{Zero, One};
 ghost use Rattle.id_tree.specs.NormalForm.{IsNormal as IsNormalId, depth as id_depth};
 ghost use Rattle.event_tree.specs.EventTree as trees;
@@ -68,14 +68,16 @@ fn is_less(c: GrowthCost, d: GrowthCost) -> bool
     c.opened < d.opened || (c.opened == d.opened && c.levels < d.levels)
 }
 
-// The lesser cost, and of equal ones the second.
-fn lesser(c: GrowthCost, d: GrowthCost) -> GrowthCost
-    ensures { cost_of result ≡ cond (events.is_less (cost_of c) (cost_of d)) (cost_of c) (cost_of d) }
+fn grows_left(l: &IdView, r: &IdView, c: GrowthCost, d: GrowthCost) -> bool
+    ensures { result ≡ events.grows_left l.now r.now (cost_of c) (cost_of d) }
 {
-    if is_less(c, d) { c } else { d }
+    match (l.part(), r.part()) {
+        (IdPart::Nothing, _) => false,
+        (_, IdPart::Nothing) => true,
+        _ => is_less(c, d),
+    }
 }
 
-// Where one half owns nothing, the other one's cost alone is computed.
 #[tactic(auto, using(crate::proofs::Growth::cost_within))]
 fn cost(id: &IdView, e: &EventView) -> GrowthCost
     requires { id_depth id.now < 2 ^ 32 }
@@ -88,11 +90,9 @@ fn cost(id: &IdView, e: &EventView) -> GrowthCost
         },
         IdPart::Halves(l, r) => {
             let (_, a, b) = e.halves();
-            let best = match (l.part(), r.part()) {
-                (IdPart::Nothing, _) => cost(&r, &b),
-                (_, IdPart::Nothing) => cost(&l, &a),
-                _ => lesser(cost(&l, &a), cost(&r, &b)),
-            };
+            let c = cost(&l, &a);
+            let d = cost(&r, &b);
+            let best = if grows_left(&l, &r, c, d) { c } else { d };
             GrowthCost {
                 opened: best.opened + e.opened(),
                 levels: best.levels + 1,
@@ -102,7 +102,7 @@ fn cost(id: &IdView, e: &EventView) -> GrowthCost
 }
 
 // Whether the left half grows. Costs are computed only where both halves own something.
-fn grows_left(l: &IdView, r: &IdView, a: &EventView, b: &EventView) -> bool
+fn grows_left_at(l: &IdView, r: &IdView, a: &EventView, b: &EventView) -> bool
     requires left { id_depth l.now < 2 ^ 32 }
     requires right { id_depth r.now < 2 ^ 32 }
     ensures { result ≡ events.grows_left l.now r.now (events.cost l.now a.now) (events.cost r.now b.now) }
@@ -138,7 +138,7 @@ fn grown_into(out: &mut Entries, id: &IdView, base: u32, e: &EventView) -> Resul
             let (n, a, b) = e.halves();
             let start = out.len();
             out.push(Entry::default())?;
-            if grows_left(&l, &r, &a, &b) {
+            if grows_left_at(&l, &r, &a, &b) {
                 if !grown_into(out, &l, base + n, &a)? {
                     return Ok(false);
                 }

@@ -20,7 +20,7 @@ use Rattle.chains.specs.Processes.{Name, last_events}
 use Rattle.chains.specs.Elements.{elements, element, elements_of, name_of}
 use Rattle.chains.specs.Positions.{place_at, last_rank}
 use Rattle.chains.specs.Knowledge.{events_at}
-use Rattle.knows_row.specs.Beyond.{numbered, IsBeyondAt}
+use Rattle.knows_row.specs.Beyond.{numbered, IsBeyondAt, AreRising, AddsNothing}
 use Rattle.knows_row.specs.Knowing.{KnowsRank, IsLawful}
 use Rattle.knows_row.proofs.Rising.{Rise, nothing_below, below_later, elements_rise}
 use Rattle.knows_row.proofs.Laws.{at_element}
@@ -252,6 +252,21 @@ lowered_more v own bound t events i h k = (λ passes. to (k.0 passes), λ one. k
     from (inl passes) = inl passes
     from (inr exceeds) = inr (h.1 exceeds)
 
+-- what is beyond one of them is beyond one below k, where element k adds nothing
+pub threshold_same : (accepted : List Report) (q from k : ℕ) (bound : EventTree) → from < k → AddsNothing (elements accepted q) k → IsThreshold accepted q from k bound → IsThreshold accepted q from (k + 1) bound
+threshold_same accepted q from k bound lt adds h v small = (λ passes. more ((h v small).0 passes), λ beyond. (h v small).1 (less beyond))
+  where
+    more : IsBeyondOne accepted q from k v → IsBeyondOne accepted q from (k + 1) v
+    more beyond = (beyond.0, beyond.1, omega (arith, beyond.2), beyond.3)
+
+    less : IsBeyondOne accepted q from (k + 1) v → IsBeyondOne accepted q from k v
+    less beyond = elim (cases_lt beyond.0 k) [
+      | inl below ↦ (beyond.0, beyond.1, below, beyond.3)
+      | inr past ↦
+          let e : beyond.0 ≡ k = omega (arith, past, beyond.2) in
+          (k - 1, omega (arith, lt), omega (arith, lt), adds v (subst (IsBeyondAt v (elements accepted q)) e beyond.3))
+    ]
+
 -- where there is no such element, nothing is added
 pub absent_more : (v bound : EventTree) (stamps : List Stamp) (k : ℕ) → numbered stamps k ≡ None → Passes v bound ↔ (Passes v bound ⊎ IsBeyondAt v stamps k)
 absent_more v bound stamps k none = (λ passes. inl passes, from)
@@ -297,6 +312,12 @@ rise_named : (accepted : List Report) (o : Option Name) → IsFolded accepted
 rise_named accepted None folded = nothing_below (Leaf 0)
 rise_named accepted (Some p) folded = elements_rise p accepted folded
 
+-- the elements of a process rise
+pub elements_are_rising : (accepted : List Report) (p : ℕ) → IsFolded accepted → AreRising (elements accepted p)
+elements_are_rising accepted p folded i j earlier later le is_earlier is_later =
+    below_later (Leaf 0) (elements accepted p) (option_map_or (λ name. last_events name accepted) (name_of accepted p) (Leaf 0)) i j earlier later
+    (rise_named accepted (name_of accepted p) folded) le is_earlier is_later
+
 no_exceeding : (i : IdTree) (e f : EventTree) → IsAtOrBelow e f → ¬ ExceedsOn i e f
 no_exceeding i e f le h = let a = le h.0 in let b = h.2 in omega arith
 
@@ -310,9 +331,7 @@ own_later accepted p (suc i) (suc j) v folded le within is h = at (slice_get (el
     at : (o : Option Stamp) → slice_get (elements accepted p) i ≡ o → option_map (λ (s : Stamp). s.events) o ≡ Some v → ⊥
     at None e same = absurd cc
     at (Some t) e same =
-        let low : IsAtOrBelow t.events h.stamp.events
-        = below_later (Leaf 0) (elements accepted p) (option_map_or (λ name. last_events name accepted) (name_of accepted p) (Leaf 0)) i j t h.stamp
-        (rise_named accepted (name_of accepted p) folded) (omega (arith, le)) e h.is_element in
+        let low : IsAtOrBelow t.events h.stamp.events = elements_are_rising accepted p folded i j t h.stamp (omega (arith, le)) e h.is_element in
         no_exceeding h.stamp.id t.events h.stamp.events low (subst (λ (u : EventTree). ExceedsOn h.stamp.id u h.stamp.events) (sym (same_Some t.events v same)) h.exceeds)
 
 beyond_within : (v : EventTree) (stamps : List Stamp) (k : ℕ) → IsBeyondAt v stamps k → k ≤ length stamps

@@ -1,7 +1,7 @@
 -- Which elements of a row some events are beyond. Elements are counted from 1.
 use Rattle.std.specs.Prelude.{◌≡◌, ℕ, zero, suc, ◌-◌, ◌≤◌, ◌<◌, List, Option, Some, None, slice_get}
 use Rattle.event_tree.specs.EventTree.{EventTree}
-use Rattle.event_tree.specs.Values.{ExceedsOn}
+use Rattle.event_tree.specs.Values.{IsAtOrBelow, ExceedsOn}
 use Rattle.stamp.specs.declared.stamp.Stamp.{Stamp}
 
 -- element k of these stamps
@@ -24,3 +24,13 @@ pub record IsLastBeyond (events : EventTree) (stamps : List Stamp) (from to foun
   pub within : found ≤ to
   pub none : (k : ℕ) → found ≤ k → k < to → ¬ IsBeyondAt events stamps k
   pub last : from < found → IsBeyondAt events stamps (found - 1)
+
+-- from stamp to stamp the events never fall
+abbrev pub AreRising : List Stamp → Type 0
+AreRising stamps =
+    (i j : ℕ) (earlier later : Stamp) → i ≤ j → slice_get stamps i ≡ Some earlier → slice_get stamps j ≡ Some later
+    → IsAtOrBelow earlier.events later.events
+
+-- whatever is beyond element k is beyond the one before
+abbrev pub AddsNothing : List Stamp → ℕ → Type 0
+AddsNothing stamps k = (v : EventTree) → IsBeyondAt v stamps k → IsBeyondAt v stamps (k - 1)

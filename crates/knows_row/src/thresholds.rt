@@ -7,7 +7,7 @@ ghost use Rattle.event_tree.specs.Values.{ExceedsOn};
 ghost use Rattle.event_tree.specs.NormalForm.{greatest, value_limit};
 ghost use Rattle.chains.specs.Processes.{known};
 ghost use Rattle.chains.specs.Elements.{elements};
-ghost use Rattle.knows_row.specs.Beyond.{IsBeyondAt};
+ghost use Rattle.knows_row.specs.Beyond.{IsBeyondAt, AreRising, AddsNothing};
 ghost use Rattle.knows_row.specs.Thresholds.{Passes, IsThreshold, tree_in, AreThresholds, PassesTwo, IsHalved, AreRows, PassesOne, IsFirstPassed, AreThresholdsOf};
 
 use chains::{Chains, Elements};
@@ -128,7 +128,26 @@ fn bound_of_element(alloc: Global, elements: &Elements<'_>, k: u32) -> Result<Ev
     }
 }
 
-/// The threshold of the elements of a process from this one on and below that one, one after the other.
+/// Whether element k adds nothing to the one before: where they have one id, what exceeds the later one's events exceeds the
+/// earlier one's, too.
+fn adds_nothing(elements: &Elements<'_>, k: u32) -> bool
+    requires { AreRising elements.now }
+    ensures { IsTrue result → AddsNothing elements.now k }
+{
+    if k < 2 {
+        return false;
+    }
+    let Some(earlier) = elements.get(k - 2) else {
+        return false;
+    };
+    let Some(later) = elements.get(k - 1) else {
+        return false;
+    };
+    earlier.id.equal(later.id)
+}
+
+/// The threshold of the elements of a process from this one on and below that one, one after the other. One that adds nothing
+/// to the one before is passed over.
 fn threshold_of_many(
     chains: &Chains,
     process: u32,
@@ -136,12 +155,16 @@ fn threshold_of_many(
     to: u32,
 ) -> Result<Events, AllocError>
     requires process { process < length (known chains.now.accepted) }
-    requires order { from ≤ to }
+    requires order { from < to }
     ensures { IfOk result (λ t. IsThreshold chains.now.accepted process from to t) }
 {
+    chains.lawful();
     let elements = chains.elements(process);
-    let mut bound = no_bound(chains.alloc())?;
-    for k in from..to {
+    let mut bound = bound_of_element(chains.alloc(), &elements, from)?;
+    for k in from + 1..to {
+        if adds_nothing(&elements, k) {
+            continue;
+        }
         bound = with_element(chains.alloc(), &bound, &elements, k)?;
     }
     Ok(bound)
@@ -153,8 +176,8 @@ fn threshold(chains: &Chains, process: u32, from: u32, to: u32) -> Result<Events
     requires order { from ≤ to }
     ensures { IfOk result (λ t. IsThreshold chains.now.accepted process from to t) }
 {
-    if to - from == 1 {
-        return bound_of_element(chains.alloc(), &chains.elements(process), from);
+    if from == to {
+        return no_bound(chains.alloc());
     }
     threshold_of_many(chains, process, from, to)
 }

@@ -1,14 +1,9 @@
-use Rattle.std.proofs.Common.{◌≤◌, ◌↔◌, List, subst, arith}
+use Rattle.std.proofs.Common.{subst}
 use Rattle.std.proofs.lemmas.Result.{IfOk-weaker}
-use Rattle.event_tree.specs.EventTree.{EventTree}
-use Rattle.event_tree.specs.NormalForm.{greatest, value_limit}
-use Rattle.stamp.specs.declared.stamp.Stamp.{Stamp}
-use Rattle.knows_row.specs.Beyond.{IsBeyondAt}
-use Rattle.knows_row.specs.Thresholds.{Passes}
-use Rattle.knows_row.proofs.Thresholding.{threshold_one}
+use Rattle.knows_row.specs.Thresholds.{IsThreshold}
+use Rattle.knows_row.proofs.Thresholding.{threshold_none}
 use Rattle.knows_row.proofs.thresholds.threshold.Goals as goal
 
-pub returns-then-to-from-eq1 : goal.returns-then-to-from-eq1
-returns-then-to-from-eq1 c = IfOk-weaker c.bound_of_element.result _ _ (λ t made.
-    threshold_one c.args.chains.now.accepted c.args.process c.args.from c.args.to t (omega (arith, c.requires.order))
-    (subst (λ (ss : List Stamp). (v : EventTree) → greatest v ≤ value_limit → Passes v t ↔ IsBeyondAt v ss c.args.from) c.elements.ensures made)) c.bound_of_element.ensures
+pub returns-then-from-to : goal.returns-then-from-to
+returns-then-from-to c = IfOk-weaker c.no_bound.result _ _ (λ t none.
+    subst (λ to. IsThreshold c.args.chains.now.accepted c.args.process c.args.from to t) c.if-from-to.true (threshold_none c.args.chains.now.accepted c.args.process c.args.from t none)) c.no_bound.ensures

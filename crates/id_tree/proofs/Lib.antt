@@ -12,3 +12,4 @@ pub mod Fronts
 pub mod Runs
 pub mod Steps
 pub mod Forms
+pub mod Takes

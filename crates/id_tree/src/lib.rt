@@ -21,6 +21,7 @@ mod form;
 mod marks;
 mod parts;
 mod reader;
+mod straight;
 mod text;
 mod together;
 mod view;
@@ -191,12 +192,17 @@ impl Id {
     }
 
     /// The id that the bytes spell, all of the bytes. The stack that it takes does not grow with how deeply brackets are
-    /// nested; the memory that it takes is a byte for each node and leaf, and one for each open bracket.
+    /// nested beyond the depth limit. The memory that it takes is one byte for every two, or one for each node, leaf and
+    /// open bracket, whichever is more.
     pub fn parse(alloc: Global, bytes: &[u8]) -> Result<Id, IdFault>
         ensures ok { IfOk result (λ id. bytes.now ≡ spelling id) }
         ensures err { IfErr result (λ fault. IsFaultOf fault bytes.now) }
         ensures only { (t : IdTree) → IsId t → bytes.now ≡ spelling t → MatchResult result (λ id. id ≡ t) (λ fault. fault ≡ IdFault.Memory) }
     {
+        // What is spelled right is mostly read so; which fault a text has, and what memory is wanting for, the reader says.
+        if let Some(marks) = straight::read(alloc, bytes) {
+            return Ok(Id { marks });
+        }
         let marks = reader::read(alloc, bytes)?;
         if !are_normal(marks.as_slice()) {
             return Err(IdFault::NotNormal);

@@ -1,10 +1,14 @@
-use Rattle.std.proofs.Common.{◌≡◌, ◌<◌, ◌≤◌, true, false}
+use Rattle.std.proofs.Common.{◌≡◌, ◌<◌, ◌≤◌, true, false, sym, ◌∙◌}
 use Rattle.std.proofs.lemmas.Result.{err_from_is_err_and}
 use Rattle.id_tree.specs.NormalForm.{depth, depth_limit}
 use Rattle.id_tree.specs.Marks.{tree_of}
 use Rattle.id_tree.specs.Form.{are_normal}
+use Rattle.id_tree.proofs.Texts.{one_spelling}
 use Rattle.id_tree.proofs.Forms.{found_id, found_spelling, found_unnormal, found_deep, found_tree, not_unnormal, not_deep, fault_found, fault_of_id, told_deep, told_shallow}
 use Rattle.id_tree.proofs.Id.parse.Goals as goal
+
+pub returns-in-Some-clause-only : goal.returns-in-Some-clause-only
+returns-in-Some-clause-only c = λ t n e. one_spelling _ t (sym c.in-Some.ensures.spelled ∙ e)
 
 pub returns-in_err-marks-clause-err : goal.returns-in_err-marks-clause-err
 returns-in_err-marks-clause-err c =
@@ -37,8 +41,8 @@ returns-then-not-fits-clause-only c = λ t n e.
     let deep : depth_limit < depth (tree_of c.in_ok-marks.marks.items) = told_deep _ _ _ c.fits.ensures c.if-not-fits.true (cc) in
     absurd (not_deep _ _ t c.in_ok-marks.ensures.ok e n deep)
 
-pub invariant_of-result : goal.invariant_of-result
-invariant_of-result c =
+pub invariant_of-result-2 : goal.invariant_of-result-2
+invariant_of-result-2 c =
     let test : true ≡ are_normal c.in_ok-marks.marks.items = cc in
     let shallow : depth (tree_of c.in_ok-marks.marks.items) ≤ depth_limit = told_shallow _ _ _ c.fits.ensures c.if-not-fits.false (cc) in
     found_id _ _ c.in_ok-marks.ensures.ok test shallow

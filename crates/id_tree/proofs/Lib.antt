@@ -8,8 +8,8 @@ pub mod Apart
 pub mod Covering
 pub mod Equal
 pub mod Shapes
-pub mod Fronts
 pub mod Runs
 pub mod Steps
 pub mod Forms
 pub mod Takes
+pub mod Lengths

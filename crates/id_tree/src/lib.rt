@@ -33,7 +33,7 @@ use parts::{left_into, parts_fit, right_into};
 use smallvec::SmallVec;
 use std::alloc::{AllocError, Global};
 use std::marker::Model;
-use text::write_first;
+use text::{text_length, write_first};
 use together::is_sum_by;
 pub use view::{IdPart, IdView};
 
@@ -218,12 +218,9 @@ impl Id {
         ensures ok { OnOk result (out.new.items ≡ out.old.items ++ spelling self.now) }
         ensures err { OnErr result (out.new.items ≡ out.old.items) }
     {
-        let before = out.len();
-        let written = write_first(self.marks(), out);
-        if written.is_err() {
-            out.truncate(before);
-            return Err(AllocError);
-        }
+        let marks = self.marks();
+        out.reserve(text_length(marks))?;
+        write_first(marks, out);
         Ok(())
     }
 }

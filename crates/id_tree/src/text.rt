@@ -1,37 +1,45 @@
-//! The text of an id.
+//! How the text of an id is written: its length is known first, so that there is room for all of it.
 
-ghost use Rattle.std.specs.Prelude.{◌≡◌, ◌++◌, IfOk, OnOk, OnErr, take, length};
+ghost use Rattle.std.specs.Prelude.{◌≡◌, ◌≤◌, ◌+◌, ◌++◌, length, vec_len, vec_capacity};
 ghost use Rattle.id_tree.specs.Spelling.{spelling};
-ghost use Rattle.id_tree.specs.Marks.{tree_of, HasTrees, IsBehind};
+ghost use Rattle.id_tree.specs.Marks.{tree_of, AreMarksOf, HasTrees, IsBehind};
 
 use crate::marks::Mark;
-use std::alloc::AllocError;
 
-// Appends the text of the first tree, and gives the marks behind it.
+// How many bytes the text has: one for each leaf, three for each pair, and there is a leaf more than pairs.
+pub fn text_length(marks: &[Mark]) -> usize
+    requires { AreMarksOf (tree_of marks.now) marks.now }
+    ensures { result ≡ length (spelling (tree_of marks.now)) }
+{
+    marks.len() * 2 - 1
+}
+
+// Appends the text of the first tree, for which there is room, and gives the marks behind it.
 #[tactic(auto, using(crate::proofs::Preorder::behind_leaf))]
-pub fn write_first<'a>(marks: &'a [Mark], out: &mut Vec<u8>) -> Result<&'a [Mark], AllocError>
-    requires { HasTrees 1 marks.now }
-    ensures ok { OnOk result (out.new.items ≡ out.old.items ++ spelling (tree_of marks.now)) }
-    ensures err { OnErr result (take (length out.old.items) out.new.items ≡ out.old.items) }
-    ensures behind { IfOk result (λ rest. IsBehind marks.now rest.now) }
+pub fn write_first<'a>(marks: &'a [Mark], out: &mut Vec<u8>) -> &'a [Mark]
+    requires whole { HasTrees 1 marks.now }
+    requires room { vec_len out.old + length (spelling (tree_of marks.now)) ≤ vec_capacity out.old }
+    ensures text { out.new.items ≡ out.old.items ++ spelling (tree_of marks.now) }
+    ensures capacity { vec_capacity out.new ≡ vec_capacity out.old }
+    ensures behind { IsBehind marks.now result.now }
 {
     let (_, inside) = marks.split_at(1);
     match marks[0] {
         Mark::Zero => {
-            out.push(b'0')?;
-            Ok(inside)
+            out.push_reserved(b'0');
+            inside
         }
         Mark::One => {
-            out.push(b'1')?;
-            Ok(inside)
+            out.push_reserved(b'1');
+            inside
         }
         Mark::Pair => {
-            out.push(b'(')?;
-            let right = write_first(inside, out)?;
-            out.push(b',')?;
-            let behind = write_first(right, out)?;
-            out.push(b')')?;
-            Ok(behind)
+            out.push_reserved(b'(');
+            let right = write_first(inside, out);
+            out.push_reserved(b',');
+            let behind = write_first(right, out);
+            out.push_reserved(b')');
+            behind
         }
     }
 }

@@ -26,6 +26,7 @@ pub struct Taken<'a> {
 }
 
 // What stands behind this byte.
+#[inline(always)]
 fn behind(byte: u8, text: &[u8]) -> Option<&[u8]>
     ensures { IfSome result (λ rest. text.now ≡ byte ∷ rest.now) }
 {
@@ -47,6 +48,7 @@ fn take_digit(text: &[u8]) -> Option<(u32, &[u8])>
 }
 
 // The number that stands at the front, and what stands behind it.
+#[inline(always)]
 fn take_number(text: &[u8]) -> Option<(u32, &[u8])>
     ensures { IfSome result (λ taken. (text.now ≡ decimal taken.0 ++ taken.1.now) × (taken.0 ≤ value_limit)) }
 {
@@ -63,6 +65,7 @@ fn take_number(text: &[u8]) -> Option<(u32, &[u8])>
 }
 
 // The leaf that stands at the front.
+#[inline(always)]
 fn take_leaf<'a>(text: &'a [u8], levels: u32, out: &mut Entries) -> Option<Taken<'a>>
     ensures { IfSome result (λ taken. IsTaken levels text.now out.old.items out.new.items taken) }
 {
@@ -89,13 +92,23 @@ fn are_halves(left: u32, is_left_leaf: bool, right: u32, is_right_leaf: bool) ->
     }
 }
 
-// The tree that stands at the front, at most so deep.
+// The tree that stands at the front, at most so deep. Half of all parts are leaves, which take no call.
+#[inline(always)]
+#[cycle(take)]
 fn take_tree<'a>(text: &'a [u8], levels: u32, out: &mut Entries) -> Option<Taken<'a>>
     ensures { IfSome result (λ taken. IsTaken levels text.now out.old.items out.new.items taken) }
 {
-    let Some(inside) = behind(b'(', text) else {
-        return take_leaf(text, levels, out);
-    };
+    match behind(b'(', text) {
+        Some(inside) => take_node(inside, levels, out),
+        None => take_leaf(text, levels, out),
+    }
+}
+
+// The node whose opening bracket stands in front of this text.
+#[cycle(take)]
+fn take_node<'a>(inside: &'a [u8], levels: u32, out: &mut Entries) -> Option<Taken<'a>>
+    ensures { IfSome result (λ taken. IsTaken levels (40 ∷ inside.now) out.old.items out.new.items taken) }
+{
     if levels == 0 {
         return None;
     }

@@ -1,11 +1,11 @@
-use Rattle.std.proofs.Common.{refl, arith, sym, ◌∙◌}
+use Rattle.std.proofs.Common.{◌∷◌, refl, arith, sym, ◌∙◌}
 use Rattle.event_tree.proofs.Takes.{node_taken}
-use Rattle.event_tree.proofs.straight.+take_tree.Goals as goal
+use Rattle.event_tree.proofs.straight.+take.Goals as goal
 
-pub returns : goal.returns
-returns t c =
-    node_taken c.args.levels _ c.in_ok-base.base c.len-start.result c.in_ok-top.top c.args.text.now c.args.out.now.items _ c.in_ok-left.left c.in_ok-right.right _ (record {
-      inside = c.in-Some.inside.now;
+pub take_node-returns : goal.take_node-returns
+take_node-returns t c =
+    node_taken c.args.levels _ c.in_ok-base.base c.len-start.result c.in_ok-top.top (40 ∷ c.args.inside.now) c.args.out.now.items _ c.in_ok-left.left c.in_ok-right.right _ (record {
+      inside = c.args.inside.now;
       later = c.in_ok-base.later.now;
       left_text = c.in_ok-behind.field-0.now;
       right_text = c.in_ok-behind-2.field-0.now;
@@ -15,7 +15,7 @@ returns t c =
       mark = c.default.result;
       one = c.in_ok-left.ensures;
       other = c.in_ok-right.ensures;
-      bracket = c.in-Some.ensures;
+      bracket = refl;
       base = c.in_ok-base.ensures.0;
       comma = c.in_ok-behind.ensures;
       second_comma = c.in_ok-behind-2.ensures;

@@ -1,10 +1,10 @@
 use Rattle.std.proofs.Common.{ℕ, length, length-append, arith, ap, append_assoc}
 use Rattle.event_tree.specs.Spelling.{spelling}
 use Rattle.event_tree.proofs.Lengths.{node_length}
-use Rattle.event_tree.proofs.text.+write_part.Goals as goal
+use Rattle.event_tree.proofs.text.+write.Goals as goal
 
-pub push_reserved-requires-in-Node-3 : goal.push_reserved-requires-in-Node-3
-push_reserved-requires-in-Node-3 t c =
+pub write_halves-push_reserved-requires-in-Node-3 : goal.write_halves-push_reserved-requires-in-Node-3
+write_halves-push_reserved-requires-in-Node-3 t c =
     omega (
       arith,
       ap length c.write_number-in-Node.ensures.text,
@@ -15,8 +15,8 @@ push_reserved-requires-in-Node-3 t c =
       length-append {A = ℕ},
     )
 
-pub returns-in-Node-clause-text : goal.returns-in-Node-clause-text
-returns-in-Node-clause-text t c =
+pub write_halves-returns-in-Node-clause-text : goal.write_halves-returns-in-Node-clause-text
+write_halves-returns-in-Node-clause-text t c =
     rw (
       c.in-Node.ensures,
       c.push_reserved-in-Node-3.ensures.items,

@@ -29,6 +29,15 @@ settle_line front names = spelling (calls.Settle front names)
 abbrev pub said_of : MarkedReport → Said
 said_of m = (m.epoch, line_of m.report)
 
+-- where the report has no mark, these bytes are its line
+abbrev pub IsUnmarkedLine : List ℕ → MarkedReport → Type 0
+IsUnmarkedLine line m = m.epoch ≡ 0 → line ≡ line_of m.report
+
+-- where the call is a report without a mark, these bytes are its line
+abbrev pub IsReadOff : List ℕ → Call → Type 0
+IsReadOff line (calls.Report m) = IsUnmarkedLine line m
+IsReadOff line _ = ⊤
+
 -- what the record of a settlement says: the epoch before it, and its line
 abbrev pub said_settled : ℕ → ℕ → List Name → Said
 said_settled epoch front names = (epoch, settle_line front names)

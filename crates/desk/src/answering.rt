@@ -1,12 +1,12 @@
 //! The reply to a call.
 
-ghost use Rattle.std.specs.Prelude.{◌≡◌, ℕ, List, true, false, IfOk, IfErr};
+ghost use Rattle.std.specs.Prelude.{◌≡◌, ℕ, List, true, false, IfOk, IfErr, IfSome};
 ghost use Rattle.record_file.specs.File.{Said};
 ghost use Rattle.record_file.specs.Store.{is_stopped};
 ghost use Rattle.chains.specs.Held.{held_of, held_with};
 ghost use Rattle.chains.specs.Processes.{IsKnown};
 ghost use Rattle.chains.specs.Turns.{fine, IsGarbageReply, IsLineReply, IsStateReply, IsQuestionTurn, IsTurn};
-ghost use Rattle.desk.specs.Records.{IsRecordOf, IsRecordedCall};
+ghost use Rattle.desk.specs.Records.{IsRecordOf, IsRecordedCall, IsReadOff};
 ghost use Rattle.desk.specs.Files.{IsShort, MayWantMemory, UsesDevice};
 ghost use Rattle.desk.specs.Parts.{WritesBy, IsFollowed};
 
@@ -53,12 +53,14 @@ fn state_asked(chains: &Chains, stopped: bool, name: &Name) -> Result<Twice, Tur
     }
 }
 
-/// The reply to a call, if memory suffices for it.
+/// The reply to a call, if memory suffices for it. The line is what the call was read off, where there is one.
 pub(crate) fn answered<D: Disk>(
     chains: &mut Chains,
     store: &mut Store<D>,
     call: &Call,
+    line: Option<&[u8]>,
 ) -> Result<Twice, TurnFault>
+    requires read { IfSome line (λ l. IsReadOff l.now call.now) }
     requires short { IsShort call.now }
     ensures turn { IfOk result (λ reply. IsTurn (held_with chains.old (is_stopped store.old)) call.now reply (held_with chains.new (is_stopped store.new))) }
     ensures spelled { IfOk result (λ reply. UsesDevice reply → IsRecordedCall call.now) }
@@ -68,7 +70,7 @@ pub(crate) fn answered<D: Disk>(
     ensures stopped { is_stopped store.old ≡ true → (store.new ≡ store.old) × (held_of chains.new ≡ held_of chains.old) }
 {
     match call {
-        Call::Report(report) => Ok(report_placed(chains, store, report)),
+        Call::Report(report) => Ok(report_placed(chains, store, report, line)),
         Call::Line(names) => Ok(line_asked(chains, store.stopped(), names.as_slice())),
         Call::Garbage => Ok(garbage_asked(chains, store.stopped())),
         Call::Settle { front, names } => Ok(settlement_placed(chains, store, *front, names)),

@@ -1,6 +1,6 @@
 //! The desk.
 
-ghost use Rattle.std.specs.Prelude.{◌≡◌, ◌↔◌, ◌+◌, ◌≤◌, ◌++◌, [], ◌∷◌, ℕ, List, true, false, length, IfOk, IfErr, MatchResult, vec_capacity};
+ghost use Rattle.std.specs.Prelude.{◌≡◌, ◌↔◌, ◌+◌, ◌≤◌, ◌++◌, [], ◌∷◌, ℕ, List, true, false, length, IfOk, IfErr, IfSome, MatchResult, vec_capacity};
 ghost use Rattle.line_disk.specs.Disk.{Leaves, LeavesAlways};
 ghost use Rattle.record_file.specs.File.{Stands};
 ghost use Rattle.record_file.specs.Kept.{said_in};
@@ -93,6 +93,7 @@ impl<D: Disk> Desk<D> {
     ghost use Rattle.chains.specs.Turns.{IsTurn};
     ghost use Rattle.desk.specs.Files.{MayStandFor, StandsWhile, IsShort, MayWantMemory, UsesDevice, CountsReply};
     ghost use Rattle.desk.specs.Lawful.{IsLawful, unstopped};
+    ghost use Rattle.desk.specs.Records.{IsReadOff};
     ghost use Rattle.desk.specs.OfHistories.{IsTurnOfHistories, AreTurnsOfHistories};
     ghost use Rattle.desk.specs.Placed.{IsPlacedBy};
     ghost use Rattle.desk.specs.Openings.{RefusesFile, CountsDeskFault, LeavesFile, IsNotOfTheFile, IsReopened};
@@ -257,11 +258,65 @@ impl<D: Disk> Desk<D> {
         ensures cause { IfOk result (λ receipt. CountsReply receipt.reply (D.failed self.old.disk) (D.failed self.new.disk)) }
         ensures premise { D.keeps self.new.disk ↔ D.keeps self.old.disk }
     {
+        self.turn_by(call, None)
+    }
+
+    /// The same for a call and the line that it was read off. A report without a mark goes into the file as these bytes.
+    pub fn turn_read(&mut self, line: &[u8], call: Call) -> Result<Receipt, TurnFault>
+        requires short { IsShort call }
+        requires read { IsReadOff line.now call }
+        ensures step { IfOk result (λ receipt. IsTurn self.old.held call receipt.reply self.new.held) }
+        ensures turns { IfOk result (λ receipt. self.new.turns ≡ self.old.turns ++ record { call = call; receipt = receipt } ∷ []) }
+        ensures number { IfOk result (λ receipt. receipt.turn ≡ length self.old.turns + 1) }
+        ensures opening { self.new.opening ≡ self.old.opening }
+        ensures found { self.new.found ≡ self.old.found }
+        ensures worn { length self.old.turns ≡ turn_limit → result ≡ Err TurnFault.Worn }
+        ensures err { IfErr result (λ fault. self.new ≡ self.old) }
+        ensures cause_err { result ≡ Err TurnFault.Worn → length self.old.turns ≡ turn_limit }
+        ensures memory { result ≡ Err TurnFault.Memory → MayWantMemory self.old.held call }
+        ensures of_histories { IfOk result (λ receipt. IsTurnOfHistories self.old.held call receipt.reply self.new.held) }
+        ensures any_moment { D.keeps self.old.disk → LeavesAlways (StandsWhile (records_of self.old) self.old.held.epoch self.old.turns call) (D.view self.old.disk) (D.view self.new.disk) }
+        ensures before { IfOk result (λ receipt. receipt.reply ≡ Fail outcomes.Before → D.keeps self.old.disk
+            → (c : List ℕ) → Leaves (D.view self.new.disk) c → Stands (records_of self.old) c) }
+        ensures placed { D.keeps self.old.disk → IfOk result (λ receipt. IsPlacedBy receipt.reply (records_of self.old) self.old.held.epoch call (D.view self.old.disk) (D.view self.new.disk)) }
+        ensures unmoved { IfOk result (λ receipt. ¬ UsesDevice receipt.reply → self.new.disk ≡ self.old.disk) }
+        ensures stopped_only { IfOk result (λ receipt. receipt.reply ≡ Fail outcomes.Stopped → self.old.held.stopped ≡ true) }
+        ensures stopped { self.old.held.stopped ≡ true → (self.new.disk ≡ self.old.disk) × (self.new.held ≡ self.old.held) }
+        ensures cause { IfOk result (λ receipt. CountsReply receipt.reply (D.failed self.old.disk) (D.failed self.new.disk)) }
+        ensures premise { D.keeps self.new.disk ↔ D.keeps self.old.disk }
+    {
+        self.turn_by(call, Some(line))
+    }
+
+    /// The same with the line, where there is one.
+    fn turn_by(&mut self, call: Call, line: Option<&[u8]>) -> Result<Receipt, TurnFault>
+        requires short { IsShort call }
+        requires read { IfSome line (λ l. IsReadOff l.now call) }
+        ensures step { IfOk result (λ receipt. IsTurn self.old.held call receipt.reply self.new.held) }
+        ensures turns { IfOk result (λ receipt. self.new.turns ≡ self.old.turns ++ record { call = call; receipt = receipt } ∷ []) }
+        ensures number { IfOk result (λ receipt. receipt.turn ≡ length self.old.turns + 1) }
+        ensures opening { self.new.opening ≡ self.old.opening }
+        ensures found { self.new.found ≡ self.old.found }
+        ensures worn { length self.old.turns ≡ turn_limit → result ≡ Err TurnFault.Worn }
+        ensures err { IfErr result (λ fault. self.new ≡ self.old) }
+        ensures cause_err { result ≡ Err TurnFault.Worn → length self.old.turns ≡ turn_limit }
+        ensures memory { result ≡ Err TurnFault.Memory → MayWantMemory self.old.held call }
+        ensures of_histories { IfOk result (λ receipt. IsTurnOfHistories self.old.held call receipt.reply self.new.held) }
+        ensures any_moment { D.keeps self.old.disk → LeavesAlways (StandsWhile (records_of self.old) self.old.held.epoch self.old.turns call) (D.view self.old.disk) (D.view self.new.disk) }
+        ensures before { IfOk result (λ receipt. receipt.reply ≡ Fail outcomes.Before → D.keeps self.old.disk
+            → (c : List ℕ) → Leaves (D.view self.new.disk) c → Stands (records_of self.old) c) }
+        ensures placed { D.keeps self.old.disk → IfOk result (λ receipt. IsPlacedBy receipt.reply (records_of self.old) self.old.held.epoch call (D.view self.old.disk) (D.view self.new.disk)) }
+        ensures unmoved { IfOk result (λ receipt. ¬ UsesDevice receipt.reply → self.new.disk ≡ self.old.disk) }
+        ensures stopped_only { IfOk result (λ receipt. receipt.reply ≡ Fail outcomes.Stopped → self.old.held.stopped ≡ true) }
+        ensures stopped { self.old.held.stopped ≡ true → (self.new.disk ≡ self.old.disk) × (self.new.held ≡ self.old.held) }
+        ensures cause { IfOk result (λ receipt. CountsReply receipt.reply (D.failed self.old.disk) (D.failed self.new.disk)) }
+        ensures premise { D.keeps self.new.disk ↔ D.keeps self.old.disk }
+    {
         if self.turns.len() >= TURN_LIMIT {
             return Err(TurnFault::Worn);
         }
         self.chains.lawful();
-        let (given, kept) = answered(&mut self.chains, &mut self.store, &call)?.into_parts();
+        let (given, kept) = answered(&mut self.chains, &mut self.store, &call, line)?.into_parts();
         let turn = self.turns.len() as u32 + 1;
         self.turns.push_reserved(Turn {
             call,

@@ -1,5 +1,5 @@
 -- What a line is read as, and what is shown for the turn of it.
-use Rattle.std.proofs.Common.{◌≡◌, ◌≢◌, ◌↔◌, ℕ, zero, suc, ◌+◌, ◌-◌, ◌<◌, ◌≤◌, List, [], ◌∷◌, ◌++◌, length, Some, Result, Ok, Err, Bool, true, false, refl, sym, ap, subst, ◌∙◌, inl, inr, arith}
+use Rattle.std.proofs.Common.{◌≡◌, ◌≢◌, ◌↔◌, ℕ, zero, suc, ◌+◌, ◌-◌, ◌≤◌, List, [], ◌∷◌, ◌++◌, length, Some, Result, Ok, Err, Bool, true, false, refl, sym, ap, subst, ◌∙◌, inl, inr, arith}
 use Rattle.std.specs.List.{slice_get, AllByRecursion}
 use Rattle.std.proofs.lemmas.List.{length-append}
 use Rattle.std.proofs.lemmas.Option.{same_Some}
@@ -19,7 +19,8 @@ use Rattle.chains.specs.Turns.{Fate, IsQuestionTurn, IsTurn}
 use Rattle.desk.specs.Desks.{DeskState}
 use Rattle.desk.specs.Files.{IsShort}
 use Rattle.desk.specs.Lawful.{unstopped}
-use Rattle.desk.proofs.Short.{short_call}
+use Rattle.desk.specs.Records.{IsReadOff}
+use Rattle.desk.proofs.Short.{short_call, spelled_off}
 use Rattle.desk.proofs.Running.{is_unstopped}
 use Rattle.desk.specs.declared.turn.Turn.{Turn}
 use Rattle.reasons.specs.Shown.{IsLineShown, IsShown}
@@ -125,6 +126,12 @@ pub short_read : (line : List ℕ) (read : Result Call LineFault) → length lin
 short_read line (Ok call) short is = short_call line call short is.1
 short_read line (Err faults.Grammar) short is = tt
 short_read line (Err faults.Memory) short is = tt
+
+-- what is read as a report without a mark is its line
+pub read_off : (line : List ℕ) (read : Result Call LineFault) → Reads read line → IsReadOff line (call_read read)
+read_off line (Ok call) is = spelled_off line call is.1
+read_off line (Err faults.Grammar) is = tt
+read_off line (Err faults.Memory) is = tt
 
 -- each of the lines is one
 pub line_at : (lines : List (List ℕ)) (i : ℕ) (line : List ℕ) → AllByRecursion IsLine lines → slice_get lines i ≡ Some line → IsLine line

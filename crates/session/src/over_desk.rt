@@ -44,7 +44,7 @@ fn serve_by_desk<D: Disk, K: Link>(desk: &mut Desk<D>, link: &mut K, line: &[u8]
     let read = read_line(desk.chains().alloc(), line);
     let last = is_bye(&read);
     // By reference: to move the reply takes as long as to write it.
-    match &make_turn(desk, read) {
+    match &make_turn(desk, line, read) {
         Err(fault) => Some(kind_of(*fault)),
         Ok(shown) => match put_reply(link, shown) {
             Ok(()) if last => Some(Kind::Bye),

@@ -3,6 +3,7 @@
 ghost use Rattle.std.specs.Prelude.{◌≡◌, ◌≢◌, ℕ, List, None};
 ghost use Rattle.chains.specs.Held.{held_of};
 ghost use Rattle.desk.specs.Files.{IsShort};
+ghost use Rattle.desk.specs.Records.{IsReadOff};
 ghost use Rattle.reasons.specs.Shown.{IsShown};
 ghost use Rattle.line_text.specs.Questions.{IsChosenFor};
 ghost use Rattle.session.specs.Parts.{MakesTurn, call_read};
@@ -70,12 +71,14 @@ pub(crate) fn call_of(read: Result<Call, LineFault>) -> Call
 #[inline(always)]
 pub(crate) fn make_turn<D: Disk>(
     desk: &mut Desk<D>,
+    line: &[u8],
     read: Result<Call, LineFault>,
 ) -> Result<Reply, TurnFault>
-    requires { IsShort (call_read read) }
+    requires short { IsShort (call_read read) }
+    requires read { IsReadOff line.now (call_read read) }
     ensures { MakesTurn D.keeps desk.old (call_read read) desk.new result }
 {
-    let receipt = desk.turn(call_of(read))?;
+    let receipt = desk.turn_read(line, call_of(read))?;
     match desk.turns().last() {
         Some(turn) => Ok(shown_for(desk.chains(), &turn.call, receipt.reply)),
         None => Ok(receipt.reply),

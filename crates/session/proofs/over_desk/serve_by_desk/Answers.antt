@@ -3,13 +3,16 @@ use Rattle.std.proofs.lemmas.Bool.{false≢true}
 use Rattle.session.specs.SessionText.{at_desk}
 use Rattle.session.specs.Turned.{MakesTurns}
 use Rattle.session.specs.Parts.{call_read}
-use Rattle.session.proofs.TurnSteps.{means_read, short_read, bye_read}
+use Rattle.session.proofs.TurnSteps.{means_read, short_read, read_off, bye_read}
 use Rattle.session.proofs.ServeSteps.{said_on, said_bye, said_part}
 use Rattle.session.proofs.OverDesk.{desk_lawful, none_said}
 use Rattle.session.proofs.over_desk.serve_by_desk.Goals as goal
 
-pub make_turn-requires : goal.make_turn-requires
-make_turn-requires g c = short_read c.args.line.now c.read_line-read.result c.requires.short c.read_line-read.ensures.exact
+pub make_turn-requires-clause-short : goal.make_turn-requires-clause-short
+make_turn-requires-clause-short g c = short_read c.args.line.now c.read_line-read.result c.requires.short c.read_line-read.ensures.exact
+
+pub make_turn-requires-clause-read : goal.make_turn-requires-clause-read
+make_turn-requires-clause-read g c = read_off c.args.line.now c.read_line-read.result c.read_line-read.ensures.exact
 
 pub returns-in-Err : goal.returns-in-Err
 returns-in-Err g c =

@@ -18,6 +18,6 @@ returns-in-Some g c =
     subst (λ (t : Turn). (text : List ℕ) → receipt.reply ≢ replies.Line text → c.shown_for.result ≡ replies.Line text → IsChosenFor (held_of c.chains.result.now) t.call text) same c.shown_for.ensures.chosen in
     rw (sym c.call_of.ensures) (
       receipt.reply,
-      makes_turn g.D.Disk.keeps c.args.desk.now c.turn.new.self c.chains.result.now c.call_of.result receipt.reply c.shown_for.result receipt.turn made.step made.turns made.number made.opening made.found made.premise c.chains.ensures.held
+      makes_turn g.D.Disk.keeps c.args.desk.now c.turn_read.new.self c.chains.result.now c.call_of.result receipt.reply c.shown_for.result receipt.turn made.step made.turns made.number made.opening made.found made.premise c.chains.ensures.held
           fits chose,
     )

@@ -10,7 +10,7 @@ use Rattle.desk.proofs.Deciding.{stopped_only, before_left}
 use Rattle.desk.proofs.Turning.{step_same, placed_same, always_by}
 use Rattle.desk.proofs.Turned.{rests, lawful_then, placed_then}
 use Rattle.desk.proofs.LawfulTurns.{turn_of_histories}
-use Rattle.desk.proofs.desk.Desk.turn.Goals as goal
+use Rattle.desk.proofs.desk.Desk.turn_by.Goals as goal
 
 pub invariant_of-self-2 : goal.invariant_of-self-2
 invariant_of-self-2 g c =

@@ -4,3 +4,4 @@ pub mod InLists
 pub mod Taking
 pub mod ReadBack
 pub mod WrittenRead
+pub mod Rows

@@ -5,3 +5,4 @@ pub mod Reading
 pub mod Json
 pub mod Shown
 pub mod Codes
+pub mod Straight

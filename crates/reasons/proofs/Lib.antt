@@ -2,6 +2,7 @@ pub mod PlainNames
 pub mod Writing
 pub mod InLists
 pub mod Taking
+pub mod Broken
 pub mod ReadBack
 pub mod WrittenRead
 pub mod Rows

@@ -20,6 +20,7 @@ use Rattle.serde_json.specs.Read.{of_json, of_items, max_depth}
 use Rattle.serde_json.specs.Written.{outline, items_outline, compact_text, items_text, members_text}
 use Rattle.reasons.specs.CertificateReading.{items_by, IsJsonOf}
 use Rattle.reasons.specs.Json.{IsWritten, AreWritten}
+use Rattle.reasons.proofs.Broken.{tokens_broken}
 
 -- as JSON it is read as the same value, no deeper than this, and its text is UTF-8
 pub record IsReadBack (d : Data) (n : ℕ) : Type 0 where
@@ -127,13 +128,22 @@ weaker d m n low is = record { numbers = is.numbers; back = is.back; shallow = o
 abbrev whole : Option (json.Json × List Token) → Option Data
 whole o = option_and_then of_json (option_and_then (λ p. json.if_last p.0 p.1) o)
 
+-- a text of these tokens is one of the value
+tokens_back : (d : Data) (text : List ℕ) (n : ℕ) → n ≤ max_depth → IsReadBack d n → tokens text ≡ tree.json_tokens (outline d) → whole (json.value max_depth (tokens text)) ≡ Some d
+tokens_back d text n low is same =
+    ap whole (ap (json.value max_depth) (same ∙ sym (append-nil _)) ∙ value-json_tokens (outline d) max_depth [] (omega (arith, is.shallow))) ∙ is.back
+
+printed_back : (d : Data) (text : List ℕ) (n : ℕ) → IsWritten d text → IsReadBack d n → tokens text ≡ tree.json_tokens (outline d)
+printed_back d text n written is = ap tokens (sym written.text_is ∙ sym (print-outline d)) ∙ tokens-print (tree.json_tokens (outline d)) (ArePrintable-json_tokens (outline d) is.numbers)
+
 -- a text that is written of such a value is one of it
 pub text_of_back : (d : Data) (text : List ℕ) (n : ℕ) → n ≤ max_depth → IsWritten d text → IsReadBack d n → IsJsonOf text d
-text_of_back d text n low written is = (
-  subst (λ (t : List ℕ). IsUtf8 t) written.text_is is.utf8,
-  ap whole
-      (ap (λ (t : List ℕ). json.value max_depth (tokens t)) (sym written.text_is ∙ sym (print-outline d))
-      ∙ ap (json.value max_depth) (tokens-print (tree.json_tokens (outline d)) (ArePrintable-json_tokens (outline d) is.numbers) ∙ sym (append-nil _))
-      ∙ value-json_tokens (outline d) max_depth [] (omega (arith, is.shallow)))
-      ∙ is.back,
+text_of_back d text n low written is = (subst (λ (t : List ℕ). IsUtf8 t) written.text_is is.utf8, tokens_back d text n low is (printed_back d text n written is))
+
+-- and with a line feed behind it too
+pub broken_text_of_back : (d : Data) (text : List ℕ) (n : ℕ) → n ≤ max_depth → IsWritten d text → IsReadBack d n → IsJsonOf (text ++ 10 ∷ []) d
+broken_text_of_back d text n low written is = (
+  IsUtf8-append text (10 ∷ []) (subst (λ (t : List ℕ). IsUtf8 t) written.text_is is.utf8) (byte_utf8 10 (omega arith)),
+  tokens_back d (text ++ 10 ∷ []) n low is
+      (ap (λ (t : List ℕ). tokens (t ++ 10 ∷ [])) (sym written.text_is ∙ sym (print-outline d)) ∙ tokens_broken (tree.json_tokens (outline d)) (ArePrintable-json_tokens (outline d) is.numbers)),
 )

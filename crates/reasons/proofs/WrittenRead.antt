@@ -1,5 +1,5 @@
 -- Written certificates are read as what they were.
-use Rattle.std.proofs.Common.{◌≡◌, ℕ, zero, suc, ◌<◌, List, [], ◌∷◌, codes, map, length, Some, None, Result, Ok, Err, IsTrue, inl, inr, ◌⊎◌, refl, sym, ap, ap₂, subst, ◌∙◌, arith}
+use Rattle.std.proofs.Common.{◌≡◌, ℕ, zero, suc, ◌<◌, List, [], ◌∷◌, ◌++◌, codes, map, length, Some, None, Result, Ok, Err, IsTrue, inl, inr, ◌⊎◌, refl, sym, ap, ap₂, subst, ◌∙◌, arith}
 use Rattle.std.proofs.Math.Seq.{get_or-append_seam}
 use Rattle.std.proofs.lemmas.List.{length-append}
 use Rattle.std.proofs.lemmas.Option.{slice_get_within, get_or_from_slice_get}
@@ -26,7 +26,7 @@ use Rattle.reasons.specs.CertificateText.{quoted, bracketed, position_text, show
 use Rattle.reasons.specs.CertificateReading.{NamedPlace, NamedCertificate, items_by, position_data, place_data, places_data, IsSmall, HasSmallPosition, IsValueOf, names_in, IsNameKnown, IsFirstUnknownText, place_named, IsNumbered, IsKnownPlace, HasKnownNumbers, IsCertificateText, IsReadAs}
 use Rattle.reasons.specs.Json.{IsWritten}
 use Rattle.reasons.proofs.PlainNames.{name_bytes, name_utf8, plain_text}
-use Rattle.reasons.proofs.ReadBack.{IsReadBack, string_back, number_back, pair_back, each_back, each_written, array_back, object_back, weaker, text_of_back, four_members}
+use Rattle.reasons.proofs.ReadBack.{IsReadBack, string_back, number_back, pair_back, each_back, each_written, array_back, object_back, weaker, text_of_back, broken_text_of_back, four_members}
 use Rattle.reasons.proofs.Taking.{all_both, all_three}
 use Rattle.reasons.proofs.Writing.{array_written, object_written}
 
@@ -282,6 +282,15 @@ all_known accepted names c k =
 
 pub read_again : (accepted : List Report) → AreNames accepted → (c : Certificate) → HasKnownNumbers accepted c → IsReadAs accepted (certificate_text accepted c) (Ok c)
 read_again accepted names c k = (with_names accepted c, is_its_text accepted names c k, all_known accepted names c k, numbered accepted c k)
+
+-- and with a line feed behind it
+pub broken_read_again : (accepted : List Report) → AreNames accepted → (c : Certificate) → HasKnownNumbers accepted c → IsReadAs accepted (certificate_text accepted c ++ 10 ∷ []) (Ok c)
+broken_read_again accepted names c k = (
+  with_names accepted c,
+  (data_of accepted c, broken_text_of_back _ (certificate_text accepted c) 4 (omega arith) (text_written accepted names c k) (data_back accepted names c k), data_is accepted c k),
+  all_known accepted names c k,
+  numbered accepted c k,
+)
 
 not_unknown : (accepted : List Report) (names : List Name) (text : Name) → All (IsNameKnown accepted) names → ¬ IsFirstUnknownText accepted names text
 not_unknown accepted names text all first =

@@ -1,6 +1,6 @@
 //! Certificates as they are read.
 
-ghost use Rattle.std.specs.Prelude.{◌≡◌, ◌∷◌, [], List, Some, None, map, flat_map, All, MatchOption, MatchResult};
+ghost use Rattle.std.specs.Prelude.{◌≡◌, ◌⊎◌, ◌∷◌, ◌++◌, [], List, Some, None, map, flat_map, All, MatchOption, MatchResult};
 ghost use Rattle.chains.specs.Processes.{Name as AnyName};
 ghost use Rattle.chains.specs.Elements.{name_of};
 ghost use Rattle.serde_json.specs.Data.{array, string};
@@ -137,13 +137,23 @@ fn from_value(chains: &Chains, bytes: &[u8]) -> Result<Certificate, CertificateF
     certificate_in(chains, &value)
 }
 
+/// The bytes less a line feed at their end.
+fn without_break(bytes: &[u8]) -> &[u8]
+    ensures { (bytes.now ≡ result.now) ⊎ (bytes.now ≡ result.now ++ 10 ∷ []) }
+{
+    match bytes.strip_suffix(b"\n") {
+        Some(text) => text,
+        None => bytes,
+    }
+}
+
 /// The certificate of which the bytes are a text: any JSON text of that shape, in whatever order its members stand. A text
 /// that is not JSON is told of first, then one of another shape, then the first name that no process has. `Memory` may come
 /// in place of any, where a growth was refused.
 pub fn from_json(chains: &Chains, bytes: &[u8]) -> Result<Certificate, CertificateFault>
     ensures { IsReadAs chains.now.accepted bytes.now result }
 {
-    let Some(certificate) = straight::read(chains, bytes) else {
+    let Some(certificate) = straight::read(chains, without_break(bytes)) else {
         return from_value(chains, bytes);
     };
     written_certificates_are_read(chains);

@@ -1,6 +1,6 @@
 //! Written certificates are read as what they were.
 
-ghost use Rattle.std.specs.Prelude.{◌≡◌, ◌⊎◌, ℕ, Some, Result, Ok, Err, IsTrue};
+ghost use Rattle.std.specs.Prelude.{◌≡◌, ◌⊎◌, ◌∷◌, ◌++◌, [], ℕ, Some, Result, Ok, Err, IsTrue};
 ghost use Rattle.report_line.specs.Names.{is_name};
 ghost use Rattle.chains.specs.Processes.{Name as AnyName};
 ghost use Rattle.chains.specs.Elements.{name_of};
@@ -22,9 +22,10 @@ fn known_names_are_names(chains: &Chains)
 }
 
 /// The text of a certificate over these chains, whose numbers are those of known processes and within their limits, is read
-/// as just that certificate, want of memory aside.
+/// as just that certificate, want of memory aside; so is one with a line feed behind it, as files have it.
 pub fn written_certificates_are_read(chains: &Chains)
     ensures read { (c : AnyCertificate) → HasKnownNumbers chains.now.accepted c → IsReadAs chains.now.accepted (certificate_text chains.now.accepted c) (Ok c) }
+    ensures broken { (c : AnyCertificate) → HasKnownNumbers chains.now.accepted c → IsReadAs chains.now.accepted (certificate_text chains.now.accepted c ++ 10 ∷ []) (Ok c) }
     ensures only { (c : AnyCertificate) → HasKnownNumbers chains.now.accepted c → (result : Result AnyCertificate CertificateFault)
         → IsReadAs chains.now.accepted (certificate_text chains.now.accepted c) result → (result ≡ Ok c) ⊎ (result ≡ Err Memory) }
 {

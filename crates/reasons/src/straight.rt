@@ -221,7 +221,7 @@ fn take_all(
 pub fn read(chains: &Chains, bytes: &[u8]) -> Option<Certificate>
     ensures { IfSome result (λ c. IsStraight chains.now.accepted bytes.now c) }
 {
-    // A text with white space behind it is not read twice.
+    // A text with something behind it, as more white space, is not read twice.
     if !bytes.ends_with(b"]}") {
         return None;
     }

@@ -1,11 +1,11 @@
 //! The entries that a tree is kept as: its nodes and leaves in preorder, each with its value and the size of its part.
 
-ghost use Rattle.std.specs.Prelude.{◌≡◌, ◌↔◌, ◌++◌, IsTrue, OnOk};
+ghost use Rattle.std.specs.Prelude.{◌≡◌, ◌↔◌, ◌≤◌, ◌++◌, [], IsTrue, IsOk, IfOk, OnOk, length};
 ghost use Rattle.event_tree.specs.EventTree.{Leaf};
 ghost use Rattle.event_tree.specs.Entries.{preorder};
 
 use smallvec::SmallVec;
-use std::alloc::AllocError;
+use std::alloc::{AllocError, Global};
 
 /// A node or a leaf of an event tree: the value above its base, and how many entries its part has, which is 1 for a leaf.
 #[derive(Clone, Copy, Debug, Default, PartialEq, Eq)]
@@ -16,6 +16,32 @@ pub struct Entry {
 
 /// The entries of an event tree.
 pub type Entries = SmallVec<Entry, 8>;
+
+// How many entries a list holds without memory of its own.
+const INLINE: usize = 8;
+
+// No entries, and room for so many. Of more than a list holds itself they stand in one block from the start.
+pub fn with_room(alloc: Global, room: usize) -> Result<Entries, AllocError>
+    ensures items { IfOk result (λ entries. entries.items ≡ []) }
+{
+    if room <= INLINE {
+        return Ok(SmallVec::new(alloc));
+    }
+    let block = Vec::with_capacity(alloc, room)?;
+    Ok(SmallVec::from_vec(block))
+}
+
+// The same entries once more.
+pub fn copied(alloc: Global, entries: &[Entry]) -> Result<Entries, AllocError>
+    ensures copy { IfOk result (λ copy. copy.items ≡ entries.now) }
+    ensures small { length entries.now ≤ 8 → IsOk result }
+{
+    if entries.len() <= INLINE {
+        return SmallVec::from_slice(alloc, entries);
+    }
+    let block = Vec::from_slice(alloc, entries)?;
+    Ok(SmallVec::from_vec(block))
+}
 
 // Whether both are the same.
 pub fn are_same(entries: &[Entry], others: &[Entry]) -> bool

@@ -16,7 +16,6 @@ use crate::entries::{self, Entries, Entry};
 use crate::node::Node;
 use crate::part::{EventPart, EventView};
 use id_tree::{IdPart, IdView};
-use smallvec::SmallVec;
 use std::alloc::{AllocError, Global};
 
 // The greatest value.
@@ -163,7 +162,7 @@ fn grown(alloc: Global, id: &IdView, e: &EventView) -> Result<Option<Node>, Allo
     requires fits { greatest e.now < 2 ^ 32 }
     ensures { IfOk result (λ o. MatchOption o (2 ^ 32 ≤ greatest (events.grow id.now e.now)) (λ node. (node ≡ events.grow id.now e.now) × (greatest (events.grow id.now e.now) < 2 ^ 32))) }
 {
-    let mut out = SmallVec::with_capacity(alloc, e.entries().len())?;
+    let mut out = entries::with_room(alloc, e.entries().len())?;
     if grown_into(&mut out, id, 0, e)? {
         Ok(Some(Node::of(out)))
     } else {
@@ -178,7 +177,7 @@ fn filled(alloc: Global, id: &IdView, e: &EventView) -> Result<Node, AllocError>
     requires fits { greatest e.now < 2 ^ 32 }
     ensures { IfOk result (λ node. node ≡ walks.filled id.now e.now) }
 {
-    let mut out = SmallVec::with_capacity(alloc, e.entries().len())?;
+    let mut out = entries::with_room(alloc, e.entries().len())?;
     filled_into(&mut out, id, e)?;
     Ok(Node::of(out))
 }

@@ -9,7 +9,6 @@ use crate::closing;
 use crate::entries::{self, Entries, Entry};
 use crate::node::Node;
 use crate::part::{EventPart, EventView};
-use smallvec::SmallVec;
 use std::alloc::{AllocError, Global};
 
 /// Which of two values is taken at a point.
@@ -111,7 +110,7 @@ pub fn combined(alloc: Global, pick: Pick, e: &EventView, f: &EventView) -> Resu
     ensures { IfOk result (λ node. node ≡ walks.combined_from pick 0 e.now 0 f.now) }
 {
     let room = e.entries().len().max(f.entries().len());
-    let mut out = SmallVec::with_capacity(alloc, room)?;
+    let mut out = entries::with_room(alloc, room)?;
     combined_into(&mut out, pick, 0, e, 0, f)?;
     Ok(Node::of(out))
 }

@@ -3,6 +3,8 @@ pub mod Preorder
 pub mod Closed
 pub mod Measures
 pub mod Orders
+pub mod Sequences
+pub mod Pending
 pub mod Numerals
 pub mod Takes
 pub mod Texts

@@ -35,6 +35,7 @@ mod part;
 mod pointwise;
 mod reader;
 mod restricted;
+mod sequence;
 mod straight;
 mod text;
 

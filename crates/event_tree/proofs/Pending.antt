@@ -1,6 +1,7 @@
 -- Pairs of trees that are still to be compared.
-use Rattle.std.proofs.Common.{◌≡◌, ◌≢◌, ℕ, zero, suc, ◌+◌, ◌-◌, ◌≤◌, ◌<◌, false, true, Bool, List, [], ◌∷◌, length, get_or, set, refl, sym, ap, ◌∙◌, arith, subst, length-set, get_or-set_same, get_or-set_other}
+use Rattle.std.proofs.Common.{◌≡◌, ◌≢◌, ℕ, zero, suc, ◌+◌, ◌-◌, ◌≤◌, ◌<◌, false, true, Bool, List, [], ◌∷◌, length, get_or, set, le-leb, refl, sym, ap, ◌∙◌, arith, subst, length-set, get_or-set_same, get_or-set_other}
 use Rattle.std.specs.Prelude.{nat_le, ◌&&◌}
+use Rattle.std.proofs.lemmas.Bool.{lt-leb}
 use Rattle.event_tree.specs.EventTree.{EventTree, Leaf, Node}
 use Rattle.event_tree.specs.NormalForm.{IsNormal, greatest}
 use Rattle.event_tree.specs.Halves.{root}
@@ -8,15 +9,15 @@ use Rattle.event_tree.specs.Size.{size}
 use Rattle.event_tree.specs.Entries.{first, later}
 use Rattle.event_tree.specs.Tests.{is_below_from}
 use Rattle.event_tree.specs.Sequences.{halved}
-use Rattle.event_tree.specs.Pending.{bases_at, waiting, are_below, ArePairs, IsLeft}
+use Rattle.event_tree.specs.Pending.{bases_at, waiting, are_below, ArePairs, sizes, IsLeft}
 use Rattle.event_tree.specs.declared.order.Bases.{Bases}
 use Rattle.event_tree.proofs.Trees.{root_least}
 use Rattle.event_tree.proofs.Preorder.{some_size}
-use Rattle.event_tree.proofs.Orders.{below_leaf, below_limit}
+use Rattle.event_tree.proofs.Orders.{below_leaf}
 
 -- ---- one pair, by the sizes of its trees
 
-pub below_of_leaf : (x : ℕ) (t : EventTree) (y : ℕ) (u : EventTree) (m n : ℕ) → size t ≤ 1 → m ≡ root t → n ≡ root u → IsNormal u → nat_le (x + m) (y + n) ≡ is_below_from x t y u
+below_of_leaf : (x : ℕ) (t : EventTree) (y : ℕ) (u : EventTree) (m n : ℕ) → size t ≤ 1 → m ≡ root t → n ≡ root u → IsNormal u → nat_le (x + m) (y + n) ≡ is_below_from x t y u
 below_of_leaf x (Leaf k) y u m n small e f normal = let least_is = f ∙ root_least u normal in rw (e, least_is) refl
 below_of_leaf x (Node k a b) y u m n small e f normal = absurd (omega (arith, small, some_size a, some_size b))
 
@@ -24,9 +25,11 @@ pub below_a_leaf : (x : ℕ) (t : EventTree) (y : ℕ) (u : EventTree) (n : ℕ)
 below_a_leaf x t y (Leaf k) n small e = rw e (below_leaf x t y k)
 below_a_leaf x t y (Node k a b) n small e = absurd (omega (arith, small, some_size a, some_size b))
 
-pub below_the_limit : (x : ℕ) (t : EventTree) (y : ℕ) (u : EventTree) (n : ℕ) → size u ≤ 1 → n ≡ root u → x + greatest t < 4294967296 → y + n ≡ 4294967295 → true ≡ is_below_from x t y u
-below_the_limit x t y (Leaf k) n small e fits full = below_limit x t y k fits (omega (arith, e, full))
-below_the_limit x t y (Node k a b) n small e fits full = absurd (omega (arith, small, some_size a, some_size b))
+pub leaf_below : (x : ℕ) (t : EventTree) (y : ℕ) (u : EventTree) (m n : ℕ) → size t ≤ 1 → m ≡ root t → n ≡ root u → IsNormal u → x + m ≤ y + n → is_below_from x t y u ≡ true
+leaf_below x t y u m n small e f normal h = sym (below_of_leaf x t y u m n small e f normal) ∙ le-leb (x + m) (y + n) h
+
+pub leaf_not_below : (x : ℕ) (t : EventTree) (y : ℕ) (u : EventTree) (m n : ℕ) → size t ≤ 1 → m ≡ root t → n ≡ root u → IsNormal u → y + n < x + m → is_below_from x t y u ≡ false
+leaf_not_below x t y u m n small e f normal h = sym (below_of_leaf x t y u m n small e f normal) ∙ lt-leb (x + m) (y + n) h
 
 -- ---- the stack
 
@@ -56,12 +59,27 @@ first_of b bs [] us h = absurd h
 first_of b bs (t ∷ ts) [] h = absurd h
 first_of b bs (t ∷ ts) (u ∷ us) h = record { some = omega arith; some_other = omega arith; fits = h.0; other_fits = h.1; normal = h.2 }
 
-pub first_pair : (b : Bases) (stack : List Bases) (n : ℕ) (ts us : List EventTree) (answer : Bool) → IsLeft b stack n ts us answer → IsFirst b ts us
-first_pair b stack n ts us answer h = first_of b (waiting stack n) ts us h.pairs
+pub first_pair : (b : Bases) (stack : List Bases) (n : ℕ) (ts us : List EventTree) (answer : Bool) (whole : ℕ) → IsLeft b stack n ts us answer whole → IsFirst b ts us
+first_pair b stack n ts us answer whole h = first_of b (waiting stack n) ts us h.pairs
 
 pub root_within : (t : EventTree) → root t ≤ greatest t
 root_within (Leaf n) = omega arith
 root_within (Node n a b) = omega arith
+
+-- ---- how much is left
+
+pub halved_smaller : (ts : List EventTree) → 1 < size (first ts) → sizes (halved ts) < sizes ts
+halved_smaller [] big = absurd (omega (arith, big))
+halved_smaller (Leaf n ∷ ts) big = absurd (omega (arith, big))
+halved_smaller (Node n a b ∷ ts) big = omega arith
+
+pub later_smaller : (ts : List EventTree) → 0 < length ts → sizes (later ts) < sizes ts
+later_smaller [] some = absurd (omega (arith, some))
+later_smaller (t ∷ ts) some = omega (arith, some_size t)
+
+pub first_within : (ts : List EventTree) → 0 < length ts → size (first ts) ≤ sizes ts
+first_within [] some = absurd (omega (arith, some))
+first_within (t ∷ ts) some = omega arith
 
 -- ---- the steps
 
@@ -73,9 +91,9 @@ and_assoc : (p q r : Bool) → ((p && q) && r) ≡ (p && (q && r))
 and_assoc true q r = refl
 and_assoc false q r = refl
 
-pub left_at_start : (x : ℕ) (t : EventTree) (y : ℕ) (u : EventTree) (stack : List Bases) → x + greatest t < 4294967296 → y + greatest u < 4294967296 → IsNormal u → length stack ≡ 32
-    → IsLeft (bases_at x y) stack 0 (t ∷ []) (u ∷ []) (is_below_from x t y u)
-left_at_start x t y u stack fits other_fits normal long = record { pairs = (fits, other_fits, normal, tt); same = and_true (is_below_from x t y u); long = long; room = omega arith }
+pub left_at_start : (x : ℕ) (t : EventTree) (y : ℕ) (u : EventTree) (stack : List Bases) → x + greatest t < 4294967296 → y + greatest u < 4294967296 → IsNormal u → length stack ≡ 16
+    → IsLeft (bases_at x y) stack 0 (t ∷ []) (u ∷ []) (is_below_from x t y u) (size t)
+left_at_start x t y u stack fits other_fits normal long = record { pairs = (fits, other_fits, normal, tt); same = and_true (is_below_from x t y u); long = long; room = omega arith; within = omega arith }
 
 -- both halves in place of the first pair, above the greater bases
 both_halves : (b : Bases) (bs : List Bases) (ts us : List EventTree) → ArePairs (b ∷ bs) ts us → 1 < size (first ts) → 1 < size (first us)
@@ -90,10 +108,10 @@ both_halves b bs (Node m p q ∷ ts) (Node n r s ∷ us) h some other = (
   and_assoc (is_below_from (b.one + m) p (b.other + n) r) (is_below_from (b.one + m) q (b.other + n) s) (are_below bs ts us),
 )
 
-pub left_open : (b : Bases) (stack : List Bases) (n v w : ℕ) (ts us ps qs : List EventTree) (answer : Bool) → IsLeft b stack n ts us answer → 1 < size (first ts) → 1 < size (first us) → n < 32
+pub left_open : (b : Bases) (stack : List Bases) (n v w : ℕ) (ts us ps qs : List EventTree) (answer : Bool) (whole : ℕ) → IsLeft b stack n ts us answer whole → 1 < size (first ts) → 1 < size (first us) → n < 16
     → v ≡ root (first ts) → w ≡ root (first us) → ps ≡ halved ts → qs ≡ halved us
-    → IsLeft (bases_at (b.one + v) (b.other + w)) (set stack n (bases_at (b.one + v) (b.other + w))) (n + 1) ps qs answer
-left_open b stack n v w ts us ps qs answer h some other low v_is w_is p q =
+    → IsLeft (bases_at (b.one + v) (b.other + w)) (set stack n (bases_at (b.one + v) (b.other + w))) (n + 1) ps qs answer whole
+left_open b stack n v w ts us ps qs answer whole h some other low v_is w_is p q =
     let both = both_halves b (waiting stack n) ts us h.pairs some other in
     let c = bases_at (b.one + root (first ts)) (b.other + root (first us)) in
     let up : n + 1 ≡ suc n = omega arith in
@@ -103,6 +121,7 @@ left_open b stack n v w ts us ps qs answer h some other low v_is w_is p q =
       same = h.same ∙ both.1 ∙ ap (λ (bs : List Bases). are_below bs (halved ts) (halved us)) there;
       long = length-set stack n c ∙ h.long;
       room = omega (arith, low);
+      within = omega (arith, h.within, halved_smaller ts some);
     })
 
 -- the first pair is passed over
@@ -111,9 +130,9 @@ passed b bs [] us h = absurd h
 passed b bs (t ∷ ts) [] h = absurd h
 passed b bs (t ∷ ts) (u ∷ us) h = h.3
 
-pub left_behind : (b : Bases) (stack : List Bases) (n m : ℕ) (ts us ps qs : List EventTree) (answer : Bool) → IsLeft b stack n ts us answer → is_below_from b.one (first ts) b.other (first us) ≡ true → n ≢ 0 → m ≡ n - 1 → ps ≡ later ts → qs ≡ later us
-    → IsLeft (get_or stack m (bases_at 0 0)) stack m ps qs answer
-left_behind b stack n m ts us ps qs answer h below some less p q =
+pub left_behind : (b : Bases) (stack : List Bases) (n m : ℕ) (ts us ps qs : List EventTree) (answer : Bool) (whole : ℕ) → IsLeft b stack n ts us answer whole → is_below_from b.one (first ts) b.other (first us) ≡ true → n ≢ 0 → m ≡ n - 1 → ps ≡ later ts → qs ≡ later us
+    → IsLeft (get_or stack m (bases_at 0 0)) stack m ps qs answer whole
+left_behind b stack n m ts us ps qs answer whole h below some less p q =
     let up : n ≡ suc m = omega (arith, some, less) in
     let rest : are_below (b ∷ waiting stack n) ts us ≡ are_below (waiting stack n) (later ts) (later us) = rw below refl in
     rw (p, q) (record {
@@ -121,25 +140,11 @@ left_behind b stack n m ts us ps qs answer h below some less p q =
       same = h.same ∙ rest ∙ ap (λ (k : ℕ). are_below (waiting stack k) (later ts) (later us)) up;
       long = h.long;
       room = omega (arith, h.room, less);
+      within = omega (arith, h.within, less, some, later_smaller ts (first_pair b stack n ts us answer whole h).some);
     })
 
-pub none_left : (b : Bases) (stack : List Bases) (n : ℕ) (ts us : List EventTree) (answer : Bool) → IsLeft b stack n ts us answer → is_below_from b.one (first ts) b.other (first us) ≡ true → n ≡ 0 → true ≡ answer
-none_left b stack n ts us answer h below none = sym (h.same ∙ rw (below, none) refl)
+pub none_left : (b : Bases) (stack : List Bases) (n : ℕ) (ts us : List EventTree) (answer : Bool) (whole : ℕ) → IsLeft b stack n ts us answer whole → is_below_from b.one (first ts) b.other (first us) ≡ true → n ≡ 0 → true ≡ answer
+none_left b stack n ts us answer whole h below none = sym (h.same ∙ rw (below, none) refl)
 
-pub not_left : (b : Bases) (stack : List Bases) (n : ℕ) (ts us : List EventTree) (answer : Bool) → IsLeft b stack n ts us answer → is_below_from b.one (first ts) b.other (first us) ≡ false → false ≡ answer
-not_left b stack n ts us answer h above = sym (h.same ∙ rw above refl)
-
--- ---- how much is left
-
-abbrev pub sizes : List EventTree → ℕ
-sizes [] = 0
-sizes (t ∷ ts) = size t + sizes ts
-
-pub halved_smaller : (ts : List EventTree) → 1 < size (first ts) → sizes (halved ts) < sizes ts
-halved_smaller [] big = absurd (omega (arith, big))
-halved_smaller (Leaf n ∷ ts) big = absurd (omega (arith, big))
-halved_smaller (Node n a b ∷ ts) big = omega arith
-
-pub later_smaller : (ts : List EventTree) → 0 < length ts → sizes (later ts) < sizes ts
-later_smaller [] some = absurd (omega (arith, some))
-later_smaller (t ∷ ts) some = omega (arith, some_size t)
+pub not_left : (b : Bases) (stack : List Bases) (n : ℕ) (ts us : List EventTree) (answer : Bool) (whole : ℕ) → IsLeft b stack n ts us answer whole → is_below_from b.one (first ts) b.other (first us) ≡ false → false ≡ answer
+not_left b stack n ts us answer whole h above = sym (h.same ∙ rw above refl)

@@ -3,6 +3,7 @@ use Rattle.std.specs.Prelude.{◌≡◌, ℕ, zero, suc, ◌+◌, ◌<◌, ◌�
 use Rattle.event_tree.specs.EventTree.{EventTree}
 use Rattle.event_tree.specs.NormalForm.{IsNormal, greatest}
 use Rattle.event_tree.specs.Entries.{first, later}
+use Rattle.event_tree.specs.Size.{size}
 use Rattle.event_tree.specs.Tests.{is_below_from}
 use Rattle.event_tree.specs.declared.order.Bases.{Bases}
 
@@ -25,9 +26,16 @@ ArePairs [] [] [] = ⊤
 ArePairs (b ∷ bs) (t ∷ ts) (u ∷ us) = (b.one + greatest t < 4294967296) × (b.other + greatest u < 4294967296) × IsNormal u × ArePairs bs ts us
 ArePairs _ _ _ = ⊥
 
--- what is left to compare, above these bases and those that wait, comes to this answer
-pub record IsLeft (b : Bases) (stack : List Bases) (n : ℕ) (ts us : List EventTree) (answer : Bool) : Type 0 where
+-- how many nodes and leaves they have
+abbrev pub sizes : List EventTree → ℕ
+sizes [] = 0
+sizes (t ∷ ts) = size t + sizes ts
+
+-- what is left to compare, above these bases and those that wait, comes to this answer; with the nodes that are open it is no more than
+-- the whole
+pub record IsLeft (b : Bases) (stack : List Bases) (n : ℕ) (ts us : List EventTree) (answer : Bool) (whole : ℕ) : Type 0 where
   pub pairs : ArePairs (b ∷ waiting stack n) ts us
   pub same : answer ≡ are_below (b ∷ waiting stack n) ts us
-  pub long : length stack ≡ 32
-  pub room : n ≤ 32
+  pub long : length stack ≡ 16
+  pub room : n ≤ 16
+  pub within : sizes ts + n ≤ whole

@@ -98,3 +98,11 @@ below_leaf x (Node m a b) y n =
 -- at or below a leaf at the limit stands each tree
 pub below_limit : (x : ℕ) (e : EventTree) (y n : ℕ) → x + greatest e < 4294967296 → y + n ≡ 4294967295 → true ≡ is_below_from x e y (Leaf n)
 below_limit x e y n fits full = sym (le-leb (x + greatest e) (y + n) (omega (arith, fits, full))) ∙ below_leaf x e y n
+
+-- what is at or below another tree exceeds it nowhere
+pub below_exceeds_nowhere : (i : IdTree) (x : ℕ) (e : EventTree) (y : ℕ) (f : EventTree) → is_below_from x e y f ≡ true → exceeds_from i x e y f ≡ false
+below_exceeds_nowhere i x e y f h =
+    elim (cases_Bool (exceeds_from i x e y f)) [
+      | inl some ↦ let q = exceeds_from-true i x e y f some in absurd (omega (arith, q.2, below_from-true x e y f h q.0))
+      | inr none ↦ none
+    ]

@@ -1,10 +1,12 @@
 -- Working definitions: pairs of trees that are still to be compared.
-use Rattle.std.specs.Prelude.{◌≡◌, ℕ, zero, suc, ◌+◌, ◌<◌, ◌≤◌, ◌&&◌, Bool, true, ⊤, List, [], ◌∷◌, length, slice_index_or}
+use Rattle.std.specs.Prelude.{◌≡◌, ℕ, zero, suc, ◌+◌, ◌<◌, ◌≤◌, ◌&&◌, max, Bool, true, ⊤, List, [], ◌∷◌, length, slice_index_or}
+use Rattle.id_tree.specs.IdTree.{IdTree, Pair}
+use Rattle.id_tree.specs.NormalForm.{depth}
 use Rattle.event_tree.specs.EventTree.{EventTree}
 use Rattle.event_tree.specs.NormalForm.{IsNormal, greatest}
 use Rattle.event_tree.specs.Entries.{first, later}
 use Rattle.event_tree.specs.Size.{size}
-use Rattle.event_tree.specs.Tests.{is_below_from}
+use Rattle.event_tree.specs.Tests.{is_below_from, exceeds_from}
 use Rattle.event_tree.specs.declared.order.Bases.{Bases}
 
 abbrev pub bases_at : ℕ → ℕ → Bases
@@ -39,3 +41,11 @@ pub record IsLeft (b : Bases) (stack : List Bases) (n : ℕ) (ts us : List Event
   pub long : length stack ≡ 16
   pub room : n ≤ 16
   pub within : sizes ts + n ≤ whole
+
+-- on the halves of an id the first tree exceeds the other exactly where this answer says so, and they are no deeper than this
+pub record IsWayDown (l r : IdTree) (x : ℕ) (e : EventTree) (y : ℕ) (f : EventTree) (answer : Bool) (deepest : ℕ) : Type 0 where
+  pub same : answer ≡ exceeds_from (Pair l r) x e y f
+  pub fits : x + greatest e < 4294967296
+  pub other_fits : y + greatest f < 4294967296
+  pub normal : IsNormal f
+  pub within : max (depth l) (depth r) ≤ deepest

@@ -1,13 +1,12 @@
 //! Reads the text of an event tree in one pass, straight into its entries. Of a text with a fault it only says that it has one.
 
-ghost use Rattle.std.specs.Prelude.{◌≡◌, ◌∷◌, ◌++◌, ◌<◌, ◌≤◌, ◌+◌, IsTrue, IfSome, []};
+ghost use Rattle.std.specs.Prelude.{◌≡◌, ◌∷◌, ◌++◌, ◌<◌, ◌≤◌, ◌+◌, ◌-◌, slice_index_or, IsTrue, IfSome, [], length};
 ghost use Rattle.std.specs.Fmt.{decimal};
 ghost use Rattle.event_tree.specs.NormalForm.{IsEvents, value_limit};
 ghost use Rattle.event_tree.specs.Spelling.{spelling};
-ghost use Rattle.event_tree.specs.Taking.{IsTaken, IsWhole};
+ghost use Rattle.event_tree.specs.Taking.{IsTaken, IsClosed, IsWhole};
 ghost use Rattle.event_tree.specs.Taking as taking;
 
-use crate::closing;
 use crate::entries::{Entries, Entry, push_leaf};
 use crate::node::Node;
 use smallvec::SmallVec;
@@ -15,15 +14,6 @@ use std::alloc::Global;
 
 /// How deep a tree may be.
 const MOST_LEVELS: u32 = 40;
-
-/// What is told of a tree that was read: what stands behind it, the value of its root, whether it is a leaf, and its greatest value.
-#[derive(Clone, Copy)]
-pub struct Taken<'a> {
-    pub rest: &'a [u8],
-    pub root: u32,
-    pub leaf: bool,
-    pub top: u32,
-}
 
 // What stands behind this byte.
 #[inline(always)]
@@ -64,21 +54,17 @@ fn take_number(text: &[u8]) -> Option<(u32, &[u8])>
     Some((number, rest))
 }
 
-// The leaf that stands at the front.
+// The leaf that stands at the front, below nodes whose bases have this sum: what stands behind it, and its entry in `out`.
 #[inline(always)]
-fn take_leaf<'a>(text: &'a [u8], levels: u32, out: &mut Entries) -> Option<Taken<'a>>
-    ensures { IfSome result (λ taken. IsTaken levels text.now out.old.items out.new.items taken) }
+fn take_leaf<'a>(text: &'a [u8], levels: u32, above: u32, out: &mut Entries) -> Option<&'a [u8]>
+    ensures { IfSome result (λ rest. IsTaken levels above text.now out.old.items out.new.items rest.now) }
 {
     let (root, rest) = take_number(text)?;
+    let _value = above.checked_add(root)?;
     let Ok(()) = push_leaf(out, root) else {
         return None;
     };
-    Some(Taken {
-        rest,
-        root,
-        leaf: true,
-        top: root,
-    })
+    Some(rest)
 }
 
 // Whether two halves in normal form, with these roots, of which these are leaves, make a node in normal form.
@@ -92,47 +78,74 @@ fn are_halves(left: u32, is_left_leaf: bool, right: u32, is_right_leaf: bool) ->
     }
 }
 
-// The tree that stands at the front, at most so deep. Half of all parts are leaves, which take no call.
+// Makes the entry at `start` that of a node of the two halves behind it, the second of which begins at `middle`; or they make
+// none in normal form.
+fn close_in(entries: &mut [Entry], base: u32, start: usize, middle: usize) -> bool
+    requires one { start + 1 < length entries.old }
+    requires other { middle < length entries.old }
+    ensures { IsTrue result → IsClosed base start middle entries.old entries.new }
+{
+    let left = entries[start + 1];
+    let right = entries[middle];
+    if !are_halves(left.value, left.size <= 1, right.value, right.size <= 1) {
+        return false;
+    }
+    let size = entries.len() - start;
+    if size > u32::MAX as usize {
+        return false;
+    }
+    entries[start] = Entry {
+        value: base,
+        size: size as u32,
+    };
+    true
+}
+
+#[inline(always)]
+fn close(out: &mut Entries, base: u32, start: usize, middle: usize) -> bool
+    requires one { start + 1 < length out.old.items }
+    requires other { middle < length out.old.items }
+    ensures { IsTrue result → IsClosed base start middle out.old.items out.new.items }
+{
+    close_in(out.as_mut_slice(), base, start, middle)
+}
+
+// The tree that stands at the front, at most so deep, below nodes whose bases have this sum: what stands behind it, and its
+// entries in `out`. Half of all parts are leaves, which take no call.
 #[inline(always)]
 #[cycle(take)]
-fn take_tree<'a>(text: &'a [u8], levels: u32, out: &mut Entries) -> Option<Taken<'a>>
-    ensures { IfSome result (λ taken. IsTaken levels text.now out.old.items out.new.items taken) }
+fn take_tree<'a>(text: &'a [u8], levels: u32, above: u32, out: &mut Entries) -> Option<&'a [u8]>
+    ensures { IfSome result (λ rest. IsTaken levels above text.now out.old.items out.new.items rest.now) }
 {
     match behind(b'(', text) {
-        Some(inside) => take_node(inside, levels, out),
-        None => take_leaf(text, levels, out),
+        Some(inside) => take_node(inside, levels, above, out),
+        None => take_leaf(text, levels, above, out),
     }
 }
 
 // The node whose opening bracket stands in front of this text.
 #[cycle(take)]
-fn take_node<'a>(inside: &'a [u8], levels: u32, out: &mut Entries) -> Option<Taken<'a>>
-    ensures { IfSome result (λ taken. IsTaken levels (40 ∷ inside.now) out.old.items out.new.items taken) }
+fn take_node<'a>(inside: &'a [u8], levels: u32, above: u32, out: &mut Entries) -> Option<&'a [u8]>
+    ensures { IfSome result (λ rest. IsTaken levels above (40 ∷ inside.now) out.old.items out.new.items rest.now) }
 {
     if levels == 0 {
         return None;
     }
     let (base, later) = take_number(inside)?;
+    let sum = above.checked_add(base)?;
     let start = out.len();
     let Ok(()) = out.push(Entry::default()) else {
         return None;
     };
-    let left = take_tree(behind(b',', later)?, levels - 1, out)?;
-    let right = take_tree(behind(b',', left.rest)?, levels - 1, out)?;
-    let rest = behind(b')', right.rest)?;
-    if !are_halves(left.root, left.leaf, right.root, right.leaf) {
-        return None;
+    let half = take_tree(behind(b',', later)?, levels - 1, sum, out)?;
+    let middle = out.len();
+    let end = take_tree(behind(b',', half)?, levels - 1, sum, out)?;
+    let rest = behind(b')', end)?;
+    if close(out, base, start, middle) {
+        Some(rest)
+    } else {
+        None
     }
-    let top = base.checked_add(left.top.max(right.top))?;
-    let Ok(()) = closing::seal(out, base, start) else {
-        return None;
-    };
-    Some(Taken {
-        rest,
-        root: base,
-        leaf: false,
-        top,
-    })
 }
 
 // Whether the whole text is that of an event tree, whose entries come then.
@@ -140,8 +153,8 @@ fn take_all(text: &[u8], out: &mut Entries) -> bool
     requires { out.old.items ≡ [] }
     ensures { IsTrue result → IsWhole text.now out.new.items }
 {
-    match take_tree(text, MOST_LEVELS, out) {
-        Some(taken) => taken.rest.is_empty(),
+    match take_tree(text, MOST_LEVELS, 0, out) {
+        Some(rest) => rest.is_empty(),
         None => false,
     }
 }

@@ -1,10 +1,18 @@
-use Rattle.std.proofs.Common.{◌∷◌, refl, arith, sym, ◌∙◌}
-use Rattle.event_tree.proofs.Takes.{node_taken}
+use Rattle.std.proofs.Common.{◌-◌, ◌∷◌, refl, arith}
+use Rattle.event_tree.proofs.Takes.{node_taken, halves_within}
 use Rattle.event_tree.proofs.straight.+take.Goals as goal
 
-pub take_node-returns : goal.take_node-returns
-take_node-returns t c =
-    node_taken c.args.levels _ c.in_ok-base.base c.len-start.result c.in_ok-top.top (40 ∷ c.args.inside.now) c.args.out.now.items _ c.in_ok-left.left c.in_ok-right.right _ (record {
+pub take_node-close-requires-clause-one : goal.take_node-close-requires-clause-one
+take_node-close-requires-clause-one t c =
+    (halves_within _ _ _ _ _ _ _ _ _ _ _ _ _ c.len-start.ensures.value c.in-Ok.ensures.ok c.in_ok-half.ensures c.len-middle.ensures.value c.in_ok-end.ensures).0
+
+pub take_node-close-requires-clause-other : goal.take_node-close-requires-clause-other
+take_node-close-requires-clause-other t c =
+    (halves_within _ _ _ _ _ _ _ _ _ _ _ _ _ c.len-start.ensures.value c.in-Ok.ensures.ok c.in_ok-half.ensures c.len-middle.ensures.value c.in_ok-end.ensures).1
+
+pub take_node-returns-then-close : goal.take_node-returns-then-close
+take_node-returns-then-close t c =
+    node_taken c.args.levels c.args.above (c.args.levels - 1) c.in_ok-base.base c.len-start.result c.in_ok-sum.sum c.len-middle.result (40 ∷ c.args.inside.now) c.args.out.now.items _ _ _ _ (record {
       inside = c.args.inside.now;
       later = c.in_ok-base.later.now;
       left_text = c.in_ok-behind.field-0.now;
@@ -13,8 +21,8 @@ take_node-returns t c =
       halfway = c.take_tree.new.out.items;
       full = c.take_tree-2.new.out.items;
       mark = c.default.result;
-      one = c.in_ok-left.ensures;
-      other = c.in_ok-right.ensures;
+      one = c.in_ok-half.ensures;
+      other = c.in_ok-end.ensures;
       bracket = refl;
       base = c.in_ok-base.ensures.0;
       comma = c.in_ok-behind.ensures;
@@ -22,12 +30,8 @@ take_node-returns t c =
       end_bracket = c.in_ok-rest.ensures;
       begins = c.len-start.ensures.value;
       opened_is = c.in-Ok.ensures.ok;
-      sealed = c.in-Ok-seal.ensures;
-      halves = sym c.are_halves.ensures ∙ c.if-not-are_halves.false;
+      parted = c.len-middle.ensures.value;
+      closed_there = c.if-close.ensures refl;
       level = omega arith;
-      top_is = omega (arith, c.in_ok-top.ensures.1, c.max.ensures);
-      small = omega (arith, c.in_ok-top.ensures.0, c.in_ok-top.ensures.1);
-      told_top = refl;
-      told_root = refl;
-      told_leaf = refl;
+      sum_is = c.in_ok-sum.ensures.1;
     })

@@ -1,4 +1,4 @@
-use Rattle.std.proofs.Common.{refl, arith}
+use Rattle.std.proofs.Common.{arith}
 use Rattle.event_tree.specs.EventTree.{Leaf}
 use Rattle.event_tree.proofs.straight.take_leaf.Goals as goal
 
@@ -9,8 +9,5 @@ returns c = record {
   are = c.in-Ok.ensures;
   normal = tt;
   shallow = omega arith;
-  top_is = refl;
-  small = c.in_ok-root.ensures.1;
-  root_is = refl;
-  leaf_is = refl;
+  small = omega (arith, c.in_ok-_value.ensures.0, c.in_ok-_value.ensures.1);
 }

@@ -1,21 +1,23 @@
 -- Trees that are read from the front of a text.
-use Rattle.std.proofs.Common.{◌≡◌, ℕ, ◌+◌, ◌-◌, ◌*◌, ◌^◌, ◌<◌, ◌≤◌, min, max, true, false, List, [], ◌∷◌, ◌++◌, length, get_or, refl, sym, ap, subst, eqb-true, inl, inr, ◌∙◌, arith, append_assoc, append-nil}
+use Rattle.std.proofs.Common.{◌≡◌, ℕ, ◌+◌, ◌-◌, ◌*◌, ◌^◌, ◌<◌, ◌≤◌, min, true, false, List, [], ◌∷◌, ◌++◌, length, take, drop, get_or, set, length-append, refl, sym, ap, subst, eqb-true, inl, inr, ◌∙◌, arith, append_assoc, append-nil}
 use Rattle.std.specs.Fmt.{decimal}
 use Rattle.std.specs.Char.{is_ascii_digit}
 use Rattle.std.specs.Prelude.{Bool, ◌==◌, nat_le}
 use Rattle.std.proofs.lemmas.Bool.{cases_Bool, both_ways, lt-leb}
 use Rattle.std.proofs.lemmas.Bool.Decides.{nat_tests}
+use borrow.Rule.Slice.PartMut.{put_mid, post_of}
+use Rattle.std.proofs.Math.Seq.{take-append_seam, drop-append_seam}
 use Rattle.event_tree.specs.EventTree.{EventTree, Leaf, Node}
 use Rattle.event_tree.specs.Halves.{root}
-use Rattle.event_tree.specs.NormalForm.{IsNormal, IsEvents, least, are_equal_leaves, value_limit}
+use Rattle.event_tree.specs.NormalForm.{IsNormal, IsEvents, least, are_equal_leaves}
 use Rattle.event_tree.specs.Size.{size}
 use Rattle.event_tree.specs.Spelling.{IsNumeral, spelling}
 use Rattle.event_tree.specs.Entries.{entry, blank, preorder, tree_of}
-use Rattle.event_tree.specs.Taking.{is_leaf, are_halves, are_seen_halves, IsClosed, IsTaken, IsWhole}
+use Rattle.event_tree.specs.Taking.{is_leaf, are_halves, IsClosed, IsTaken, IsNodeTaken, IsWhole}
 use Rattle.event_tree.specs.declared.entries.Entry.{Entry}
 use Rattle.event_tree.proofs.Trees.{root_least}
-use Rattle.event_tree.proofs.Preorder.{tree_of_preorder, is_preorder, some_size}
-use Rattle.event_tree.proofs.Closed.{HalvesAt, written_halves, middle_within, one_seen, other_seen, sealed}
+use Rattle.event_tree.proofs.Preorder.{below, preorder_root, first_entry, length_preorder, tree_of_preorder, is_preorder, some_size}
+use Rattle.event_tree.proofs.Closed.{seen}
 use Rattle.std.proofs.lemmas.Fmt.{decimal_digit}
 use Rattle.event_tree.proofs.Numerals.{numeral_more, numeral_decimal, decimal_numeral}
 
@@ -70,10 +72,8 @@ leaf_seen : (t : EventTree) → nat_le (size t) 1 ≡ is_leaf t
 leaf_seen (Leaf n) = refl
 leaf_seen (Node n a b) = lt-leb (size a + size b + 1) 1 (omega (arith, some_size a, some_size b))
 
-halves_seen : (es front : List Entry) (e : Entry) (a b : EventTree) (start middle : ℕ) → HalvesAt es front e a b start middle → are_seen_halves (get_or es (start + 1) blank) (get_or es middle blank) ≡ true
-    → are_halves (root a) (is_leaf a) (root b) (is_leaf b) ≡ true
-halves_seen es front e a b start middle h seen =
-    rw (one_seen es front e a b start middle h, other_seen es front e a b start middle h, leaf_seen a, leaf_seen b) at seen
+halves_seen : (e f : Entry) (a b : EventTree) → e ≡ entry (root a) (size a) → f ≡ entry (root b) (size b) → are_halves e.value (nat_le e.size 1) f.value (nat_le f.size 1) ≡ true → are_halves (root a) (is_leaf a) (root b) (is_leaf b) ≡ true
+halves_seen e f a b i j h = rw (i, j, leaf_seen a, leaf_seen b) at h
 
 -- ---- a node
 
@@ -83,65 +83,149 @@ spelled_node : (n : ℕ) (a b : EventTree) (text inside later left_text left_res
 spelled_node n a b text inside later left_text left_rest right_text right_rest rest e f g h i j k =
     rw (e, f, g, h, i, j, k) (simp append_assoc)
 
+pub some_room : (room : List Entry) (b : Bool) → b ≡ (length room == 0) → b ≡ false → 0 < length room
+some_room [] b is h = absurd (both_ways b h is)
+some_room (x ∷ xs) b is h = omega arith
+
+pub leaf_there : (room : List Entry) (n : ℕ) → 0 < length room → set room 0 (entry n 1) ≡ preorder (Leaf n) ++ drop 1 room
+leaf_there [] n some = absurd (omega (arith, some))
+leaf_there (x ∷ xs) n some = refl
+
+-- what was read into a part of the room
+pub taken_behind : (levels above : ℕ) (text : List ℕ) (room part : List Entry) (rest : List ℕ) (at k : ℕ) → IsTaken levels above text [] part rest → IsTaken levels above text (take at room) (put_mid at k room part) rest
+taken_behind levels above text room part rest at k h = record {
+  tree = h.tree;
+  spare = h.spare ++ post_of at k room;
+  spelled = h.spelled;
+  are = rw h.are (ap (λ (es : List Entry). take at room ++ es) (append_assoc (preorder h.tree) h.spare (post_of at k room)));
+  normal = h.normal;
+  shallow = h.shallow;
+  small = h.small;
+}
+
+-- the room with a first half behind the entry in front
+pub record IsHalfway (room : List Entry) (a : EventTree) (spare : List Entry) : Type 0 where
+  pub mark : Entry
+  pub are : room ≡ mark ∷ (preorder a ++ spare)
+
+halfway : (room now : List Entry) (a : EventTree) (spare : List Entry) → 0 < length room → now ≡ take 1 room ++ (preorder a ++ spare) → IsHalfway now a spare
+halfway [] now a spare some are = absurd (omega (arith, some))
+halfway (x ∷ xs) now a spare some are = record { mark = x; are = are }
+
+pub half_there : (levels above : ℕ) (text : List ℕ) (room now : List Entry) (rest : List ℕ) → 0 < length room → (h : IsTaken levels above text (take 1 room) now rest) → IsHalfway now h.tree h.spare
+half_there levels above text room now rest some h = halfway room now h.tree h.spare some h.are
+
+left_seen : (room : List Entry) (a : EventTree) (spare : List Entry) → IsHalfway room a spare → get_or room 1 blank ≡ entry (root a) (size a)
+left_seen room a spare h = rw h.are (first_entry a spare)
+
+half_long : (room : List Entry) (a : EventTree) (spare : List Entry) → IsHalfway room a spare → length room ≡ 1 + size a + length spare
+half_long room a spare h = omega (arith, ap length h.are, length-append (preorder a) spare, length_preorder a)
+
+-- there is a first half
+pub left_within : (room : List Entry) (a : EventTree) (spare : List Entry) → IsHalfway room a spare → 1 < length room
+left_within room a spare h = omega (arith, half_long room a spare h, some_size a)
+
+-- and room for the second
+pub middle_at : (room : List Entry) (a : EventTree) (spare : List Entry) (e : Entry) (middle : ℕ) → IsHalfway room a spare → e ≡ get_or room 1 blank → middle ≡ e.size + 1 → (middle ≡ 1 + size a) × (middle ≤ length room)
+middle_at room a spare e middle h is m =
+    let here : e.size ≡ size a = ap (λ (x : Entry). x.size) (is ∙ left_seen room a spare h) in
+    (omega (arith, m, here), omega (arith, m, here, half_long room a spare h))
+
+-- the room with both halves
+pub both_there : (room now : List Entry) (a b : EventTree) (spare more : List Entry) (middle : ℕ) → IsHalfway room a spare → middle ≡ 1 + size a → now ≡ take middle room ++ (preorder b ++ more) → IsHalfway now a (preorder b ++ more)
+both_there room now a b spare more middle h m are =
+    let long : middle ≡ length (h.mark ∷ preorder a) = omega (arith, m, length_preorder a) in
+    record { mark = h.mark; are = are ∙ rw (h.are, long) (ap (λ (es : List Entry). es ++ (preorder b ++ more)) (take-append_seam (h.mark ∷ preorder a) spare)) }
+
+pub right_within : (room : List Entry) (a b : EventTree) (more : List Entry) (middle : ℕ) → IsHalfway room a (preorder b ++ more) → middle ≡ 1 + size a → middle < length room
+right_within room a b more middle h m = omega (arith, m, half_long room a (preorder b ++ more) h, length-append (preorder b) more, length_preorder b, some_size b)
+
+right_seen : (room : List Entry) (a b : EventTree) (more : List Entry) (middle : ℕ) → IsHalfway room a (preorder b ++ more) → middle ≡ 1 + size a → get_or room middle blank ≡ entry (root b) (size b)
+right_seen room a b more middle h m =
+    seen (h.mark ∷ preorder a) (below b ++ more) room (entry (root b) (size b)) middle (omega (arith, m, length_preorder a))
+    (h.are ∙ ap (λ (es : List Entry). h.mark ∷ (preorder a ++ (es ++ more))) (preorder_root b))
+
 -- what was read of a node
-pub record IsRead (levels above less n start sum middle : ℕ) (text : List ℕ) (before final : List Entry) (left_rest right_rest rest : List ℕ) : Type 0 where
-  pub inside : List ℕ
+pub record IsRead (levels above less n sum middle : ℕ) (inside : List ℕ) (room final : List Entry) (left_rest right_rest rest : List ℕ) : Type 0 where
   pub later : List ℕ
   pub left_text : List ℕ
   pub right_text : List ℕ
-  pub opened : List Entry
-  pub halfway : List Entry
-  pub full : List Entry
+  pub left_room : List Entry
+  pub full_room : List Entry
   pub mark : Entry
-  pub one : IsTaken less sum left_text opened halfway left_rest
-  pub other : IsTaken less sum right_text halfway full right_rest
-  pub bracket : text ≡ 40 ∷ inside
+  pub one : IsTaken less sum left_text (take 1 room) left_room left_rest
+  pub other : IsTaken less sum right_text (take middle left_room) full_room right_rest
   pub base : inside ≡ decimal n ++ later
   pub comma : later ≡ 44 ∷ left_text
   pub second_comma : left_rest ≡ 44 ∷ right_text
   pub end_bracket : right_rest ≡ 41 ∷ rest
-  pub begins : start ≡ length before
-  pub opened_is : opened ≡ before ++ mark ∷ []
-  pub parted : middle ≡ length halfway
-  pub closed_there : IsClosed n start middle full final
+  pub some : 0 < length room
+  pub mark_is : mark ≡ get_or left_room 1 blank
+  pub middle_is : middle ≡ mark.size + 1
+  pub closed_there : IsClosed n middle full_room final
   pub level : less + 1 ≡ levels
   pub sum_is : sum ≡ above + n
 
--- both halves have an entry
-pub halves_within : (less sum start middle : ℕ) (left_text left_rest right_text right_rest : List ℕ) (before opened halfway full : List Entry) (mark : Entry) → start ≡ length before → opened ≡ before ++ mark ∷ [] → IsTaken less sum left_text opened halfway left_rest
-    → middle ≡ length halfway → IsTaken less sum right_text halfway full right_rest → (start + 1 < length full) × (middle < length full)
-halves_within less sum start middle left_text left_rest right_text right_rest before opened halfway full mark s o one m other =
-    let within = middle_within full before mark one.tree other.tree start middle (written_halves before opened halfway full mark one.tree other.tree start middle s o one.are m other.are) in
-    (within.0, within.1)
-
-pub node_taken : (levels above less n start sum middle : ℕ) (text : List ℕ) (before final : List Entry) (left_rest right_rest rest : List ℕ) → IsRead levels above less n start sum middle text before final left_rest right_rest rest → IsTaken levels above text before final rest
-node_taken levels above less n start sum middle text before final left_rest right_rest rest r =
+pub node_taken : (levels above less n sum middle left : ℕ) (inside : List ℕ) (room final : List Entry) (left_rest right_rest rest : List ℕ) → IsRead levels above less n sum middle inside room final left_rest right_rest rest → left ≡ length rest → IsNodeTaken levels above inside final left
+node_taken levels above less n sum middle left inside room final left_rest right_rest rest r is =
     let a = r.one.tree in
     let b = r.other.tree in
-    let there = written_halves before r.opened r.halfway r.full r.mark a b start middle r.begins r.opened_is r.one.are r.parted r.other.are in
-    let fit = halves_normal a b r.one.normal r.other.normal (halves_seen r.full before r.mark a b start middle there r.closed_there.halves) in
+    let c = r.closed_there in
+    let half = half_there less sum r.left_text room r.left_room left_rest r.some r.one in
+    let parted = (middle_at r.left_room a r.one.spare r.mark middle half r.mark_is r.middle_is).0 in
+    let both = both_there r.left_room r.full_room a b r.one.spare r.other.spare middle half parted r.other.are in
+    let left_at : c.left ≡ entry (root a) (size a) = c.left_is ∙ left_seen r.full_room a (preorder b ++ r.other.spare) both in
+    let right_at : c.right ≡ entry (root b) (size b) = c.right_is ∙ right_seen r.full_room a b r.other.spare middle both parted in
+    let fit = halves_normal a b r.one.normal r.other.normal (halves_seen c.left c.right a b left_at right_at c.halves) in
+    let spelled = spelled_node n a b (40 ∷ inside) inside r.later r.left_text left_rest r.right_text right_rest rest refl r.base r.comma r.one.spelled r.second_comma r.other.spelled r.end_bracket in
     record {
-      tree = Node n a b;
-      spelled = spelled_node n a b text r.inside r.later r.left_text left_rest r.right_text right_rest rest r.bracket r.base r.comma r.one.spelled r.second_comma r.other.spelled r.end_bracket;
-      are = r.closed_there.sealed ∙ sealed r.full before r.mark a b n start (length r.full - start) there.begins there.are refl;
-      normal = (r.one.normal, r.other.normal, fit.0, fit.1);
-      shallow = omega (arith, r.one.shallow, r.other.shallow, r.level);
-      small = omega (arith, r.one.small, r.other.small, r.sum_is);
+      rest = rest;
+      taken = record {
+        tree = Node n a b;
+        spare = r.other.spare;
+        spelled = spelled;
+        are = c.sealed ∙ rw (left_at, right_at, both.are) (ap (λ (es : List Entry). entry n (size a + size b + 1) ∷ es) (sym (append_assoc (preorder a) (preorder b) r.other.spare)));
+        normal = (r.one.normal, r.other.normal, fit.0, fit.1);
+        shallow = omega (arith, r.one.shallow, r.other.shallow, r.level);
+        small = omega (arith, r.one.small, r.other.small, r.sum_is);
+      };
+      left_is = is;
+      before = drop 1 (spelling (Node n a b));
+      behind = ap (drop 1) spelled;
     }
+
+-- what stands behind a node, from how many bytes that are
+pub left_within_text : (levels above : ℕ) (inside : List ℕ) (room : List Entry) (left : ℕ) → IsNodeTaken levels above inside room left → left ≤ length inside
+left_within_text levels above inside room left h = omega (arith, h.left_is, ap length h.behind, length-append h.before h.rest)
+
+pub behind_node : (levels above : ℕ) (inside : List ℕ) (room : List Entry) (left at : ℕ) → (h : IsNodeTaken levels above inside room left) → at ≡ length inside - left → drop at inside ≡ h.rest
+behind_node levels above inside room left at h is =
+    let long : at ≡ length h.before = omega (arith, is, h.left_is, ap length h.behind, length-append h.before h.rest) in
+    rw (h.behind, long) (drop-append_seam h.before h.rest)
+
+pub node_as_tree : (levels above : ℕ) (text inside : List ℕ) (room : List Entry) (rest : List ℕ) (left at : ℕ) → IsNodeTaken levels above inside room left → text ≡ 40 ∷ inside → at ≡ length inside - left → rest ≡ drop at inside → IsTaken levels above text [] room rest
+node_as_tree levels above text inside room rest left at h bracket is there = rw (bracket, there ∙ behind_node levels above inside room left at h is) h.taken
 
 -- ---- the whole text
 
-pub whole : (text : List ℕ) (before after : List Entry) (rest : List ℕ) → IsTaken 40 0 text before after rest → before ≡ [] → length rest ≡ 0 → IsWhole text after
-whole text before after rest h none ends =
-    let are : after ≡ preorder h.tree = h.are ∙ ap (λ (es : List Entry). es ++ preorder h.tree) none in
-    let is : tree_of after ≡ h.tree = tree_of_preorder after h.tree are in
+no_length : {A : Type 0} (xs : List A) → length xs ≡ 0 → xs ≡ []
+no_length [] e = refl
+no_length (x ∷ xs) e = absurd (omega (arith, e))
+
+-- the room is full where the first entry has as many as there are
+full : (room : List Entry) (t : EventTree) (spare : List Entry) → room ≡ preorder t ++ spare → (get_or room 0 blank).size ≡ length room → room ≡ preorder t
+full room t spare are size_is =
+    let first : (get_or room 0 blank).size ≡ size t = rw are (ap (λ (e : Entry). e.size) (first_entry t spare)) in
+    let none : length spare ≡ 0 = omega (arith, first, size_is, ap length are, length-append (preorder t) spare, length_preorder t) in
+    are ∙ ap (λ (es : List Entry). preorder t ++ es) (no_length spare none) ∙ append-nil (preorder t)
+
+pub whole : (text : List ℕ) (room : List Entry) (rest : List ℕ) (first : Entry) → IsTaken 40 0 text [] room rest → length rest ≡ 0 → first ≡ get_or room 0 blank → first.size ≡ length room → IsWhole text room
+whole text room rest first h ends seen size_is =
+    let are : room ≡ preorder h.tree = full room h.tree h.spare h.are (ap (λ (e : Entry). e.size) (sym seen) ∙ size_is) in
+    let is : tree_of room ≡ h.tree = tree_of_preorder room h.tree are in
     let events : IsEvents h.tree = record { normal = h.normal; shallow = h.shallow; small = omega (arith, h.small) } in
     record {
       events = rw is events;
-      are = is_preorder after h.tree are;
+      are = is_preorder room h.tree are;
       spelled = h.spelled ∙ rw (no_length rest ends, is) (append-nil (spelling h.tree));
     }
-  where
-    no_length : (xs : List ℕ) → length xs ≡ 0 → xs ≡ []
-    no_length [] e = refl
-    no_length (x ∷ xs) e = absurd (omega (arith, e))

@@ -166,8 +166,9 @@ impl Events {
         }
     }
 
-    /// The event tree that the bytes spell, all of the bytes. The memory and the stack that it takes do not grow with how
-    /// deeply brackets are nested beyond the depth limit, but for one small entry for each open bracket.
+    /// The event tree that the bytes spell, all of the bytes. It takes memory for two entries of 8 bytes for each opening
+    /// bracket of the text, and one more. Beside that, the memory and the stack that it takes do not grow with how deeply
+    /// brackets are nested beyond the depth limit, but for one small entry for each open bracket of a text with a fault.
     pub fn parse(alloc: Global, bytes: &[u8]) -> Result<Events, EventsFault>
         ensures ok { IfOk result (λ e. bytes.now ≡ spelling e) }
         ensures err { IfErr result (λ fault. IsFaultOf fault bytes.now) }

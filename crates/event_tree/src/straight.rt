@@ -1,13 +1,14 @@
 //! Reads the text of an event tree in one pass, straight into its entries. Of a text with a fault it only says that it has one.
 
-ghost use Rattle.std.specs.Prelude.{◌≡◌, ◌∷◌, ◌++◌, ◌<◌, ◌≤◌, ◌+◌, ◌-◌, slice_index_or, IsTrue, IfSome, [], length};
+ghost use Rattle.std.specs.Prelude.{◌≡◌, [], ◌∷◌, ◌++◌, ◌<◌, ◌≤◌, ◌+◌, IsTrue, IfSome, length, take, slice_index_or};
+ghost use Rattle.event_tree.specs.Entries.{blank};
 ghost use Rattle.std.specs.Fmt.{decimal};
 ghost use Rattle.event_tree.specs.NormalForm.{IsEvents, value_limit};
 ghost use Rattle.event_tree.specs.Spelling.{spelling};
-ghost use Rattle.event_tree.specs.Taking.{IsTaken, IsClosed, IsWhole};
+ghost use Rattle.event_tree.specs.Taking.{IsTaken, IsNodeTaken, IsClosed, IsWhole};
 ghost use Rattle.event_tree.specs.Taking as taking;
 
-use crate::entries::{Entries, Entry, push_leaf};
+use crate::entries::{Entries, Entry};
 use crate::node::Node;
 use smallvec::SmallVec;
 use std::alloc::Global;
@@ -54,15 +55,20 @@ fn take_number(text: &[u8]) -> Option<(u32, &[u8])>
     Some((number, rest))
 }
 
-// The leaf that stands at the front, below nodes whose bases have this sum: what stands behind it, and its entry in `out`.
+// The leaf that stands at the front, below nodes whose bases have this sum: what stands behind it. Its entry is the first of the
+// room then.
 #[inline(always)]
-fn take_leaf<'a>(text: &'a [u8], levels: u32, above: u32, out: &mut Entries) -> Option<&'a [u8]>
-    ensures { IfSome result (λ rest. IsTaken levels above text.now out.old.items out.new.items rest.now) }
+fn take_leaf<'a>(text: &'a [u8], levels: u32, above: u32, room: &mut [Entry]) -> Option<&'a [u8]>
+    ensures { IfSome result (λ rest. IsTaken levels above text.now [] room.new rest.now) }
 {
     let (root, rest) = take_number(text)?;
     let _value = above.checked_add(root)?;
-    let Ok(()) = push_leaf(out, root) else {
+    if room.is_empty() {
         return None;
+    }
+    room[0] = Entry {
+        value: root,
+        size: 1,
     };
     Some(rest)
 }
@@ -78,102 +84,142 @@ fn are_halves(left: u32, is_left_leaf: bool, right: u32, is_right_leaf: bool) ->
     }
 }
 
-// Makes the entry at `start` that of a node of the two halves behind it, the second of which begins at `middle`; or they make
-// none in normal form.
-fn close_in(entries: &mut [Entry], base: u32, start: usize, middle: usize) -> bool
-    requires one { start + 1 < length entries.old }
-    requires other { middle < length entries.old }
-    ensures { IsTrue result → IsClosed base start middle entries.old entries.new }
+#[inline(always)]
+fn look(room: &[Entry], at: usize) -> Entry
+    requires { at < length room.now }
+    ensures { result ≡ slice_index_or room.now at blank }
 {
-    let left = entries[start + 1];
-    let right = entries[middle];
+    room[at]
+}
+
+// Makes the first entry that of a node of the two halves behind it, the second of which begins at `middle`; or they make none in
+// normal form.
+#[inline(always)]
+fn close(room: &mut [Entry], base: u32, middle: usize) -> bool
+    requires one { 1 < length room.old }
+    requires other { middle < length room.old }
+    ensures { IsTrue result → IsClosed base middle room.old room.new }
+{
+    let left = look(room, 1);
+    let right = look(room, middle);
     if !are_halves(left.value, left.size <= 1, right.value, right.size <= 1) {
         return false;
     }
-    let size = entries.len() - start;
-    if size > u32::MAX as usize {
+    let Some(behind) = left.size.checked_add(right.size) else {
         return false;
-    }
-    entries[start] = Entry {
-        value: base,
-        size: size as u32,
     };
+    let Some(size) = behind.checked_add(1) else {
+        return false;
+    };
+    room[0] = Entry { value: base, size };
     true
 }
 
-#[inline(always)]
-fn close(out: &mut Entries, base: u32, start: usize, middle: usize) -> bool
-    requires one { start + 1 < length out.old.items }
-    requires other { middle < length out.old.items }
-    ensures { IsTrue result → IsClosed base start middle out.old.items out.new.items }
-{
-    close_in(out.as_mut_slice(), base, start, middle)
-}
-
-// The tree that stands at the front, at most so deep, below nodes whose bases have this sum: what stands behind it, and its
-// entries in `out`. Half of all parts are leaves, which take no call.
+// The tree that stands at the front, at most so deep, below nodes whose bases have this sum: what stands behind it. Its entries
+// are the first of the room then. Half of all parts are leaves, which take no call.
 #[inline(always)]
 #[cycle(take)]
-fn take_tree<'a>(text: &'a [u8], levels: u32, above: u32, out: &mut Entries) -> Option<&'a [u8]>
-    ensures { IfSome result (λ rest. IsTaken levels above text.now out.old.items out.new.items rest.now) }
+fn take_tree<'a>(text: &'a [u8], levels: u32, above: u32, room: &mut [Entry]) -> Option<&'a [u8]>
+    ensures { IfSome result (λ rest. IsTaken levels above text.now [] room.new rest.now) }
 {
     match behind(b'(', text) {
-        Some(inside) => take_node(inside, levels, above, out),
-        None => take_leaf(text, levels, above, out),
+        Some(inside) => {
+            let left = take_node(inside, levels, above, room)?;
+            Some(&inside[inside.len() - left..])
+        }
+        None => take_leaf(text, levels, above, room),
     }
 }
 
-// The node whose opening bracket stands in front of this text.
+// The same, with its entries from here on in the room.
+#[inline(always)]
 #[cycle(take)]
-fn take_node<'a>(inside: &'a [u8], levels: u32, above: u32, out: &mut Entries) -> Option<&'a [u8]>
-    ensures { IfSome result (λ rest. IsTaken levels above (40 ∷ inside.now) out.old.items out.new.items rest.now) }
+fn take_half<'a>(
+    text: &'a [u8],
+    levels: u32,
+    above: u32,
+    room: &mut [Entry],
+    at: usize,
+) -> Option<&'a [u8]>
+    requires { at ≤ length room.old }
+    ensures { IfSome result (λ rest. IsTaken levels above text.now (take at room.old) room.new rest.now) }
 {
-    if levels == 0 {
+    take_tree(text, levels, above, &mut room[at..])
+}
+
+// The node whose opening bracket stands in front of this text: how many bytes stand behind it, which fits into a register.
+#[cycle(take)]
+fn take_node(inside: &[u8], levels: u32, above: u32, room: &mut [Entry]) -> Option<usize>
+    ensures { IfSome result (λ left. IsNodeTaken levels above inside.now room.new left) }
+{
+    if levels == 0 || room.is_empty() {
         return None;
     }
     let (base, later) = take_number(inside)?;
     let sum = above.checked_add(base)?;
-    let start = out.len();
-    let Ok(()) = out.push(Entry::default()) else {
-        return None;
-    };
-    let half = take_tree(behind(b',', later)?, levels - 1, sum, out)?;
-    let middle = out.len();
-    let end = take_tree(behind(b',', half)?, levels - 1, sum, out)?;
+    let half = take_half(behind(b',', later)?, levels - 1, sum, room, 1)?;
+    let middle = look(room, 1).size as usize + 1;
+    let end = take_half(behind(b',', half)?, levels - 1, sum, room, middle)?;
     let rest = behind(b')', end)?;
-    if close(out, base, start, middle) {
-        Some(rest)
+    if close(room, base, middle) {
+        Some(rest.len())
     } else {
         None
     }
 }
 
-// Whether the whole text is that of an event tree, whose entries come then.
-fn take_all(text: &[u8], out: &mut Entries) -> bool
-    requires { out.old.items ≡ [] }
-    ensures { IsTrue result → IsWhole text.now out.new.items }
+// Whether the whole text is that of an event tree, whose entries fill the room then.
+fn take_all(text: &[u8], room: &mut [Entry]) -> bool
+    ensures { IsTrue result → IsWhole text.now room.new }
 {
-    match take_tree(text, MOST_LEVELS, 0, out) {
-        Some(rest) => rest.is_empty(),
-        None => false,
+    let Some(rest) = take_tree(text, MOST_LEVELS, 0, room) else {
+        return false;
+    };
+    if !rest.is_empty() || room.is_empty() {
+        return false;
     }
+    look(room, 0).size as usize == room.len()
+}
+
+// How many opening brackets a short text has. They are counted in one byte, so that many bytes are compared at once.
+fn count_few(text: &[u8]) -> u8 {
+    let mut count: u8 = 0;
+    for byte in text {
+        count = count.wrapping_add(u8::from(*byte == b'('));
+    }
+    count
 }
 
 // How many entries the tree of a text has: each node has a bracket, and there is a leaf more than nodes.
 fn count_entries(text: &[u8]) -> usize {
-    let nodes = text.iter().filter(|byte| **byte == b'(').count();
+    let mut nodes: usize = 0;
+    for piece in text.chunks(128) {
+        nodes = nodes.saturating_add(usize::from(count_few(piece)));
+    }
     nodes.saturating_mul(2).saturating_add(1)
+}
+
+// So many entries, to be written.
+fn blank_entries(alloc: Global, count: usize) -> Option<Entries> {
+    if count <= 8 {
+        return Some(SmallVec::from_buf_and_len(alloc, [Entry::default(); 8], count));
+    }
+    let Ok(mut entries) = Vec::with_capacity(alloc, count) else {
+        return None;
+    };
+    let Ok(()) = entries.resize(count, Entry::default()) else {
+        return None;
+    };
+    Some(SmallVec::from_vec(entries))
 }
 
 // The event tree that the bytes spell; `None` where they have a fault, or memory is wanting.
 pub fn read(alloc: Global, text: &[u8]) -> Option<Node>
     ensures { IfSome result (λ node. IsEvents node × (text.now ≡ spelling node)) }
 {
-    let Ok(mut out) = SmallVec::with_capacity(alloc, count_entries(text)) else {
-        return None;
-    };
-    if take_all(text, &mut out) {
-        Some(Node::of(out))
+    let mut entries = blank_entries(alloc, count_entries(text))?;
+    if take_all(text, entries.as_mut_slice()) {
+        Some(Node::of(entries))
     } else {
         None
     }

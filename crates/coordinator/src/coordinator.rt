@@ -1,9 +1,10 @@
 //! The desk under one lock, and what clients call.
 
-ghost use Rattle.std.specs.Prelude.{◌≡◌, ◌<◌, ◌≤◌, [], IfOk, IfErr, OnOk, OnErr};
+ghost use Rattle.std.specs.Prelude.{◌≡◌, ◌<◌, ◌≤◌, [], IfOk, IfErr, IfSome, OnOk, OnErr};
 ghost use Rattle.report_line.specs.declared.call.Call.TheVariants as calls;
 ghost use Rattle.chains.specs.Held.{held_of};
 ghost use Rattle.desk.specs.Files.{IsShort};
+ghost use Rattle.desk.specs.Records.{IsReadOff};
 ghost use Rattle.coordinator.specs.Passes.{IsPlain, IsAnswered, IsNewPass, line_call};
 ghost use Rattle.coordinator.specs.Calls.{IsForeignOnly};
 ghost use Rattle.coordinator.specs.Closing.{IsAuditCause, IsEnded, IsRefused};
@@ -160,10 +161,46 @@ impl<L: Ledger, D: Disk> Coordinator<L, D> {
         ensures err { OnErr result (pass.new ≡ pass.old) }
         ensures foreign { IfErr result (λ fault. IsForeignOnly pass.old fault) }
     {
+        self.call_by(rt, pass, None, call)
+    }
+
+    /// The same for a call and the line that it was read off. A report without a mark goes into the file as these bytes.
+    pub fn call_read<R: Wait>(
+        &self,
+        rt: &R,
+        pass: &mut Pass<L>,
+        line: &[u8],
+        call: Call,
+    ) -> Result<(), CallFault>
+        requires plain { IsPlain call }
+        requires short { IsShort call }
+        requires read { IsReadOff line.now call }
+        ensures ok { OnOk result (IsAnswered pass.old call pass.new) }
+        ensures err { OnErr result (pass.new ≡ pass.old) }
+        ensures foreign { IfErr result (λ fault. IsForeignOnly pass.old fault) }
+    {
+        self.call_by(rt, pass, Some(line), call)
+    }
+
+    /// The same with the line, where there is one.
+    fn call_by<R: Wait>(
+        &self,
+        rt: &R,
+        pass: &mut Pass<L>,
+        line: Option<&[u8]>,
+        call: Call,
+    ) -> Result<(), CallFault>
+        requires plain { IsPlain call }
+        requires short { IsShort call }
+        requires read { IfSome line (λ l. IsReadOff l.now call) }
+        ensures ok { OnOk result (IsAnswered pass.old call pass.new) }
+        ensures err { OnErr result (pass.new ≡ pass.old) }
+        ensures foreign { IfErr result (λ fault. IsForeignOnly pass.old fault) }
+    {
         let Ok(copy) = call.copy(self.alloc) else {
             return Err(CallFault::Memory);
         };
-        self.locked.lock(rt).turn(pass, call, copy)?;
+        self.locked.lock(rt).turn(pass, line, call, copy)?;
         Ok(())
     }
 

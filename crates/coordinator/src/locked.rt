@@ -1,17 +1,43 @@
 //! What lies under the lock.
 
-ghost use Rattle.std.specs.Prelude.{◌≡◌, ◌+◌, ◌≤◌, length, unwrap_or};
+ghost use Rattle.std.specs.Prelude.{◌≡◌, ◌+◌, ◌≤◌, ◌∷◌, ◌++◌, [], Err, length, unwrap_or, IfOk, IfErr, IfSome};
+ghost use Rattle.chains.specs.Turns.{IsTurn};
+ghost use Rattle.desk.specs.Files.{IsShort};
+ghost use Rattle.desk.specs.Lawful.{turn_limit};
+ghost use Rattle.desk.specs.Records.{IsReadOff};
 ghost use Rattle.coordinator.specs.Passes.{front_of};
 
 use crate::entry::Entry;
 use crate::fault::CallFault;
 use crate::pass::Pass;
 use chains::Chains;
-use desk::{Desk, TurnFault};
+use desk::{Desk, Receipt, TurnFault};
 use line_disk::Disk;
 use report_line::{Call, Reply};
 use std::alloc::Global;
 use std::sync::ledger::{Blank, Book, Ledger, Share};
+
+/// The desk's turn of a call. The line is what it was read off, where there is one.
+fn make_turn<D: Disk>(
+    desk: &mut Desk<D>,
+    line: Option<&[u8]>,
+    call: Call,
+) -> Result<Receipt, TurnFault>
+    requires short { IsShort call }
+    requires read { IfSome line (λ l. IsReadOff l.now call) }
+    ensures step { IfOk result (λ receipt. IsTurn desk.old.held call receipt.reply desk.new.held) }
+    ensures turns { IfOk result (λ receipt. desk.new.turns ≡ desk.old.turns ++ record { call = call; receipt = receipt } ∷ []) }
+    ensures number { IfOk result (λ receipt. receipt.turn ≡ length desk.old.turns + 1) }
+    ensures opening { desk.new.opening ≡ desk.old.opening }
+    ensures found { desk.new.found ≡ desk.old.found }
+    ensures err { IfErr result (λ _. desk.new ≡ desk.old) }
+    ensures worn { result ≡ Err TurnFault.Worn → length desk.old.turns ≡ turn_limit }
+{
+    match line {
+        Some(line) => desk.turn_read(line, call),
+        None => desk.turn(call),
+    }
+}
 
 /// How many passes a coordinator hands out.
 const PASSES: u32 = 8_192;
@@ -32,6 +58,7 @@ pub struct Locked<L: Ledger, D: Disk> {
 impl<L: Ledger, D: Disk> Locked<L, D> {
     ghost use Rattle.std.specs.Prelude.{◌≡◌, ◌+◌, ◌<◌, ◌≤◌, [], length, IfOk, IfErr, OnOk, OnErr, IfSome, IfNone, OnSome, Some, None};
     ghost use Rattle.desk.specs.Files.{IsShort};
+    ghost use Rattle.desk.specs.Records.{IsReadOff};
     ghost use Rattle.coordinator.specs.Passes.{new_pass};
     ghost use Rattle.coordinator.specs.Calls.{IsTurnFor, IsDue, IsTakenFor};
 
@@ -91,10 +118,17 @@ impl<L: Ledger, D: Disk> Locked<L, D> {
         })
     }
 
-    /// Makes one turn, and adds one entry to the pass.
-    pub fn turn(&mut self, pass: &mut Pass<L>, call: Call, copy: Call) -> Result<(), CallFault>
+    /// Makes one turn, and adds one entry to the pass. The line is what the call was read off, where there is one.
+    pub fn turn(
+        &mut self,
+        pass: &mut Pass<L>,
+        line: Option<&[u8]>,
+        call: Call,
+        copy: Call,
+    ) -> Result<(), CallFault>
         requires copy { copy ≡ call }
         requires short { IsShort call }
+        requires read { IfSome line (λ l. IsReadOff l.now call) }
         ensures ok { OnOk result (IsTurnFor self.old.desk self.new.desk pass.old call pass.new) }
         ensures err { OnErr result ((self.new.desk ≡ self.old.desk) × (pass.new ≡ pass.old)) }
         ensures due { IfErr result (λ f. IsDue self.old.desk pass.old f) }
@@ -122,7 +156,7 @@ impl<L: Ledger, D: Disk> Locked<L, D> {
             return Err(CallFault::Memory);
         }
         let Locked { desk, book, .. } = self;
-        let receipt = match desk.turn(call) {
+        let receipt = match make_turn(desk, line, call) {
             Ok(receipt) => receipt,
             Err(TurnFault::Worn) => return Err(CallFault::Worn),
             Err(TurnFault::Memory) => return Err(CallFault::Memory),
@@ -148,7 +182,7 @@ impl<L: Ledger, D: Disk> Locked<L, D> {
         ensures due { IfErr result (λ f. IsDue self.old.desk pass.old f) }
         ensures passes { self.new.passes ≡ self.old.passes }
     {
-        self.turn(pass, call, copy)?;
+        self.turn(pass, None, call, copy)?;
         let Some(_front) = pass.taken() else {
             return Ok(None);
         };

@@ -7,6 +7,7 @@ ghost use Rattle.report_line.specs.Replies.{reply_text};
 ghost use Rattle.coordinator.specs.Calls.{IsForeignOnly};
 ghost use Rattle.coordinator.specs.Passes.{IsAnswered};
 ghost use Rattle.desk.specs.Files.{IsShort};
+ghost use Rattle.desk.specs.Records.{IsReadOff};
 ghost use Rattle.session.specs.Gained.{GainsEach, LinkServed};
 ghost use Rattle.session.specs.Parts.{Serves, PutsLast, refused_as, one_reply};
 ghost use Rattle.session.specs.SessionText.{at_pass};
@@ -38,16 +39,18 @@ fn kind_of(fault: &CallFault) -> Kind
     }
 }
 
-/// Makes the turn of a call, and adds it to the pass. A question for a line waits for it at the gate; the runs of its table of needs have
+/// Makes the turn of a call that was read off this line, and adds it to the pass. A question for a line waits for it at the gate; the runs of its table of needs have
 /// none of their own.
 fn ask<R: Threads + Wait + Sync, L: Ledger, D: Disk, G: Gate>(
     rt: &R,
     coordinator: &Coordinator<L, D>,
     gate: &G,
     pass: &mut Pass<L>,
+    line: &[u8],
     call: Call,
 ) -> Result<(), CallFault>
     requires short { IsShort call }
+    requires read { IsReadOff line.now call }
     ensures ok { OnOk result (IsAnswered pass.old call pass.new) }
     ensures err { OnErr result (pass.new ≡ pass.old) }
     ensures foreign { IfErr result (λ fault. IsForeignOnly pass.old fault) }
@@ -55,7 +58,7 @@ fn ask<R: Threads + Wait + Sync, L: Ledger, D: Disk, G: Gate>(
     match call {
         Call::Line(names) => coordinator.ask(rt, pass, gate, &OpenChunks, Call::Line(names)),
         Call::Garbage => coordinator.ask(rt, pass, gate, &OpenChunks, Call::Garbage),
-        other => coordinator.call(rt, pass, other),
+        other => coordinator.call_read(rt, pass, line, other),
     }
 }
 
@@ -84,7 +87,7 @@ fn serve_by_pass<R: Threads + Wait + Sync, L: Ledger, D: Disk, G: Gate, K: Link>
 {
     let read = read_line(coordinator.alloc(), line);
     let last = is_bye(&read);
-    match ask(rt, coordinator, gate, pass, call_of(read)) {
+    match ask(rt, coordinator, gate, pass, line, call_of(read)) {
         Err(fault) => Some(kind_of(&fault)),
         Ok(()) => match put_shown(pass, link) {
             Ok(()) if last => Some(Kind::Bye),

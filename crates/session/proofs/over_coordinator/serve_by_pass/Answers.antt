@@ -1,12 +1,15 @@
 use Rattle.std.proofs.Common.{ap, sym, ◌∙◌}
 use Rattle.std.proofs.lemmas.Bool.{false≢true}
 use Rattle.session.specs.Parts.{call_read}
-use Rattle.session.proofs.TurnSteps.{means_read, short_read, bye_read}
+use Rattle.session.proofs.TurnSteps.{means_read, short_read, read_off, bye_read}
 use Rattle.session.proofs.Gaining.{some_entries, answered_on, answered_bye, answered_part, none_made}
 use Rattle.session.proofs.over_coordinator.serve_by_pass.Goals as goal
 
 pub ask-requires-clause-short : goal.ask-requires-clause-short
 ask-requires-clause-short g c κs within = rw c.call_of.ensures (short_read c.args.line.now c.read_line-read.result c.requires.short c.read_line-read.ensures.exact)
+
+pub ask-requires-clause-read : goal.ask-requires-clause-read
+ask-requires-clause-read g c κs within = rw c.call_of.ensures (read_off c.args.line.now c.read_line-read.result c.read_line-read.ensures.exact)
 
 pub put_shown-requires : goal.put_shown-requires
 put_shown-requires g c = some_entries _ _ _ c.in-Ok.ensures.ok

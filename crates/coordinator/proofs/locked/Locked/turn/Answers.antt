@@ -24,8 +24,8 @@ returns-clause-ok g c =
     let added : c.push_reserved.new.self.items ≡ es ++ e ∷ [] = rw (← c.reserve.ensures.items, ← c.new.ensures) c.push_reserved.ensures.items in
     let last : last_turn es ≡ c.last_turn-last.result = ap (λ (v : PassState). last_turn v.entries) c.pass.view_is ∙ sym c.last_turn-last.ensures in
     rw (← c.pass.view_is, c.seen_after.ensures)
-    (turn-one c.args.self.now.desk c.turn.new.self _ c.args.call c.args.copy c.in-Ok.receipt c.add.new.share.amount c.push_reserved.new.self.items
+    (turn-one c.args.self.now.desk c.make_turn.new.desk _ c.args.call c.args.copy c.in-Ok.receipt c.add.new.share.amount c.push_reserved.new.self.items
     (_, c.lawful-2.ensures.lawful.admitted)
-    (record { step = c.in-Ok.ensures.step; turns = c.in-Ok.ensures.turns; number = c.in-Ok.ensures.number; opening = c.turn.ensures.opening; found = c.turn.ensures.found })
+    (record { step = c.in-Ok.ensures.step; turns = c.in-Ok.ensures.turns; number = c.in-Ok.ensures.number; opening = c.make_turn.ensures.opening; found = c.make_turn.ensures.found })
     (omega (arith, c.if-pass-front.false, c.front-front.ensures)) (omega (arith, last, c.if-last-turns.false, ap length c.turns.ensures, c.lawful.ensures.lawful.few))
     c.pass.invariant.3 c.requires.copy c.add.ensures.amount added)

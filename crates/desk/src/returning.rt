@@ -52,6 +52,7 @@ fn return_all<D: Disk>(
 }
 
 /// The turn of a settlement.
+#[inline(never)]
 pub(crate) fn settlement_placed<D: Disk>(
     chains: &mut Chains,
     store: &mut Store<D>,

@@ -54,6 +54,7 @@ impl Twice {
 }
 
 /// The device failed, or was not called any more.
+#[inline(never)]
 pub(crate) fn failed(outcome: Outcome) -> Twice
     ensures { result ≡ Reply.Fail outcome }
 {
@@ -94,6 +95,7 @@ pub(crate) fn old(front: u32) -> Twice
 }
 
 /// The line was no call.
+#[inline(never)]
 pub(crate) fn bad(number: u8) -> Twice
     ensures { result ≡ Reply.Bad number }
 {
@@ -104,6 +106,7 @@ pub(crate) fn bad(number: u8) -> Twice
 }
 
 /// The client is done.
+#[inline(never)]
 pub(crate) fn bye() -> Twice
     ensures { result ≡ Reply.Bye }
 {
@@ -134,6 +137,7 @@ fn refusal(code: Code, name: Option<Name>) -> Reply
 }
 
 /// A refusal with nothing to name.
+#[inline(never)]
 pub(crate) fn refused(code: Code) -> Twice
     ensures { result ≡ Reply.No code None None }
 {
@@ -155,6 +159,7 @@ fn refused_named(code: Code, name: Name) -> Twice
 }
 
 /// A refusal of a report; or want of memory, where its value takes memory.
+#[inline(never)]
 pub(crate) fn refused_by(alloc: Global, refused_as: No) -> Twice
     ensures { (result ≡ Reply.No refused_as.code refused_as.name refused_as.value)
         ⊎ (TakesMemory (Reply.No refused_as.code refused_as.name refused_as.value) × (result ≡ no_memory)) }

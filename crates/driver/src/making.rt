@@ -370,6 +370,7 @@ fn fork_parts(
     })
 }
 
+#[inline(never)]
 pub(crate) fn work(alloc: Global, tables: &Tables, process: &Name) -> Result<Made, StepFault>
     requires { AreSound tables.now }
     ensures { MakingTold tables.now.root (history_in tables.now) process.now Act.Work result }
@@ -380,6 +381,7 @@ pub(crate) fn work(alloc: Global, tables: &Tables, process: &Name) -> Result<Mad
     Ok(made)
 }
 
+#[inline(never)]
 pub(crate) fn check(alloc: Global, tables: &Tables, process: &Name) -> Result<Made, StepFault>
     requires { AreSound tables.now }
     ensures { MakingTold tables.now.root (history_in tables.now) process.now Act.Check result }
@@ -402,6 +404,7 @@ pub(crate) fn check(alloc: Global, tables: &Tables, process: &Name) -> Result<Ma
     ))
 }
 
+#[inline(never)]
 pub(crate) fn present(alloc: Global, tables: &Tables, process: &Name) -> Result<Made, StepFault>
     requires { AreSound tables.now }
     ensures { MakingTold tables.now.root (history_in tables.now) process.now Act.Present result }
@@ -424,6 +427,7 @@ pub(crate) fn present(alloc: Global, tables: &Tables, process: &Name) -> Result<
     ))
 }
 
+#[inline(never)]
 pub(crate) fn send(
     alloc: Global,
     tables: &Tables,
@@ -455,6 +459,7 @@ pub(crate) fn send(
     }
 }
 
+#[inline(never)]
 pub(crate) fn receive(
     alloc: Global,
     tables: &Tables,
@@ -478,6 +483,7 @@ pub(crate) fn receive(
     }
 }
 
+#[inline(never)]
 pub(crate) fn fork(
     alloc: Global,
     tables: &Tables,
@@ -527,6 +533,7 @@ pub(crate) fn fork(
     ))
 }
 
+#[inline(never)]
 pub(crate) fn retire(
     alloc: Global,
     tables: &Tables,
@@ -567,6 +574,7 @@ pub(crate) fn retire(
     ))
 }
 
+#[inline(never)]
 pub(crate) fn absorb(
     alloc: Global,
     tables: &Tables,

@@ -50,6 +50,7 @@ fn read_id(alloc: Global, word: &[u8]) -> Result<Id, LineFault>
     }
 }
 
+#[inline(never)]
 fn read_names(alloc: Global, word: &[u8]) -> Result<Names, LineFault>
     ensures { Finds result (λ ns. AreNames ns × (word.now ≡ names_text ns)) }
 {
@@ -126,6 +127,7 @@ fn last_name(words: &mut Words<'_>) -> Result<Name, LineFault>
     }
 }
 
+#[inline(never)]
 fn read_fork(alloc: Global, words: &mut Words<'_>) -> Result<Action, LineFault>
     ensures { Finds result (IsActionOf (codes "FORK") words.old) }
 {
@@ -139,6 +141,7 @@ fn read_fork(alloc: Global, words: &mut Words<'_>) -> Result<Action, LineFault>
     }
 }
 
+#[inline(never)]
 fn read_retire(alloc: Global, words: &mut Words<'_>) -> Result<Action, LineFault>
     ensures { Finds result (IsActionOf (codes "RETIRE") words.old) }
 {
@@ -148,6 +151,7 @@ fn read_retire(alloc: Global, words: &mut Words<'_>) -> Result<Action, LineFault
     })
 }
 
+#[inline(never)]
 fn read_absorb(alloc: Global, words: &mut Words<'_>) -> Result<Action, LineFault>
     ensures { Finds result (IsActionOf (codes "ABSORB") words.old) }
 {
@@ -223,6 +227,7 @@ fn read_numbered(alloc: Global, kind: &[u8], words: &mut Words<'_>) -> Result<Ca
     Ok(Call::Report(MarkedReport { epoch, report }))
 }
 
+#[inline(never)]
 fn read_begin(alloc: Global, words: &mut Words<'_>) -> Result<Call, LineFault>
     ensures { Finds result (IsCallOf (codes "BEGIN" ∷ words.old)) }
 {
@@ -231,6 +236,7 @@ fn read_begin(alloc: Global, words: &mut Words<'_>) -> Result<Call, LineFault>
     Ok(Call::Report(MarkedReport::unmarked(Shared::new(alloc, report)?)))
 }
 
+#[inline(never)]
 fn read_failed(alloc: Global, words: &mut Words<'_>) -> Result<Call, LineFault>
     ensures { Finds result (IsCallOf (codes "LINE" ∷ words.old)) }
 {
@@ -255,6 +261,7 @@ fn read_garbage(words: &Words<'_>) -> Result<Call, LineFault>
     }
 }
 
+#[inline(never)]
 fn read_settle(alloc: Global, words: &mut Words<'_>) -> Result<Call, LineFault>
     ensures { Finds result (IsCallOf (codes "SETTLE" ∷ words.old)) }
 {
@@ -270,6 +277,7 @@ fn read_settle(alloc: Global, words: &mut Words<'_>) -> Result<Call, LineFault>
     }
 }
 
+#[inline(never)]
 fn read_state(alloc: Global, words: &mut Words<'_>) -> Result<Call, LineFault>
     ensures { Finds result (IsCallOf (codes "STATE" ∷ words.old)) }
 {

@@ -154,9 +154,9 @@ past_at epochs epoch present i e all at same =
     let here : get_or epochs i 0 ≤ epoch = All-get_or (λ x. x ≤ epoch) epochs i 0 (slice_get_within epochs i e at) all in
     omega (arith, get_or_from_slice_get epochs i e 0 at)
 
--- where the next one does not fit, all that is kept is not folded
-pub not_folded : (limits : Limits) (accepted : List Report) (i : ℕ) (r : Report) → slice_get accepted i ≡ Some r → is_settled limits r ≡ true → ¬ IsFit (settled_by limits (take i accepted)) r → ¬ IsFolded (settled_by limits accepted)
-not_folded limits accepted i r at is unfit folded = unfit (fit_before (settled_by limits accepted) (settled_by limits (take i accepted)) (settled_by limits (drop (i + 1) accepted)) r folded parts)
+-- where all that is kept is folded, the next one fits
+pub fits_folded : (limits : Limits) (accepted : List Report) (i : ℕ) (r : Report) → slice_get accepted i ≡ Some r → is_settled limits r ≡ true → IsFolded (settled_by limits accepted) → IsFit (settled_by limits (take i accepted)) r
+fits_folded limits accepted i r at is folded = fit_before (settled_by limits accepted) (settled_by limits (take i accepted)) (settled_by limits (drop (i + 1) accepted)) r folded parts
   where
     whole : accepted ≡ take i accepted ++ r ∷ drop (i + 1) accepted
     whole =
@@ -167,6 +167,10 @@ not_folded limits accepted i r at is unfit folded = unfit (fit_before (settled_b
     parts =
         ap (settled_by limits) whole ∙ filter-append (is_settled limits) (take i accepted) (r ∷ drop (i + 1) accepted)
         ∙ ap (λ (l : List Report). settled_by limits (take i accepted) ++ l) (cond-true (is_settled limits r) (r ∷ settled_by limits (drop (i + 1) accepted)) (settled_by limits (drop (i + 1) accepted)) is)
+
+-- where the next one does not fit, all that is kept is not folded
+pub not_folded : (limits : Limits) (accepted : List Report) (i : ℕ) (r : Report) → slice_get accepted i ≡ Some r → is_settled limits r ≡ true → ¬ IsFit (settled_by limits (take i accepted)) r → ¬ IsFolded (settled_by limits accepted)
+not_folded limits accepted i r at is unfit folded = unfit (fits_folded limits accepted i r at is folded)
 
 -- ---- all of them
 

@@ -1,6 +1,6 @@
 //! The tests of a report that is folded again.
 
-ghost use Rattle.std.specs.Prelude.{◌≡◌, ◌↔◌, ◌≤◌, ◌<◌, ◌++◌, ◌∷◌, [], length, IsTrue, IfErr, OnOk, Err, Some, None};
+ghost use Rattle.std.specs.Prelude.{◌≡◌, ◌↔◌, ◌≤◌, ◌<◌, ◌++◌, ◌∷◌, [], length, IsTrue, IfErr, OnOk, OnErr, Err, Some, None};
 ghost use Rattle.id_tree.specs.Points.{AreDisjoint};
 ghost use Rattle.report_line.specs.declared.report.Action.TheVariants as actions;
 ghost use Rattle.chains.specs.Processes.{known, registered_id, target_of, Waits};
@@ -16,6 +16,7 @@ use crate::chains::Chains;
 use crate::keeping::KeepFault;
 use crate::tests::is_split;
 use report_line::{ActionView, Forked, MarkedReport, Name, NumberedView, PackedReport, ReportView};
+use std::alloc::AllocError;
 
 impl Chains {
     /// Puts a report behind those that are folded, with its epoch, where it is fit; the front counts it.
@@ -31,13 +32,37 @@ impl Chains {
         if !self.fits(&report.report, number) {
             return Err(KeepFault::Unfit);
         }
-        match self.ready(report, number) {
-            Ok(ready) => {
-                self.accept(ready);
-                Ok(())
-            }
+        match self.put(report, number) {
+            Ok(()) => Ok(()),
             Err(_) => Err(KeepFault::Memory),
         }
+    }
+
+    /// Puts a report that is fit behind those that are folded, with its epoch; the front counts it.
+    pub(crate) fn fold_fit(&mut self, report: MarkedReport) -> Result<(), AllocError>
+        requires fit { IsFit self.old.accepted report.report }
+        requires past { report.epoch ≤ self.old.epoch }
+        requires few { self.old.front < report_limit }
+        requires few_known { length (known (self.old.accepted ++ report.report ∷ [])) ≤ process_limit }
+        ensures { OnOk result (held_of self.new ≡ with_report (held_of self.old) report) }
+    {
+        let number = self.number_in(&report.report);
+        self.put(report, number)
+    }
+
+    /// The same with the number of the process that reports.
+    fn put(&mut self, report: MarkedReport, number: Option<u32>) -> Result<(), AllocError>
+        requires number { IsNumberIn self.old.accepted report.report number }
+        requires fit { IsFit self.old.accepted report.report }
+        requires past { report.epoch ≤ self.old.epoch }
+        requires few { self.old.front < report_limit }
+        requires few_known { length (known (self.old.accepted ++ report.report ∷ [])) ≤ process_limit }
+        ensures ok { OnOk result (held_of self.new ≡ with_report (held_of self.old) report) }
+        ensures err { OnErr result (held_of self.new ≡ held_of self.old) }
+    {
+        let ready = self.ready(report, number)?;
+        self.accept(ready);
+        Ok(())
     }
 
     /// Whether the tests of admission let the report pass, but for its epoch, for the target of a retirement and for room. The

@@ -50,6 +50,20 @@ impl Chains {
         }
     }
 
+    /// The same of a line that can be kept, which its caller knows: so no report is tested again.
+    pub fn keep_fit(&self, line: &Line) -> Result<Chains, AllocError>
+        requires { CanBeKept self.now.accepted line.now }
+        ensures { IfOk result (λ kept. held_of kept ≡ kept_at (held_of self.now) (positions_of line.now)) }
+    {
+        self.lawful();
+        let mut kept = Chains::new(self.alloc());
+        kept.count_from(self.epoch(), self.epoch());
+        let limits = limits(self, line.as_slice())?;
+        fold_fit_settled(self, &limits, &mut kept)?;
+        kept.count_from(self.front(), self.epoch());
+        Ok(kept)
+    }
+
     /// Counts a settlement: one more line, and one more epoch.
     pub fn count_settlement(&mut self)
         requires { self.old.front < report_limit }
@@ -242,6 +256,40 @@ fn fold_if_settled(
         Ok(marked) => kept.fold(marked),
         Err(_) => Err(KeepFault::Memory),
     }
+}
+
+/// Folds the reports within these limits of their processes, which fold, one behind the other.
+fn fold_fit_settled(chains: &Chains, limits: &[u32], kept: &mut Chains) -> Result<(), AllocError>
+    requires limits { length limits.now ≡ length (known chains.now.accepted) }
+    requires begun { held_of kept.old ≡ counted_from (counting []) chains.now.epoch chains.now.epoch }
+    requires folded { IsFolded (settled_by (limits_in (known chains.now.accepted) limits.now) chains.now.accepted) }
+    ensures { OnOk result (IsKeptTo (held_of chains.now) (limits_in (known chains.now.accepted) limits.now) (length chains.now.accepted) (held_of kept.new)) }
+{
+    for i in 0..chains.report_count() {
+        fold_fit_if_settled(chains, limits, i, kept)?;
+    }
+    Ok(())
+}
+
+/// Folds report i of the accepted ones, if it is within the limit of its process, where those within their limits fold.
+fn fold_fit_if_settled(
+    chains: &Chains,
+    limits: &[u32],
+    i: u32,
+    kept: &mut Chains,
+) -> Result<(), AllocError>
+    requires limits { length limits.now ≡ length (known chains.now.accepted) }
+    requires within { i < length chains.now.accepted }
+    requires kept { IsKeptTo (held_of chains.now) (limits_in (known chains.now.accepted) limits.now) i (held_of kept.old) }
+    requires folded { IsFolded (settled_by (limits_in (known chains.now.accepted) limits.now) chains.now.accepted) }
+    ensures { OnOk result (IsKeptTo (held_of chains.now) (limits_in (known chains.now.accepted) limits.now) (i + 1) (held_of kept.new)) }
+{
+    chains.lawful();
+    if !is_settled(chains, limits, i) {
+        return Ok(());
+    }
+    let marked = chains.marked(i)?;
+    kept.fold_fit(marked)
 }
 
 /// Whether report i of the accepted ones is within the limit of its process.

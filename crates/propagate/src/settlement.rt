@@ -4,28 +4,15 @@ ghost use Rattle.std.specs.Prelude.{◌≡◌, ◌<◌, All, ℕ, List, IfOk};
 ghost use Rattle.report_line.specs.declared.report.Report.{Report};
 ghost use Rattle.chains.specs.declared.position.Position.{Position};
 ghost use Rattle.chains.specs.Processes.{Name as AnyName, IsKnown};
-ghost use Rattle.chains.specs.Positions.{positions_of};
 ghost use Rattle.chains.specs.Admission.{report_limit};
 ghost use Rattle.chains.specs.Held.{Held, held_of};
-ghost use Rattle.chains.specs.Settled.{kept_at, CanBeKept, IsSettledFor, IsSettled};
+ghost use Rattle.chains.specs.Settled.{IsSettledFor, IsSettled};
 ghost use Rattle.propagate.specs.Greatest.{IsGreatestCut};
 
 use crate::cut::greatest_cut;
-use chains::{Chains, Failed, FailedFault, KeepFault, Line};
+use chains::{Chains, Failed, FailedFault};
 use report_line::Name;
 use std::alloc::AllocError;
-
-/// What a line keeps that can be kept.
-fn keep(chains: &Chains, line: &Line) -> Result<Chains, AllocError>
-    requires { CanBeKept chains.now.accepted line.now }
-    ensures { IfOk result (λ kept. held_of kept ≡ kept_at (held_of chains.now) (positions_of line.now)) }
-{
-    match chains.keep(line) {
-        Ok(kept) => Ok(kept),
-        Err(KeepFault::Unfit) => unreachable!(),
-        Err(KeepFault::Memory) => Err(AllocError),
-    }
-}
 
 /// The chains once all processes returned to the line of these failed ones: what the line keeps, with one more line and one more
 /// settlement counted. Its caller tested that there is room for one more line.
@@ -35,7 +22,7 @@ pub fn settle(chains: &Chains, failed: &Failed) -> Result<Chains, AllocError>
 {
     chains.lawful();
     let cut = greatest_cut(chains, failed)?;
-    let mut kept = keep(chains, &cut.line)?;
+    let mut kept = chains.keep_fit(&cut.line)?;
     kept.count_settlement();
     kept.lawful();
     Ok(kept)

@@ -2,5 +2,5 @@ use Rattle.propagate.proofs.Keepable.{can_be_kept}
 use Rattle.propagate.proofs.settlement.settle.Goals as goal
 
 -- the greatest cut can be kept
-pub keep-requires : goal.keep-requires
-keep-requires c = can_be_kept c.args.chains.now.accepted c.args.failed.now c.in_ok-cut.cut.line c.lawful.ensures.folded c.in_ok-cut.ensures.in_order c.in_ok-cut.ensures.line
+pub keep_fit-requires : goal.keep_fit-requires
+keep_fit-requires c = can_be_kept c.args.chains.now.accepted c.args.failed.now c.in_ok-cut.cut.line c.lawful.ensures.folded c.in_ok-cut.ensures.in_order c.in_ok-cut.ensures.line

@@ -1,0 +1,42 @@
+use Rattle.std.proofs.Common.{◌+◌, sym, subst, ◌∙◌, List}
+use Rattle.std.proofs.lemmas.Result.{on_ok_weaker}
+use Rattle.report_line.specs.declared.report.Report.{Report}
+use Rattle.chains.specs.Processes.{known}
+use Rattle.chains.specs.Held.{held_of}
+use Rattle.chains.specs.Folded.{IsFit}
+use Rattle.chains.specs.Settling.{limits_in, IsKeptTo}
+use Rattle.chains.proofs.LineReports.{kept_same, kept_more, kept_few, kept_few_known, past_at, fits_folded}
+use Rattle.chains.proofs.keeping.fold_fit_if_settled.Goals as goal
+
+pub returns-then-not-is_settled : goal.returns-then-not-is_settled
+returns-then-not-is_settled c =
+    kept_same (held_of c.args.chains.now) (limits_in (known c.args.chains.now.accepted) c.args.limits.now) c.args.i (held_of c.args.kept.now) c.is_settled.result c.lawful.ensures.marked c.requires.within c.is_settled.ensures
+    c.if-not-is_settled.true c.requires.kept
+
+pub fold_fit-requires-clause-fit : goal.fold_fit-requires-clause-fit
+fold_fit-requires-clause-fit c =
+    subst (λ (l : List Report). IsFit l c.in_ok-marked.marked.report) (sym c.requires.kept.accepted)
+    (fits_folded (limits_in (known c.args.chains.now.accepted) c.args.limits.now) c.args.chains.now.accepted c.args.i c.in_ok-marked.marked.report c.in_ok-marked.ensures.report
+    (sym (c.is_settled.ensures c.in_ok-marked.marked.report c.in_ok-marked.ensures.report) ∙ c.if-not-is_settled.false) c.requires.folded)
+
+pub fold_fit-requires-clause-past : goal.fold_fit-requires-clause-past
+fold_fit-requires-clause-past c = past_at c.args.chains.now.epochs c.args.chains.now.epoch c.args.kept.now.epoch c.args.i c.in_ok-marked.marked.epoch c.lawful.ensures.past c.in_ok-marked.ensures.epoch c.requires.kept.epoch
+
+pub fold_fit-requires-clause-few : goal.fold_fit-requires-clause-few
+fold_fit-requires-clause-few c =
+    kept_few (held_of c.args.chains.now) (limits_in (known c.args.chains.now.accepted) c.args.limits.now) c.args.i (held_of c.args.kept.now) c.requires.kept c.requires.within c.lawful.ensures.counted c.lawful.ensures.few_lines
+
+pub fold_fit-requires-clause-few_known : goal.fold_fit-requires-clause-few_known
+fold_fit-requires-clause-few_known c =
+    kept_few_known (held_of c.args.chains.now) (limits_in (known c.args.chains.now.accepted) c.args.limits.now) c.args.i (held_of c.args.kept.now) c.in_ok-marked.marked.report c.requires.kept c.in_ok-marked.ensures.report
+    (sym (c.is_settled.ensures c.in_ok-marked.marked.report c.in_ok-marked.ensures.report) ∙ c.if-not-is_settled.false) c.lawful.ensures.few_known
+
+pub returns : goal.returns
+returns c =
+    let limits = limits_in (known c.args.chains.now.accepted) c.args.limits.now in
+    on_ok_weaker c.fold_fit.result
+    (λ folded.
+    subst (IsKeptTo (held_of c.args.chains.now) limits (c.args.i + 1)) (sym folded)
+    (kept_more (held_of c.args.chains.now) limits c.args.i (held_of c.args.kept.now) c.in_ok-marked.marked c.lawful.ensures.marked c.in_ok-marked.ensures.report c.in_ok-marked.ensures.epoch
+    (sym (c.is_settled.ensures c.in_ok-marked.marked.report c.in_ok-marked.ensures.report) ∙ c.if-not-is_settled.false) c.requires.kept))
+    c.fold_fit.ensures

@@ -5,8 +5,7 @@ use Rattle.std.specs.Char.{is_ascii_digit}
 use Rattle.std.specs.Prelude.{Bool, ◌==◌, nat_le}
 use Rattle.std.proofs.lemmas.Bool.{cases_Bool, both_ways, lt-leb}
 use Rattle.std.proofs.lemmas.Bool.Decides.{nat_tests}
-use borrow.Rule.Slice.PartMut.{put_mid, post_of}
-use Rattle.std.proofs.Math.Seq.{take-append_seam, drop-append_seam}
+use Rattle.std.proofs.Math.Seq.{take-append_seam}
 use Rattle.event_tree.specs.EventTree.{EventTree, Leaf, Node}
 use Rattle.event_tree.specs.Halves.{root}
 use Rattle.event_tree.specs.NormalForm.{IsNormal, IsEvents, least, are_equal_leaves}
@@ -90,18 +89,6 @@ some_room (x ∷ xs) b is h = omega arith
 pub leaf_there : (room : List Entry) (n : ℕ) → 0 < length room → set room 0 (entry n 1) ≡ preorder (Leaf n) ++ drop 1 room
 leaf_there [] n some = absurd (omega (arith, some))
 leaf_there (x ∷ xs) n some = refl
-
--- what was read into a part of the room
-pub taken_behind : (levels above : ℕ) (text : List ℕ) (room part : List Entry) (rest : List ℕ) (at k : ℕ) → IsTaken levels above text [] part rest → IsTaken levels above text (take at room) (put_mid at k room part) rest
-taken_behind levels above text room part rest at k h = record {
-  tree = h.tree;
-  spare = h.spare ++ post_of at k room;
-  spelled = h.spelled;
-  are = rw h.are (ap (λ (es : List Entry). take at room ++ es) (append_assoc (preorder h.tree) h.spare (post_of at k room)));
-  normal = h.normal;
-  shallow = h.shallow;
-  small = h.small;
-}
 
 -- the room with a first half behind the entry in front
 pub record IsHalfway (room : List Entry) (a : EventTree) (spare : List Entry) : Type 0 where
@@ -193,18 +180,6 @@ node_taken levels above less n sum middle left inside room final left_rest right
       before = drop 1 (spelling (Node n a b));
       behind = ap (drop 1) spelled;
     }
-
--- what stands behind a node, from how many bytes that are
-pub left_within_text : (levels above : ℕ) (inside : List ℕ) (room : List Entry) (left : ℕ) → IsNodeTaken levels above inside room left → left ≤ length inside
-left_within_text levels above inside room left h = omega (arith, h.left_is, ap length h.behind, length-append h.before h.rest)
-
-pub behind_node : (levels above : ℕ) (inside : List ℕ) (room : List Entry) (left at : ℕ) → (h : IsNodeTaken levels above inside room left) → at ≡ length inside - left → drop at inside ≡ h.rest
-behind_node levels above inside room left at h is =
-    let long : at ≡ length h.before = omega (arith, is, h.left_is, ap length h.behind, length-append h.before h.rest) in
-    rw (h.behind, long) (drop-append_seam h.before h.rest)
-
-pub node_as_tree : (levels above : ℕ) (text inside : List ℕ) (room : List Entry) (rest : List ℕ) (left at : ℕ) → IsNodeTaken levels above inside room left → text ≡ 40 ∷ inside → at ≡ length inside - left → rest ≡ drop at inside → IsTaken levels above text [] room rest
-node_as_tree levels above text inside room rest left at h bracket is there = rw (bracket, there ∙ behind_node levels above inside room left at h is) h.taken
 
 -- ---- the whole text
 

@@ -29,11 +29,11 @@ fn behind(byte: u8, text: &[u8]) -> Option<&[u8]>
 
 // The value of the digit that stands at the front, and what stands behind it.
 #[inline(always)]
-fn take_digit(text: &[u8]) -> Option<(u32, &[u8])>
+fn take_digit(text: &[u8]) -> Option<(u64, &[u8])>
     ensures { IfSome result (λ taken. (text.now ≡ (48 + taken.0) ∷ taken.1.now) × (taken.0 < 10)) }
 {
     match text {
-        [first, rest @ ..] if first.is_ascii_digit() => Some((u32::from(*first - b'0'), rest)),
+        [first, rest @ ..] if first.is_ascii_digit() => Some((u64::from(*first - b'0'), rest)),
         _ => None,
     }
 }
@@ -49,10 +49,13 @@ fn take_number(text: &[u8]) -> Option<(u32, &[u8])>
     }
     let mut number = first;
     while let Some((digit, later)) = take_digit(rest) {
-        number = number.checked_mul(10)?.checked_add(digit)?;
+        number = number * 10 + digit;
+        if number > u64::from(u32::MAX) {
+            return None;
+        }
         rest = later;
     }
-    Some((number, rest))
+    Some((number as u32, rest))
 }
 
 // The leaf that stands at the front, below nodes whose bases have this sum: what stands behind it. Its entry is the first of the

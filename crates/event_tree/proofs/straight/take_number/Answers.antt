@@ -1,4 +1,4 @@
-use Rattle.std.proofs.Common.{◌+◌, ◌*◌, ◌≡◌, arith}
+use Rattle.std.proofs.Common.{◌+◌, ◌*◌, refl, arith}
 use Rattle.event_tree.proofs.Takes.{taken_one, taken_more}
 use Rattle.event_tree.proofs.straight.take_number.Goals as goal
 
@@ -10,10 +10,8 @@ loop-digit-init c = (taken_one c.args.text.now c.in_ok-first.rest.now c.in_ok-fi
 
 pub loop-digit-preserved : goal.loop-digit-preserved
 loop-digit-preserved c =
-    let product = c.in_ok-checked_mul.ensures in
-    let sum = c.in_ok-number.ensures in
-    let here : c.in_ok-number.number ≡ c.loop-digit.number * 10 + c.in-Some.digit = omega (arith, sum.1, product.1) in (
-      taken_more c.args.text.now c.loop-digit.rest.now c.in-Some.later.now c.loop-digit.number c.in-Some.digit c.in_ok-number.number c.loop-digit.invariant.0 c.in-Some.ensures.0 c.loop-digit.invariant.1 (omega (arith, product.0)) c.in-Some.ensures.1 here (omega (arith, sum.0, sum.1)),
-      omega (arith, here, c.loop-digit.invariant.1),
-      omega (arith, sum.0, sum.1),
+    let more = c.loop-digit.number * 10 + c.in-Some.digit in (
+      taken_more c.args.text.now c.loop-digit.rest.now c.in-Some.later.now c.loop-digit.number c.in-Some.digit more c.loop-digit.invariant.0 c.in-Some.ensures.0 c.loop-digit.invariant.1 (omega (arith, c.loop-digit.invariant.2)) c.in-Some.ensures.1 refl (omega arith),
+      omega (arith, c.loop-digit.invariant.1),
+      omega arith,
     )

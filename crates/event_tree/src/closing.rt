@@ -1,15 +1,15 @@
 //! How a node's own entry is written once both halves stand behind it.
 
-ghost use Rattle.std.specs.Prelude.{◌≡◌, ◌<◌, ◌≤◌, ◌+◌, slice_index_or, ◌↔◌, ◌++◌, ◌∷◌, IsTrue, OnOk, List, length};
+ghost use Rattle.std.specs.Prelude.{◌≡◌, ◌<◌, ◌≤◌, ◌+◌, slice_index_or, ◌-◌, ◌↔◌, ◌++◌, ◌∷◌, IsTrue, IfOk, OnOk, List, length, take};
 ghost use Rattle.std.proofs.Common.{set};
 ghost use Rattle.id_tree.specs.IdTree.{One};
-ghost use Rattle.event_tree.specs.EventTree.{EventTree, Node};
+ghost use Rattle.event_tree.specs.EventTree.{EventTree, Leaf, Node};
 ghost use Rattle.event_tree.specs.Norm.{normal_node};
 ghost use Rattle.event_tree.specs.Size.{size};
 ghost use Rattle.event_tree.specs.Entries.{blank, preorder, EndsInHalves};
 ghost use Rattle.event_tree.specs.Walks.{left_raised, right_raised, AreFilled};
 
-use crate::entries::{Entries, Entry, push_leaf};
+use crate::entries::{Entries, Entry, push, push_leaf};
 use id_tree::{IdPart, IdView};
 use std::alloc::AllocError;
 
@@ -27,24 +27,45 @@ fn put(out: &mut Entries, at: usize, entry: Entry)
     out[at] = entry;
 }
 
+// Writes a node's own entry at `start`, and those of its halves.
+fn put_node(
+    out: &mut Entries,
+    start: usize,
+    own: Entry,
+    left: Entry,
+    middle: usize,
+    right: Entry,
+)
+    requires begins { start + 1 < length out.old.items }
+    requires within { middle < length out.old.items }
+    ensures { out.new.items ≡ set (set (set out.old.items (start + 1) left) middle right) start own }
+{
+    let entries = out.as_mut_slice();
+    entries[start + 1] = left;
+    entries[middle] = right;
+    entries[start] = own;
+}
+
+// How many entries there are from `start` on.
+fn size_from(out: &Entries, start: usize) -> Result<u32, AllocError>
+    requires { start < length out.now.items }
+    ensures { IfOk result (λ size. size ≡ length out.now.items - start) }
+{
+    let size = out.len() - start;
+    if size > u32::MAX as usize {
+        return Err(AllocError);
+    }
+    Ok(size as u32)
+}
+
 // Makes the entry at `start` that of a node of all behind it.
 pub fn seal(out: &mut Entries, n: u32, start: usize) -> Result<(), AllocError>
     requires { start < length out.old.items }
     ensures { OnOk result ((front : List Entry) (e : Entry) (a b : EventTree) → length front ≡ start
         → out.old.items ≡ front ++ e ∷ (preorder a ++ preorder b) → out.new.items ≡ front ++ preorder (Node n a b)) }
 {
-    let size = out.len() - start;
-    if size > u32::MAX as usize {
-        return Err(AllocError);
-    }
-    put(
-        out,
-        start,
-        Entry {
-            value: n,
-            size: size as u32,
-        },
-    );
+    let size = size_from(out, start)?;
+    put(out, start, Entry { value: n, size });
     Ok(())
 }
 
@@ -53,6 +74,15 @@ fn are_equal_leaves(left: Entry, right: Entry) -> bool
     ensures { IsTrue result ↔ ((left.size ≤ 1) × (right.size ≤ 1) × (left.value ≡ right.value)) }
 {
     left.size <= 1 && right.size <= 1 && left.value == right.value
+}
+
+// Puts a leaf in place of all from `start` on.
+#[inline(never)]
+fn replace_by_leaf(out: &mut Entries, start: usize, n: u32) -> Result<(), AllocError>
+    ensures { OnOk result (out.new.items ≡ take start out.old.items ++ preorder (Leaf n)) }
+{
+    out.truncate(start);
+    push_leaf(out, n)
 }
 
 // Makes the node that begins at `start`, with its second half at `middle`, one in normal form, above the base `n`.
@@ -64,27 +94,38 @@ pub fn close(out: &mut Entries, n: u32, start: usize, middle: usize) -> Result<(
     let left = look(out, start + 1);
     let right = look(out, middle);
     if are_equal_leaves(left, right) {
-        out.truncate(start);
-        return push_leaf(out, n + left.value);
+        return replace_by_leaf(out, start, n + left.value);
     }
     let k = left.value.min(right.value);
-    put(
+    let size = size_from(out, start)?;
+    put_node(
         out,
-        start + 1,
+        start,
+        Entry { value: n + k, size },
         Entry {
             value: left.value - k,
             size: left.size,
         },
-    );
-    put(
-        out,
         middle,
         Entry {
             value: right.value - k,
             size: right.size,
         },
     );
-    seal(out, n + k, start)
+    Ok(())
+}
+
+// Appends the node of two leaves in normal form, above the base 0.
+pub fn push_leaves(out: &mut Entries, m: u32, n: u32) -> Result<(), AllocError>
+    ensures { OnOk result (out.new.items ≡ out.old.items ++ preorder (normal_node 0 (Leaf m) (Leaf n))) }
+{
+    if m == n {
+        return push_leaf(out, m);
+    }
+    let k = m.min(n);
+    push(out, Entry { value: k, size: 3 })?;
+    push_leaf(out, m - k)?;
+    push_leaf(out, n - k)
 }
 
 pub fn owns_all(id: &IdView) -> bool

@@ -1,6 +1,6 @@
 //! The entries that a tree is kept as: its nodes and leaves in preorder, each with its value and the size of its part.
 
-ghost use Rattle.std.specs.Prelude.{◌≡◌, ◌↔◌, ◌≤◌, ◌++◌, [], IsTrue, IsOk, IfOk, OnOk, length};
+ghost use Rattle.std.specs.Prelude.{◌≡◌, ◌↔◌, ◌≤◌, ◌++◌, ◌∷◌, [], IsTrue, IsOk, IfOk, OnOk, length};
 ghost use Rattle.event_tree.specs.EventTree.{Leaf};
 ghost use Rattle.event_tree.specs.Entries.{preorder};
 
@@ -50,10 +50,31 @@ pub fn are_same(entries: &[Entry], others: &[Entry]) -> bool
     entries == others
 }
 
+// Appends an entry where there is no room for it yet.
+#[cold]
+#[inline(never)]
+fn push_beyond(out: &mut Entries, entry: Entry) -> Result<(), AllocError>
+    ensures { OnOk result (out.new.items ≡ out.old.items ++ entry ∷ []) }
+{
+    out.push(entry)?;
+    Ok(())
+}
+
+// Appends an entry.
+#[inline(always)]
+pub fn push(out: &mut Entries, entry: Entry) -> Result<(), AllocError>
+    ensures { OnOk result (out.new.items ≡ out.old.items ++ entry ∷ []) }
+{
+    if out.len() == out.capacity() {
+        return push_beyond(out, entry);
+    }
+    out.push_reserved(entry);
+    Ok(())
+}
+
 // Appends a leaf.
 pub fn push_leaf(out: &mut Entries, n: u32) -> Result<(), AllocError>
     ensures { OnOk result (out.new.items ≡ out.old.items ++ preorder (Leaf n)) }
 {
-    out.push(Entry { value: n, size: 1 })?;
-    Ok(())
+    push(out, Entry { value: n, size: 1 })
 }

@@ -122,7 +122,7 @@ impl Events {
     pub fn join(&self, alloc: Global, other: &Events) -> Result<Events, AllocError>
         ensures { IfOk result (λ joined. IsJoin self.now other.now joined) }
     {
-        let node = combined(alloc, Pick::Greater, &self.node.view(), &other.node.view())?;
+        let node = combined(alloc, Pick::Greater, self.node.view(), other.node.view())?;
         Ok(Events { node })
     }
 
@@ -130,7 +130,7 @@ impl Events {
     pub fn meet(&self, alloc: Global, other: &Events) -> Result<Events, AllocError>
         ensures { IfOk result (λ met. IsMeet self.now other.now met) }
     {
-        let node = combined(alloc, Pick::Lesser, &self.node.view(), &other.node.view())?;
+        let node = combined(alloc, Pick::Lesser, self.node.view(), other.node.view())?;
         Ok(Events { node })
     }
 
@@ -140,7 +140,7 @@ impl Events {
         ensures { IfOk result (λ bound. IsRestricted id.now self.now bound) }
     {
         id.known();
-        let node = restricted::restricted(alloc, &id.view(), &self.node.view())?;
+        let node = restricted::restricted(alloc, id.view(), self.node.view())?;
         Ok(Events { node })
     }
 

@@ -1,6 +1,7 @@
 //! An event tree restricted to an id, in one pass over both into one list.
 
 ghost use Rattle.std.specs.Prelude.{◌≡◌, ◌+◌, ◌<◌, ◌^◌, ◌++◌, IfOk, OnOk};
+ghost use Rattle.id_tree.specs.IdTree.{Pair};
 ghost use Rattle.event_tree.specs.NormalForm.{greatest};
 ghost use Rattle.event_tree.specs.Entries.{preorder};
 ghost use Rattle.event_tree.specs.Walks as walks;
@@ -13,30 +14,46 @@ use id_tree::{IdPart, IdView};
 use smallvec::SmallVec;
 use std::alloc::{AllocError, Global};
 
-// Appends `e` above the base `x` where the id owns, and the limit elsewhere; in normal form where `e` is.
-fn restricted_into(out: &mut Entries, id: &IdView, x: u32, e: &EventView) -> Result<(), AllocError>
-    requires { x + greatest e.now < 2 ^ 32 }
-    ensures { OnOk result (out.new.items ≡ out.old.items ++ preorder (walks.restricted_from id.now x e.now)) }
+// Appends `e` above the base `x` where the id owns, and the limit elsewhere; in normal form where `e` is. A half that owns nothing
+// or everything takes no call.
+#[inline(always)]
+#[cycle(restricted)]
+fn restricted_into(out: &mut Entries, id: IdView, x: u32, e: EventView) -> Result<(), AllocError>
+    requires { x + greatest e < 2 ^ 32 }
+    ensures { OnOk result (out.new.items ≡ out.old.items ++ preorder (walks.restricted_from id.entry x e.entry)) }
 {
     match id.part() {
         IdPart::Nothing => entries::push_leaf(out, u32::MAX),
         IdPart::Everything => e.append_lifted(out, x),
-        IdPart::Halves(l, r) => {
-            let (n, a, b) = e.halves();
-            let start = out.len();
-            out.push(Entry::default())?;
-            restricted_into(out, &l, x + n, &a)?;
-            let middle = out.len();
-            restricted_into(out, &r, x + n, &b)?;
-            closing::close(out, 0, start, middle)
-        }
+        IdPart::Halves(l, r) => restricted_in_halves(out, l, r, x, e),
     }
 }
 
+// The same for an id of two halves.
+#[cycle(restricted)]
+fn restricted_in_halves(
+    out: &mut Entries,
+    l: IdView,
+    r: IdView,
+    x: u32,
+    e: EventView,
+) -> Result<(), AllocError>
+    requires { x + greatest e < 2 ^ 32 }
+    ensures { OnOk result (out.new.items ≡ out.old.items ++ preorder (walks.restricted_from (Pair l.entry r.entry) x e.entry)) }
+{
+    let (n, a, b) = e.halves();
+    let start = out.len();
+    entries::push(out, Entry::default())?;
+    restricted_into(out, l, x + n, a)?;
+    let middle = out.len();
+    restricted_into(out, r, x + n, b)?;
+    closing::close(out, 0, start, middle)
+}
+
 // The tree where the id owns, and the limit elsewhere.
-pub fn restricted(alloc: Global, id: &IdView, e: &EventView) -> Result<Node, AllocError>
-    requires { greatest e.now < 2 ^ 32 }
-    ensures { IfOk result (λ node. node ≡ walks.restricted_from id.now 0 e.now) }
+pub fn restricted(alloc: Global, id: IdView, e: EventView) -> Result<Node, AllocError>
+    requires { greatest e < 2 ^ 32 }
+    ensures { IfOk result (λ node. node ≡ walks.restricted_from id.entry 0 e.entry) }
 {
     // What the id owns may be a small part of the tree, so no room is made beforehand.
     let mut out = SmallVec::new(alloc);

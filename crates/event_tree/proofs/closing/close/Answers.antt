@@ -1,9 +1,6 @@
-use Rattle.std.proofs.Common.{◌+◌, ◌-◌, ◌∙◌, ◌++◌, ap, length, arith, length-set}
+use Rattle.std.proofs.Common.{arith}
 use Rattle.std.proofs.lemmas.Bool.{both_ways}
-use Rattle.event_tree.specs.EventTree.{EventTree}
-use Rattle.event_tree.specs.Norm.{lowered}
-use Rattle.event_tree.specs.Entries.{preorder, entry}
-use Rattle.event_tree.proofs.Closed.{HalvesAt, Read, halves_here, middle_within, one_fits, closes, stays, node_stays, on_ok}
+use Rattle.event_tree.proofs.Closed.{HalvesAt, Read, halves_here, middle_within, one_fits, closes, node_closed, on_ok}
 use Rattle.event_tree.proofs.closing.close.Goals as goal
 
 pub look-left-requires : goal.look-left-requires
@@ -20,17 +17,23 @@ overflow_add-n c =
 
 pub returns-then-are_equal_leaves : goal.returns-then-are_equal_leaves
 returns-then-are_equal_leaves c =
-    on_ok c.push_leaf.result
+    on_ok c.replace_by_leaf.result
     (λ is front e a b h m are.
     closes c.args.out.now.items _ front e c.look-left.result c.look-right.result a b c.args.n c.args.start c.args.middle
     (record { begins = h; halved = m; are = are })
     (record { one_read = c.look-left.ensures; other_read = c.look-right.ensures })
     (c.are_equal_leaves.ensures.0 c.if-are_equal_leaves.true)
-    (rw (← c.truncate.ensures.items) is))
-    c.push_leaf.ensures
+    is)
+    c.replace_by_leaf.ensures
 
-pub put-requires-2 : goal.put-requires-2
-put-requires-2 c = omega (arith, (middle_within _ _ _ _ _ _ _ (halves_here _ _ _ _ c.requires)).1, ap length c.put.ensures, length-set c.args.out.now.items (c.args.start + 1) (entry (c.look-left.result.value - c.min-k.result) c.look-left.result.size))
+pub size_from-requires : goal.size_from-requires
+size_from-requires c = (middle_within _ _ _ _ _ _ _ (halves_here _ _ _ _ c.requires)).2
+
+pub put_node-requires-clause-begins : goal.put_node-requires-clause-begins
+put_node-requires-clause-begins c = (middle_within _ _ _ _ _ _ _ (halves_here _ _ _ _ c.requires)).0
+
+pub put_node-requires-clause-within : goal.put_node-requires-clause-within
+put_node-requires-clause-within c = (middle_within _ _ _ _ _ _ _ (halves_here _ _ _ _ c.requires)).1
 
 pub overflow_add-n-2 : goal.overflow_add-n-2
 overflow_add-n-2 c =
@@ -39,13 +42,9 @@ overflow_add-n-2 c =
     omega (arith, h, c.min-k.ensures)
 
 pub returns : goal.returns
-returns c =
-    on_ok c.seal.result
-    (λ is front e a b h m are.
+returns c = λ front e a b h m are.
     let k = c.min-k.result in
     let here : HalvesAt c.args.out.now.items front e a b c.args.start c.args.middle = record { begins = h; halved = m; are = are } in
     let r : Read c.args.out.now.items c.args.start c.args.middle c.look-left.result c.look-right.result = record { one_read = c.look-left.ensures; other_read = c.look-right.ensures } in
-    let now : HalvesAt c.put-2.new.out.items front e (lowered k a) (lowered k b) c.args.start c.args.middle = rw (c.put-2.ensures, c.put.ensures) (stays _ front e _ _ a b k c.args.start c.args.middle here r) in
-    is front e (lowered k a) (lowered k b) h now.are
-    ∙ ap (λ (t : EventTree). front ++ preorder t) (node_stays _ front e _ _ a b c.args.n k c.args.start c.args.middle here r (λ t. both_ways _ c.if-are_equal_leaves.false (c.are_equal_leaves.ensures.1 t)) c.min-k.ensures))
-    c.seal.ensures
+    node_closed c.args.out.now.items c.put_node.new.out.items front e c.look-left.result c.look-right.result a b c.args.n k c.in_ok-size.size c.args.start c.args.middle here r
+    (λ t. both_ways _ c.if-are_equal_leaves.false (c.are_equal_leaves.ensures.1 t)) c.min-k.ensures c.in_ok-size.ensures c.put_node.ensures

@@ -7,10 +7,10 @@ use Rattle.event_tree.proofs.pointwise.combined.Goals as goal
 
 pub of-requires : goal.of-requires
 of-requires c =
-    let t = combined_from c.args.pick 0 c.args.e.now 0 c.args.f.now in
+    let t = combined_from c.args.pick 0 c.args.e 0 c.args.f in
     is_preorder _ t (c.in_ok-combined_into.ensures ∙ ap (λ (es : List Entry). es ++ preorder t) c.in_ok-out.ensures.items)
 
 pub returns : goal.returns
 returns c =
-    let t = combined_from c.args.pick 0 c.args.e.now 0 c.args.f.now in
+    let t = combined_from c.args.pick 0 c.args.e 0 c.args.f in
     c.of.ensures ∙ tree_of_preorder _ t (c.in_ok-combined_into.ensures ∙ ap (λ (es : List Entry). es ++ preorder t) c.in_ok-out.ensures.items)

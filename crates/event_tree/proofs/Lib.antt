@@ -1,6 +1,7 @@
 pub mod Trees
 pub mod Preorder
 pub mod Closed
+pub mod Places
 pub mod Measures
 pub mod Orders
 pub mod Sequences

@@ -9,13 +9,21 @@ ghost use Rattle.event_tree.specs.Size.{size};
 ghost use Rattle.event_tree.specs.Entries.{blank, preorder, EndsInHalves};
 ghost use Rattle.event_tree.specs.Walks.{left_raised, right_raised, AreFilled};
 
-use crate::entries::{Entries, Entry, push, push_leaf};
+use crate::entries::{Entries, Entry};
+use crate::written::put_leaf;
 use id_tree::{IdPart, IdView};
 use std::alloc::AllocError;
 
 fn look(out: &Entries, at: usize) -> Entry
     requires { at < length out.now.items }
     ensures { result ≡ slice_index_or out.now.items at blank }
+{
+    out[at]
+}
+
+fn look_in(out: &[Entry], at: usize) -> Entry
+    requires { at < length out.now }
+    ensures { result ≡ slice_index_or out.now at blank }
 {
     out[at]
 }
@@ -29,29 +37,28 @@ fn put(out: &mut Entries, at: usize, entry: Entry)
 
 // Writes a node's own entry at `start`, and those of its halves.
 fn put_node(
-    out: &mut Entries,
+    out: &mut [Entry],
     start: usize,
     own: Entry,
     left: Entry,
     middle: usize,
     right: Entry,
 )
-    requires begins { start + 1 < length out.old.items }
-    requires within { middle < length out.old.items }
-    ensures { out.new.items ≡ set (set (set out.old.items (start + 1) left) middle right) start own }
+    requires begins { start + 1 < length out.old }
+    requires within { middle < length out.old }
+    ensures { out.new ≡ set (set (set out.old (start + 1) left) middle right) start own }
 {
-    let entries = out.as_mut_slice();
-    entries[start + 1] = left;
-    entries[middle] = right;
-    entries[start] = own;
+    out[start + 1] = left;
+    out[middle] = right;
+    out[start] = own;
 }
 
-// How many entries there are from `start` on.
-fn size_from(out: &Entries, start: usize) -> Result<u32, AllocError>
-    requires { start < length out.now.items }
-    ensures { IfOk result (λ size. size ≡ length out.now.items - start) }
+// How many entries there are from `start` up to `stop`, if an entry can say so.
+fn size_between(start: usize, stop: usize) -> Result<u32, AllocError>
+    requires { start < stop }
+    ensures { IfOk result (λ size. size ≡ stop - start) }
 {
-    let size = out.len() - start;
+    let size = stop - start;
     if size > u32::MAX as usize {
         return Err(AllocError);
     }
@@ -64,7 +71,7 @@ pub fn seal(out: &mut Entries, n: u32, start: usize) -> Result<(), AllocError>
     ensures { OnOk result ((front : List Entry) (e : Entry) (a b : EventTree) → length front ≡ start
         → out.old.items ≡ front ++ e ∷ (preorder a ++ preorder b) → out.new.items ≡ front ++ preorder (Node n a b)) }
 {
-    let size = size_from(out, start)?;
+    let size = size_between(start, out.len())?;
     put(out, start, Entry { value: n, size });
     Ok(())
 }
@@ -76,28 +83,29 @@ fn are_equal_leaves(left: Entry, right: Entry) -> bool
     left.size <= 1 && right.size <= 1 && left.value == right.value
 }
 
-// Puts a leaf in place of all from `start` on.
-#[inline(never)]
-fn replace_by_leaf(out: &mut Entries, start: usize, n: u32) -> Result<(), AllocError>
-    ensures { OnOk result (out.new.items ≡ take start out.old.items ++ preorder (Leaf n)) }
+// Makes the node that begins at `start`, with its second half at `middle` and its end at `stop`, one in normal form, above the base
+// `n`, and says where it ends then.
+#[inline(always)]
+pub fn close_at(
+    out: &mut [Entry],
+    n: u32,
+    start: usize,
+    middle: usize,
+    stop: usize,
+) -> Result<usize, AllocError>
+    requires ends { EndsInHalves (take stop out.old) start middle n }
+    requires within { stop ≤ length out.old }
+    ensures as_long { length out.new ≡ length out.old }
+    ensures closed { IfOk result (λ end. (front : List Entry) (e : Entry) (a b : EventTree) → length front ≡ start → middle ≡ start + 1 + size a
+        → take stop out.old ≡ front ++ e ∷ (preorder a ++ preorder b) → (end ≤ stop) × (take end out.new ≡ front ++ preorder (normal_node n a b))) }
 {
-    out.truncate(start);
-    push_leaf(out, n)
-}
-
-// Makes the node that begins at `start`, with its second half at `middle`, one in normal form, above the base `n`.
-pub fn close(out: &mut Entries, n: u32, start: usize, middle: usize) -> Result<(), AllocError>
-    requires { EndsInHalves out.old.items start middle n }
-    ensures { OnOk result ((front : List Entry) (e : Entry) (a b : EventTree) → length front ≡ start → middle ≡ start + 1 + size a
-        → out.old.items ≡ front ++ e ∷ (preorder a ++ preorder b) → out.new.items ≡ front ++ preorder (normal_node n a b)) }
-{
-    let left = look(out, start + 1);
-    let right = look(out, middle);
+    let left = look_in(out, start + 1);
+    let right = look_in(out, middle);
     if are_equal_leaves(left, right) {
-        return replace_by_leaf(out, start, n + left.value);
+        return Ok(put_leaf(out, start, n + left.value));
     }
     let k = left.value.min(right.value);
-    let size = size_from(out, start)?;
+    let size = size_between(start, stop)?;
     put_node(
         out,
         start,
@@ -112,20 +120,21 @@ pub fn close(out: &mut Entries, n: u32, start: usize, middle: usize) -> Result<(
             size: right.size,
         },
     );
-    Ok(())
+    Ok(stop)
 }
 
-// Appends the node of two leaves in normal form, above the base 0.
-pub fn push_leaves(out: &mut Entries, m: u32, n: u32) -> Result<(), AllocError>
-    ensures { OnOk result (out.new.items ≡ out.old.items ++ preorder (normal_node 0 (Leaf m) (Leaf n))) }
+// Makes the node that begins at `start`, with its second half at `middle`, one in normal form, above the base `n`.
+pub fn close(out: &mut Entries, n: u32, start: usize, middle: usize) -> Result<(), AllocError>
+    requires { EndsInHalves out.old.items start middle n }
+    ensures { OnOk result ((front : List Entry) (e : Entry) (a b : EventTree) → length front ≡ start → middle ≡ start + 1 + size a
+        → out.old.items ≡ front ++ e ∷ (preorder a ++ preorder b) → out.new.items ≡ front ++ preorder (normal_node n a b)) }
 {
-    if m == n {
-        return push_leaf(out, m);
+    let stop = out.len();
+    let end = close_at(out.as_mut_slice(), n, start, middle, stop)?;
+    if end < stop {
+        out.truncate(end);
     }
-    let k = m.min(n);
-    push(out, Entry { value: k, size: 3 })?;
-    push_leaf(out, m - k)?;
-    push_leaf(out, n - k)
+    Ok(())
 }
 
 pub fn owns_all(id: &IdView) -> bool

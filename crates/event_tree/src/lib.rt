@@ -38,6 +38,7 @@ mod restricted;
 mod sequence;
 mod straight;
 mod text;
+mod written;
 
 pub use fault::{EventFault, EventsFault};
 use id_tree::{Id, IdPart};

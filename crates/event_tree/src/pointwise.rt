@@ -1,14 +1,17 @@
 //! The join and the meet of two event trees, each in one pass over both into one list.
 
-ghost use Rattle.std.specs.Prelude.{◌≡◌, ◌+◌, ◌<◌, ◌^◌, ◌++◌, IsTrue, IfOk, OnOk};
+ghost use Rattle.std.specs.Prelude.{◌≡◌, ◌+◌, ◌<◌, ◌≤◌, ◌^◌, length, IsTrue, IfOk};
 ghost use Rattle.event_tree.specs.NormalForm.{greatest, IsNormal, value_limit};
-ghost use Rattle.event_tree.specs.Entries.{preorder};
+ghost use Rattle.event_tree.specs.Size.{size};
+ghost use Rattle.event_tree.specs.Writing.{IsWritten};
 ghost use Rattle.event_tree.specs.Walks as walks;
 
-use crate::closing;
-use crate::entries::{self, Entries, Entry};
+use crate::closing::close_at;
+use crate::entries::Entry;
 use crate::node::Node;
 use crate::part::{EventPart, EventView};
+use crate::written::{put_leaf, put_leaves, put_lifted};
+use smallvec::SmallVec;
 use std::alloc::{AllocError, Global};
 
 /// Which of two values is taken at a point.
@@ -36,126 +39,150 @@ impl Pick {
     }
 }
 
-// Appends `f` above the base `y` with `k` in place of each value that is not picked, in normal form. A leaf takes no call.
+// Writes `f` above the base `y` with `k` in place of each value that is not picked, in normal form. A leaf takes no call.
 #[inline(always)]
 #[cycle(clipped)]
 fn clipped_into(
-    out: &mut Entries,
+    out: &mut [Entry],
+    start: usize,
     pick: Pick,
     k: u32,
     y: u32,
     f: EventView,
-) -> Result<(), AllocError>
+) -> Result<usize, AllocError>
     requires fits { y + greatest f < 2 ^ 32 }
     requires normal { IsNormal f }
-    ensures { OnOk result (out.new.items ≡ out.old.items ++ preorder (walks.clipped pick k y f.entry)) }
+    requires room { start + size f ≤ length out.old }
+    ensures written { IfOk result (λ stop. IsWritten out.old out.new start stop (walks.clipped pick k y f.entry)) }
+    ensures next { IfOk result (λ stop. stop ≤ start + size f.entry) }
 {
     match f.leaf() {
-        Some(n) => entries::push_leaf(out, pick.of(k, y + n)),
-        None => clipped_in_halves(out, pick, k, y, f),
+        Some(n) => Ok(put_leaf(out, start, pick.of(k, y + n))),
+        None => clipped_in_halves(out, start, pick, k, y, f),
     }
 }
 
 // The same, where `f` is mostly a node.
 #[cycle(clipped)]
 fn clipped_in_halves(
-    out: &mut Entries,
+    out: &mut [Entry],
+    start: usize,
     pick: Pick,
     k: u32,
     y: u32,
     f: EventView,
-) -> Result<(), AllocError>
+) -> Result<usize, AllocError>
     requires fits { y + greatest f < 2 ^ 32 }
     requires normal { IsNormal f }
-    ensures { OnOk result (out.new.items ≡ out.old.items ++ preorder (walks.clipped pick k y f.entry)) }
+    requires room { start + size f ≤ length out.old }
+    ensures written { IfOk result (λ stop. IsWritten out.old out.new start stop (walks.clipped pick k y f.entry)) }
+    ensures next { IfOk result (λ stop. stop ≤ start + size f.entry) }
 {
-    if let Some((n, p, q)) = f.leaf_pair() {
-        return closing::push_leaves(out, pick.of(k, y + n + p), pick.of(k, y + n + q));
-    }
     if k <= y + f.root() {
         return match pick {
-            Pick::Greater => f.append_lifted(out, y),
-            Pick::Lesser => entries::push_leaf(out, k),
+            Pick::Greater => Ok(put_lifted(out, start, f, y)),
+            Pick::Lesser => Ok(put_leaf(out, start, k)),
         };
     }
     if pick.passes_over(k) {
-        return f.append_lifted(out, y);
+        return Ok(put_lifted(out, start, f, y));
     }
     match f.part() {
-        EventPart::Leaf(n) => entries::push_leaf(out, pick.of(k, y + n)),
+        EventPart::Leaf(n) => Ok(put_leaf(out, start, pick.of(k, y + n))),
         EventPart::Node(n, c, d) => {
-            let start = out.len();
-            entries::push(out, Entry::default())?;
-            clipped_into(out, pick, k, y + n, c)?;
-            let middle = out.len();
-            clipped_into(out, pick, k, y + n, d)?;
-            closing::close(out, 0, start, middle)
+            let middle = clipped_into(out, start + 1, pick, k, y + n, c)?;
+            let stop = clipped_into(out, middle, pick, k, y + n, d)?;
+            close_at(out, 0, start, middle, stop)
         }
     }
 }
 
-// Appends what is picked of `e` above the base `x` and `f` above the base `y`, in normal form. Two leaves take no call.
+// Writes what is picked of `e` above the base `x` and `f` above the base `y`, in normal form. Two leaves take no call.
 #[inline(always)]
 #[cycle(combined)]
 fn combined_into(
-    out: &mut Entries,
+    out: &mut [Entry],
+    start: usize,
     pick: Pick,
     x: u32,
     e: EventView,
     y: u32,
     f: EventView,
-) -> Result<(), AllocError>
+) -> Result<usize, AllocError>
     requires e_fits { x + greatest e < 2 ^ 32 }
     requires e_normal { IsNormal e }
     requires f_fits { y + greatest f < 2 ^ 32 }
     requires f_normal { IsNormal f }
-    ensures { OnOk result (out.new.items ≡ out.old.items ++ preorder (walks.combined_from pick x e.entry y f.entry)) }
+    requires room { start + size e + size f ≤ length out.old + 1 }
+    ensures written { IfOk result (λ stop. IsWritten out.old out.new start stop (walks.combined_from pick x e.entry y f.entry)) }
+    ensures next { IfOk result (λ stop. stop < start + size e.entry + size f.entry) }
 {
     match e.leaf() {
-        Some(m) => clipped_into(out, pick, x + m, y, f),
-        None => combined_in_halves(out, pick, x, e, y, f),
+        Some(m) => clipped_into(out, start, pick, x + m, y, f),
+        None => combined_in_halves(out, start, pick, x, e, y, f),
     }
 }
 
-// The same, where `e` is mostly a node.
+// The same, where `e` is mostly a node. Two nodes of two leaves are picked at once.
 #[cycle(combined)]
 fn combined_in_halves(
-    out: &mut Entries,
+    out: &mut [Entry],
+    start: usize,
     pick: Pick,
     x: u32,
     e: EventView,
     y: u32,
     f: EventView,
-) -> Result<(), AllocError>
+) -> Result<usize, AllocError>
     requires e_fits { x + greatest e < 2 ^ 32 }
     requires e_normal { IsNormal e }
     requires f_fits { y + greatest f < 2 ^ 32 }
     requires f_normal { IsNormal f }
-    ensures { OnOk result (out.new.items ≡ out.old.items ++ preorder (walks.combined_from pick x e.entry y f.entry)) }
+    requires room { start + size e + size f ≤ length out.old + 1 }
+    ensures written { IfOk result (λ stop. IsWritten out.old out.new start stop (walks.combined_from pick x e.entry y f.entry)) }
+    ensures next { IfOk result (λ stop. stop < start + size e.entry + size f.entry) }
 {
     if let Some((m, p, q)) = e.leaf_pair() {
         if let Some((n, r, s)) = f.leaf_pair() {
-            return closing::push_leaves(
+            return Ok(put_leaves(
                 out,
+                start,
                 pick.of(x + m + p, y + n + r),
                 pick.of(x + m + q, y + n + s),
-            );
+            ));
         }
     }
     match e.part() {
-        EventPart::Leaf(m) => clipped_into(out, pick, x + m, y, f),
+        EventPart::Leaf(m) => clipped_into(out, start, pick, x + m, y, f),
         EventPart::Node(m, a, b) => match f.part() {
-            EventPart::Leaf(n) => clipped_into(out, pick, y + n, x, e),
+            EventPart::Leaf(n) => clipped_into(out, start, pick, y + n, x, e),
             EventPart::Node(n, c, d) => {
-                let start = out.len();
-                entries::push(out, Entry::default())?;
-                combined_into(out, pick, x + m, a, y + n, c)?;
-                let middle = out.len();
-                combined_into(out, pick, x + m, b, y + n, d)?;
-                closing::close(out, 0, start, middle)
+                let middle = combined_into(out, start + 1, pick, x + m, a, y + n, c)?;
+                let stop = combined_into(out, middle, pick, x + m, b, y + n, d)?;
+                close_at(out, 0, start, middle, stop)
             }
         },
     }
+}
+
+// What is picked of both at each point, in normal form, by way of entries with room for it.
+fn combined_by(
+    alloc: Global,
+    room: &mut [Entry],
+    pick: Pick,
+    e: EventView,
+    f: EventView,
+) -> Result<Node, AllocError>
+    requires e_fits { greatest e < 2 ^ 32 }
+    requires e_normal { IsNormal e }
+    requires f_fits { greatest f < 2 ^ 32 }
+    requires f_normal { IsNormal f }
+    requires room { size e + size f ≤ length room.old + 1 }
+    ensures { IfOk result (λ node. node ≡ walks.combined_from pick 0 e.entry 0 f.entry) }
+{
+    let stop = combined_into(room, 0, pick, 0, e, 0, f)?;
+    let out = SmallVec::from_slice(alloc, room.split_at(stop).0)?;
+    Ok(Node::of(out))
 }
 
 // What is picked of both at each point, in normal form.
@@ -166,8 +193,15 @@ pub fn combined(alloc: Global, pick: Pick, e: EventView, f: EventView) -> Result
     requires f_normal { IsNormal f }
     ensures { IfOk result (λ node. node ≡ walks.combined_from pick 0 e.entry 0 f.entry) }
 {
-    let room = e.entries().len().max(f.entries().len());
-    let mut out = entries::with_room(alloc, room)?;
-    combined_into(&mut out, pick, 0, e, 0, f)?;
-    Ok(Node::of(out))
+    let entries = e.entries();
+    let others = f.entries();
+    if entries.len() + others.len() <= 17 {
+        let mut few = [Entry::default(); 16];
+        return combined_by(alloc, &mut few, pick, e, f);
+    }
+    // What stands in the room does not count, and a copy of both makes it at once.
+    let mut room = Vec::with_capacity(alloc, entries.len() + others.len())?;
+    room.extend_from_slice(entries)?;
+    room.extend_from_slice(others)?;
+    combined_by(alloc, room.as_mut_slice(), pick, e, f)
 }

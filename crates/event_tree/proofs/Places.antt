@@ -118,14 +118,15 @@ pub put_closed : (out new front : List Entry) (e one other : Entry) (a b : Event
     → IsClosed new front (normal_node n a b) stop stop
 put_closed out new front e one other a b n k size_here start middle stop h r unlike is within one_lt other_lt whole put =
     let x = entry (one.value - k) one.size in
-    let y = entry (other.value - k) other.size in
-    (omega arith,
-    node_closed (take stop out) (take stop new) front e one other a b n k size_here start middle h r unlike is
-    (omega (arith, whole, length-take-le stop out within))
-    (ap (take stop) put
-    ∙ take-set-lt stop (set (set out (start + 1) x) middle y) start (entry (n + k) size_here) (omega (arith, one_lt))
-    ∙ ap (λ (es : List Entry). set es start (entry (n + k) size_here))
-    (take-set-lt stop (set out (start + 1) x) middle y other_lt ∙ ap (λ (es : List Entry). set es middle y) (take-set-lt stop out (start + 1) x one_lt))))
+    let y = entry (other.value - k) other.size in (
+      omega arith,
+      node_closed (take stop out) (take stop new) front e one other a b n k size_here start middle h r unlike is
+          (omega (arith, whole, length-take-le stop out within))
+          (ap (take stop) put
+          ∙ take-set-lt stop (set (set out (start + 1) x) middle y) start (entry (n + k) size_here) (omega (arith, one_lt))
+          ∙ ap (λ (es : List Entry). set es start (entry (n + k) size_here))
+          (take-set-lt stop (set out (start + 1) x) middle y other_lt ∙ ap (λ (es : List Entry). set es middle y) (take-set-lt stop out (start + 1) x one_lt))),
+    )
 
 -- ---- the whole list, as a slice
 

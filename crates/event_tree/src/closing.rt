@@ -36,14 +36,7 @@ fn put(out: &mut Entries, at: usize, entry: Entry)
 }
 
 // Writes a node's own entry at `start`, and those of its halves.
-fn put_node(
-    out: &mut [Entry],
-    start: usize,
-    own: Entry,
-    left: Entry,
-    middle: usize,
-    right: Entry,
-)
+fn put_node(out: &mut [Entry], start: usize, own: Entry, left: Entry, middle: usize, right: Entry)
     requires begins { start + 1 < length out.old }
     requires within { middle < length out.old }
     ensures { out.new ≡ set (set (set out.old (start + 1) left) middle right) start own }

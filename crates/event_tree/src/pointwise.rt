@@ -39,7 +39,8 @@ impl Pick {
     }
 }
 
-// Writes `f` above the base `y` with `k` in place of each value that is not picked, in normal form. A leaf takes no call.
+// Writes `f` above the base `y` with `k` in place of each value that is not picked, in normal form. A leaf takes no call, nor does a
+// node of two leaves.
 #[inline(always)]
 #[cycle(clipped)]
 fn clipped_into(
@@ -56,10 +57,13 @@ fn clipped_into(
     ensures written { IfOk result (λ stop. IsWritten out.old out.new start stop (walks.clipped pick k y f.entry)) }
     ensures next { IfOk result (λ stop. stop ≤ start + size f.entry) }
 {
-    match f.leaf() {
-        Some(n) => Ok(put_leaf(out, start, pick.of(k, y + n))),
-        None => clipped_in_halves(out, start, pick, k, y, f),
+    if let Some(n) = f.leaf() {
+        return Ok(put_leaf(out, start, pick.of(k, y + n)));
     }
+    if let Some((n, p, q)) = f.leaf_pair() {
+        return Ok(put_leaves(out, start, pick.of(k, y + n + p), pick.of(k, y + n + q)));
+    }
+    clipped_in_halves(out, start, pick, k, y, f)
 }
 
 // The same, where `f` is mostly a node.
@@ -97,7 +101,8 @@ fn clipped_in_halves(
     }
 }
 
-// Writes what is picked of `e` above the base `x` and `f` above the base `y`, in normal form. Two leaves take no call.
+// Writes what is picked of `e` above the base `x` and `f` above the base `y`, in normal form. Two leaves take no call, nor do two nodes
+// of two leaves.
 #[inline(always)]
 #[cycle(combined)]
 fn combined_into(
@@ -117,13 +122,23 @@ fn combined_into(
     ensures written { IfOk result (λ stop. IsWritten out.old out.new start stop (walks.combined_from pick x e.entry y f.entry)) }
     ensures next { IfOk result (λ stop. stop < start + size e.entry + size f.entry) }
 {
-    match e.leaf() {
-        Some(m) => clipped_into(out, start, pick, x + m, y, f),
-        None => combined_in_halves(out, start, pick, x, e, y, f),
+    if let Some(m) = e.leaf() {
+        return clipped_into(out, start, pick, x + m, y, f);
     }
+    if let Some((m, p, q)) = e.leaf_pair() {
+        if let Some((n, r, s)) = f.leaf_pair() {
+            return Ok(put_leaves(
+                out,
+                start,
+                pick.of(x + m + p, y + n + r),
+                pick.of(x + m + q, y + n + s),
+            ));
+        }
+    }
+    combined_in_halves(out, start, pick, x, e, y, f)
 }
 
-// The same, where `e` is mostly a node. Two nodes of two leaves are picked at once.
+// The same, where `e` is mostly a node.
 #[cycle(combined)]
 fn combined_in_halves(
     out: &mut [Entry],
@@ -142,16 +157,6 @@ fn combined_in_halves(
     ensures written { IfOk result (λ stop. IsWritten out.old out.new start stop (walks.combined_from pick x e.entry y f.entry)) }
     ensures next { IfOk result (λ stop. stop < start + size e.entry + size f.entry) }
 {
-    if let Some((m, p, q)) = e.leaf_pair() {
-        if let Some((n, r, s)) = f.leaf_pair() {
-            return Ok(put_leaves(
-                out,
-                start,
-                pick.of(x + m + p, y + n + r),
-                pick.of(x + m + q, y + n + s),
-            ));
-        }
-    }
     match e.part() {
         EventPart::Leaf(m) => clipped_into(out, start, pick, x + m, y, f),
         EventPart::Node(m, a, b) => match f.part() {

@@ -33,7 +33,7 @@ pub fn with_room(alloc: Global, room: usize) -> Result<Entries, AllocError>
 
 // The same entries once more.
 pub fn copied(alloc: Global, entries: &[Entry]) -> Result<Entries, AllocError>
-    ensures copy { IfOk result (λ copy. copy.items ≡ entries.now) }
+    ensures ok { IfOk result (λ copy. copy.items ≡ entries.now) }
     ensures small { length entries.now ≤ 8 → IsOk result }
 {
     if entries.len() <= INLINE {

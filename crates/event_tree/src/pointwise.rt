@@ -7,11 +7,10 @@ ghost use Rattle.event_tree.specs.Writing.{IsWritten};
 ghost use Rattle.event_tree.specs.Walks as walks;
 
 use crate::closing::close_at;
-use crate::entries::Entry;
+use crate::entries::{self, Entry};
 use crate::node::Node;
 use crate::part::{EventPart, EventView};
 use crate::written::{put_leaf, put_leaves, put_lifted};
-use smallvec::SmallVec;
 use std::alloc::{AllocError, Global};
 
 /// Which of two values is taken at a point.
@@ -186,7 +185,7 @@ fn combined_by(
     ensures { IfOk result (λ node. node ≡ walks.combined_from pick 0 e.entry 0 f.entry) }
 {
     let stop = combined_into(room, 0, pick, 0, e, 0, f)?;
-    let out = SmallVec::from_slice(alloc, room.split_at(stop).0)?;
+    let out = entries::copied(alloc, room.split_at(stop).0)?;
     Ok(Node::of(out))
 }
 

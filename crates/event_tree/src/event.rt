@@ -43,7 +43,7 @@ fn filled_into(out: &mut Entries, id: &IdView, e: &EventView) -> Result<(), Allo
             EventPart::Leaf(n) => entries::push_leaf(out, n),
             EventPart::Node(n, a, b) => {
                 let start = out.len();
-                out.push(Entry::default())?;
+                entries::push(out, Entry::default())?;
                 filled_into(out, &l, &a)?;
                 let middle = out.len();
                 filled_into(out, &r, &b)?;
@@ -136,7 +136,7 @@ fn grown_into(out: &mut Entries, id: &IdView, base: u32, e: &EventView) -> Resul
         IdPart::Halves(l, r) => {
             let (n, a, b) = e.halves();
             let start = out.len();
-            out.push(Entry::default())?;
+            entries::push(out, Entry::default())?;
             if grows_left_at(&l, &r, &a, &b) {
                 if !grown_into(out, &l, base + n, &a)? {
                     return Ok(false);

@@ -8,12 +8,12 @@ use Rattle.event_tree.proofs.event.+filled_into.Goals as goal
 
 pub raise_owned-requires-clause-begins : goal.raise_owned-requires-clause-begins
 raise_owned-requires-clause-begins t c =
-    let h = written_halves _ _ _ _ _ (filled c.in-Halves.l c.in-Node.a) (filled c.in-Halves.r c.in-Node.b) _ _ c.len-start.ensures.value c.in_ok-push-in-Node.ensures.ok c.in_ok-filled_into-in-Node.ensures c.len-middle.ensures.value c.in_ok-filled_into-in-Node-2.ensures in
+    let h = written_halves _ _ _ _ _ (filled c.in-Halves.l c.in-Node.a) (filled c.in-Halves.r c.in-Node.b) _ _ c.len-start.ensures.value c.in_ok-push-in-Node.ensures c.in_ok-filled_into-in-Node.ensures c.len-middle.ensures.value c.in_ok-filled_into-in-Node-2.ensures in
     omega (arith, h.halved, some_size (filled c.in-Halves.l c.in-Node.a))
 
 pub raise_owned-requires-clause-within : goal.raise_owned-requires-clause-within
 raise_owned-requires-clause-within t c =
-    (middle_within _ _ _ _ _ _ _ (written_halves _ _ _ _ _ (filled c.in-Halves.l c.in-Node.a) (filled c.in-Halves.r c.in-Node.b) _ _ c.len-start.ensures.value c.in_ok-push-in-Node.ensures.ok c.in_ok-filled_into-in-Node.ensures c.len-middle.ensures.value c.in_ok-filled_into-in-Node-2.ensures)).1
+    (middle_within _ _ _ _ _ _ _ (written_halves _ _ _ _ _ (filled c.in-Halves.l c.in-Node.a) (filled c.in-Halves.r c.in-Node.b) _ _ c.len-start.ensures.value c.in_ok-push-in-Node.ensures c.in_ok-filled_into-in-Node.ensures c.len-middle.ensures.value c.in_ok-filled_into-in-Node-2.ensures)).1
 
 pub close-requires : goal.close-requires
 close-requires t c =
@@ -21,7 +21,7 @@ close-requires t c =
     let r = c.in-Halves.r in
     let a = c.in-Node.a in
     let b = c.in-Node.b in
-    let h = written_halves _ _ _ _ _ (filled l a) (filled r b) _ _ c.len-start.ensures.value c.in_ok-push-in-Node.ensures.ok c.in_ok-filled_into-in-Node.ensures c.len-middle.ensures.value c.in_ok-filled_into-in-Node-2.ensures in
+    let h = written_halves _ _ _ _ _ (filled l a) (filled r b) _ _ c.len-start.ensures.value c.in_ok-push-in-Node.ensures c.in_ok-filled_into-in-Node.ensures c.len-middle.ensures.value c.in_ok-filled_into-in-Node-2.ensures in
     let i = rw c.in-Halves.ensures at c.requires.normal in
     let e = rw c.in-Node.ensures at c.requires.tree_normal in
     let f = are_filled l r a b i.0 i.1 e.0 e.1 in
@@ -34,7 +34,7 @@ returns-in_ok-filled_into-in-Node-2 t c =
     let r = c.in-Halves.r in
     let a = c.in-Node.a in
     let b = c.in-Node.b in
-    let h = written_halves _ _ _ _ _ (filled l a) (filled r b) _ _ c.len-start.ensures.value c.in_ok-push-in-Node.ensures.ok c.in_ok-filled_into-in-Node.ensures c.len-middle.ensures.value c.in_ok-filled_into-in-Node-2.ensures in
+    let h = written_halves _ _ _ _ _ (filled l a) (filled r b) _ _ c.len-start.ensures.value c.in_ok-push-in-Node.ensures c.in_ok-filled_into-in-Node.ensures c.len-middle.ensures.value c.in_ok-filled_into-in-Node-2.ensures in
     let i = rw c.in-Halves.ensures at c.requires.normal in
     let e = rw c.in-Node.ensures at c.requires.tree_normal in
     let f = are_filled l r a b i.0 i.1 e.0 e.1 in

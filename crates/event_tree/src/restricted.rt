@@ -1,6 +1,6 @@
 //! An event tree restricted to an id, in one pass over both into one list.
 
-ghost use Rattle.std.specs.Prelude.{◌≡◌, ◌+◌, ◌<◌, ◌^◌, ◌++◌, IfOk, OnOk};
+ghost use Rattle.std.specs.Prelude.{◌≡◌, ◌+◌, ◌<◌, ◌^◌, ◌++◌, [], IfOk, OnOk};
 ghost use Rattle.id_tree.specs.IdTree.{Pair};
 ghost use Rattle.event_tree.specs.NormalForm.{greatest};
 ghost use Rattle.event_tree.specs.Entries.{preorder};
@@ -50,13 +50,23 @@ fn restricted_in_halves(
     closing::close(out, 0, start, middle)
 }
 
-// The tree where the id owns, and the limit elsewhere.
-pub fn restricted(alloc: Global, id: IdView, e: EventView) -> Result<Node, AllocError>
+// The tree where the id, which has so many nodes and leaves, owns, and the limit elsewhere.
+pub fn restricted(alloc: Global, size: usize, id: IdView, e: EventView) -> Result<Node, AllocError>
     requires { greatest e < 2 ^ 32 }
     ensures { IfOk result (λ node. node ≡ walks.restricted_from id.entry 0 e.entry) }
 {
-    // What the id owns may be a small part of the tree, so no room is made beforehand.
-    let mut out = SmallVec::new(alloc);
+    let mut out = room_beside(alloc, size)?;
     restricted_into(&mut out, id, 0, e)?;
     Ok(Node::of(out))
+}
+
+// No entries, and room for what stands beside an id of this size: mostly one for each of its nodes and leaves, and some more where
+// it owns. What it owns may be a small part of the tree, so there is no room for all of that.
+fn room_beside(alloc: Global, size: usize) -> Result<Entries, AllocError>
+    ensures items { IfOk result (λ entries. entries.items ≡ []) }
+{
+    if size <= 8 {
+        return Ok(SmallVec::new(alloc));
+    }
+    entries::with_room(alloc, size.saturating_add(8))
 }

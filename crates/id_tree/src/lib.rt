@@ -103,6 +103,13 @@ impl Id {
         IdView::of(self.marks())
     }
 
+    /// How many nodes and leaves it has.
+    pub fn size(&self) -> usize
+        ensures { result ≡ size self.now }
+    {
+        self.marks().len()
+    }
+
     /// Whether the two are one id.
     pub fn equal(&self, other: &Id) -> bool
         ensures { IsTrue result ↔ (self.now ≡ other.now) }

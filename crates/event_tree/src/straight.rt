@@ -87,6 +87,7 @@ fn are_halves(left: u32, is_left_leaf: bool, right: u32, is_right_leaf: bool) ->
     }
 }
 
+// The entry at this place.
 #[inline(always)]
 fn look(room: &[Entry], at: usize) -> Entry
     requires { at < length room.now }
@@ -150,7 +151,8 @@ fn take_half<'a>(
     take_tree(text, levels, above, &mut room[at..])
 }
 
-// The node whose opening bracket stands in front of this text: how many bytes stand behind it, which fits into a register.
+// The node whose opening bracket stands in front of this text: how many bytes stand behind it. A number comes back in a register,
+// and a slice that may be none does not.
 #[cycle(take)]
 fn take_node(inside: &[u8], levels: u32, above: u32, room: &mut [Entry]) -> Option<usize>
     ensures { IfSome result (λ left. IsNodeTaken levels above inside.now room.new left) }

@@ -102,12 +102,12 @@ places_within out start middle stop n w within =
     omega (arith, places, long)
 
 -- what holds where a node was closed
-abbrev pub IsClosed : List Entry → List Entry → EventTree → ℕ → ℕ → Type 0
-IsClosed new front t end stop = (end ≤ stop) × (take end new ≡ front ++ preorder t)
+abbrev pub EndsInNode : List Entry → List Entry → EventTree → ℕ → ℕ → Type 0
+EndsInNode new front t end stop = (end ≤ stop) × (take end new ≡ front ++ preorder t)
 
 -- two equal leaves
 pub leaf_closed : (out new front : List Entry) (e one other : Entry) (a b : EventTree) (n start middle stop end : ℕ) → HalvesAt (take stop out) front e a b start middle → Read (take stop out) start middle one other → AreLeaves one other
-    → start < stop → end ≡ start + 1 → IsWritten out new start end (Leaf (n + one.value)) → IsClosed new front (normal_node n a b) end stop
+    → start < stop → end ≡ start + 1 → IsWritten out new start end (Leaf (n + one.value)) → EndsInNode new front (normal_node n a b) end stop
 leaf_closed out new front e one other a b n start middle stop end h r leaves lt next w =
     (omega (arith, lt, next), closes (take stop out) (take end new) front e one other a b n start middle h r leaves (w.are ∙ ap (λ (es : List Entry). es ++ preorder (Leaf (n + one.value))) (sym (take-take start stop out (omega (arith, lt))))))
 
@@ -115,7 +115,7 @@ leaf_closed out new front e one other a b n start middle stop end h r leaves lt 
 pub put_closed : (out new front : List Entry) (e one other : Entry) (a b : EventTree) (n k size_here start middle stop : ℕ) → HalvesAt (take stop out) front e a b start middle → Read (take stop out) start middle one other → ¬ AreLeaves one other
     → k ≡ min one.value other.value → stop ≤ length out → start + 1 < stop → middle < stop → size_here ≡ stop - start
     → new ≡ set (set (set out (start + 1) (entry (one.value - k) one.size)) middle (entry (other.value - k) other.size)) start (entry (n + k) size_here)
-    → IsClosed new front (normal_node n a b) stop stop
+    → EndsInNode new front (normal_node n a b) stop stop
 put_closed out new front e one other a b n k size_here start middle stop h r unlike is within one_lt other_lt whole put =
     let x = entry (one.value - k) one.size in
     let y = entry (other.value - k) other.size in (
@@ -147,7 +147,7 @@ if_ok (Ok x) f p = f x p
 if_ok (Err e) f p = tt
 
 pub node_written : {E : Type 0} (r : Result ℕ E) (old one both new : List Entry) (start middle stop : ℕ) (a b : EventTree) → start < length old → IsWritten old one (start + 1) middle a → IsWritten one both middle stop b → length new ≡ length both
-    → IfOk r (λ end. (front : List Entry) (e : Entry) (c d : EventTree) → length front ≡ start → middle ≡ start + 1 + size c → take stop both ≡ front ++ e ∷ (preorder c ++ preorder d) → IsClosed new front (normal_node 0 c d) end stop)
+    → IfOk r (λ end. (front : List Entry) (e : Entry) (c d : EventTree) → length front ≡ start → middle ≡ start + 1 + size c → take stop both ≡ front ++ e ∷ (preorder c ++ preorder d) → EndsInNode new front (normal_node 0 c d) end stop)
     → IfOk r (λ end. IsWritten old new start end (normal_node 0 a b) × (end ≤ stop))
 node_written r old one both new start middle stop a b lt w v long closed =
     let h = written_both old one both start middle stop a b lt w v in

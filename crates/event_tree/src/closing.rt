@@ -9,7 +9,7 @@ ghost use Rattle.event_tree.specs.Size.{size};
 ghost use Rattle.event_tree.specs.Entries.{blank, preorder, EndsInHalves};
 ghost use Rattle.event_tree.specs.Walks.{left_raised, right_raised, AreFilled};
 
-use crate::entries::{Entries, Entry};
+use crate::entries::{Entries, Entry, look_in};
 use crate::written::put_leaf;
 use id_tree::{IdPart, IdView};
 use std::alloc::AllocError;
@@ -17,13 +17,6 @@ use std::alloc::AllocError;
 fn look(out: &Entries, at: usize) -> Entry
     requires { at < length out.now.items }
     ensures { result ≡ slice_index_or out.now.items at blank }
-{
-    out[at]
-}
-
-fn look_in(out: &[Entry], at: usize) -> Entry
-    requires { at < length out.now }
-    ensures { result ≡ slice_index_or out.now at blank }
 {
     out[at]
 }

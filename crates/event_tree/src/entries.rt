@@ -1,8 +1,8 @@
 //! The entries that a tree is kept as: its nodes and leaves in preorder, each with its value and the size of its part.
 
-ghost use Rattle.std.specs.Prelude.{◌≡◌, ◌↔◌, ◌≤◌, ◌++◌, ◌∷◌, [], IsTrue, IsOk, IfOk, OnOk, length};
+ghost use Rattle.std.specs.Prelude.{◌≡◌, ◌↔◌, ◌≤◌, ◌<◌, ◌++◌, ◌∷◌, [], IsTrue, IsOk, IfOk, OnOk, length, slice_index_or};
 ghost use Rattle.event_tree.specs.EventTree.{Leaf};
-ghost use Rattle.event_tree.specs.Entries.{preorder};
+ghost use Rattle.event_tree.specs.Entries.{blank, preorder};
 
 use smallvec::SmallVec;
 use std::alloc::{AllocError, Global};
@@ -14,11 +14,20 @@ pub struct Entry {
     pub size: u32,
 }
 
+/// How many entries a list holds without memory of its own.
+pub const INLINE: usize = 8;
+
 /// The entries of an event tree.
 pub type Entries = SmallVec<Entry, 8>;
 
-// How many entries a list holds without memory of its own.
-const INLINE: usize = 8;
+// The entry at this place.
+#[inline(always)]
+pub fn look_in(entries: &[Entry], at: usize) -> Entry
+    requires { at < length entries.now }
+    ensures { result ≡ slice_index_or entries.now at blank }
+{
+    entries[at]
+}
 
 // No entries, and room for so many. Of more than a list holds itself they stand in one block from the start.
 pub fn with_room(alloc: Global, room: usize) -> Result<Entries, AllocError>

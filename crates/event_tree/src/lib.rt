@@ -43,7 +43,7 @@ mod written;
 pub use fault::{EventFault, EventsFault};
 use id_tree::{Id, IdPart};
 use node::Node;
-use pointwise::{Pick, combined};
+use pointwise::{joined, met};
 use reader::Part;
 use std::alloc::{AllocError, Global};
 use std::marker::Model;
@@ -123,7 +123,7 @@ impl Events {
     pub fn join(&self, alloc: Global, other: &Events) -> Result<Events, AllocError>
         ensures { IfOk result (λ joined. IsJoin self.now other.now joined) }
     {
-        let node = combined(alloc, Pick::Greater, self.node.view(), other.node.view())?;
+        let node = joined(alloc, self.node.view(), other.node.view())?;
         Ok(Events { node })
     }
 
@@ -131,7 +131,7 @@ impl Events {
     pub fn meet(&self, alloc: Global, other: &Events) -> Result<Events, AllocError>
         ensures { IfOk result (λ met. IsMeet self.now other.now met) }
     {
-        let node = combined(alloc, Pick::Lesser, self.node.view(), other.node.view())?;
+        let node = met(alloc, self.node.view(), other.node.view())?;
         Ok(Events { node })
     }
 
@@ -167,7 +167,7 @@ impl Events {
         }
     }
 
-    /// The event tree that the bytes spell, all of the bytes. It takes memory for two entries of 8 bytes for each opening
+    /// The event tree that the bytes spell, all of the bytes. It takes memory for two entries of 8 bytes at most for each opening
     /// bracket of the text, and one more. Beside that, the memory and the stack that it takes do not grow with how deeply
     /// brackets are nested beyond the depth limit, but for one small entry for each open bracket of a text with a fault.
     pub fn parse(alloc: Global, bytes: &[u8]) -> Result<Events, EventsFault>

@@ -7,7 +7,7 @@ ghost use Rattle.event_tree.specs.Entries.{preorder};
 ghost use Rattle.event_tree.specs.Walks as walks;
 
 use crate::closing;
-use crate::entries::{self, Entries, Entry};
+use crate::entries::{self, Entries, Entry, INLINE};
 use crate::node::Node;
 use crate::part::EventView;
 use id_tree::{IdPart, IdView};
@@ -65,7 +65,7 @@ pub fn restricted(alloc: Global, size: usize, id: IdView, e: EventView) -> Resul
 fn room_beside(alloc: Global, size: usize) -> Result<Entries, AllocError>
     ensures items { IfOk result (λ entries. entries.items ≡ []) }
 {
-    if size <= 8 {
+    if size <= INLINE {
         return Ok(SmallVec::new(alloc));
     }
     entries::with_room(alloc, size.saturating_add(8))

@@ -1,14 +1,13 @@
 //! Reads the text of an event tree in one pass, straight into its entries. Of a text with a fault it only says that it has one.
 
-ghost use Rattle.std.specs.Prelude.{◌≡◌, [], ◌∷◌, ◌++◌, ◌<◌, ◌≤◌, ◌+◌, IsTrue, IfSome, length, take, slice_index_or};
-ghost use Rattle.event_tree.specs.Entries.{blank};
+ghost use Rattle.std.specs.Prelude.{◌≡◌, [], ◌∷◌, ◌++◌, ◌<◌, ◌≤◌, ◌+◌, IsTrue, IfSome, length, take};
 ghost use Rattle.std.specs.Fmt.{decimal};
 ghost use Rattle.event_tree.specs.NormalForm.{IsEvents, value_limit};
 ghost use Rattle.event_tree.specs.Spelling.{spelling};
 ghost use Rattle.event_tree.specs.Taking.{IsTaken, IsNodeTaken, IsClosed, IsWhole};
 ghost use Rattle.event_tree.specs.Taking as taking;
 
-use crate::entries::{Entries, Entry};
+use crate::entries::{Entries, Entry, INLINE, look_in};
 use crate::node::Node;
 use smallvec::SmallVec;
 use std::alloc::Global;
@@ -87,15 +86,6 @@ fn are_halves(left: u32, is_left_leaf: bool, right: u32, is_right_leaf: bool) ->
     }
 }
 
-// The entry at this place.
-#[inline(always)]
-fn look(room: &[Entry], at: usize) -> Entry
-    requires { at < length room.now }
-    ensures { result ≡ slice_index_or room.now at blank }
-{
-    room[at]
-}
-
 // Makes the first entry that of a node of the two halves behind it, the second of which begins at `middle`; or they make none in
 // normal form.
 #[inline(always)]
@@ -104,8 +94,8 @@ fn close(room: &mut [Entry], base: u32, middle: usize) -> bool
     requires other { middle < length room.old }
     ensures { IsTrue result → IsClosed base middle room.old room.new }
 {
-    let left = look(room, 1);
-    let right = look(room, middle);
+    let left = look_in(room, 1);
+    let right = look_in(room, middle);
     if !are_halves(left.value, left.size <= 1, right.value, right.size <= 1) {
         return false;
     }
@@ -163,7 +153,7 @@ fn take_node(inside: &[u8], levels: u32, above: u32, room: &mut [Entry]) -> Opti
     let (base, later) = take_number(inside)?;
     let sum = above.checked_add(base)?;
     let half = take_half(behind(b',', later)?, levels - 1, sum, room, 1)?;
-    let middle = look(room, 1).size as usize + 1;
+    let middle = look_in(room, 1).size as usize + 1;
     let end = take_half(behind(b',', half)?, levels - 1, sum, room, middle)?;
     let rest = behind(b')', end)?;
     if close(room, base, middle) {
@@ -183,7 +173,7 @@ fn take_all(text: &[u8], room: &mut [Entry]) -> bool
     if !rest.is_empty() || room.is_empty() {
         return false;
     }
-    look(room, 0).size as usize == room.len()
+    look_in(room, 0).size as usize == room.len()
 }
 
 // How many opening brackets a short text has. They are counted in one byte, so that many bytes are compared at once.
@@ -206,8 +196,8 @@ fn count_entries(text: &[u8]) -> usize {
 
 // So many entries, to be written.
 fn blank_entries(alloc: Global, count: usize) -> Option<Entries> {
-    if count <= 8 {
-        return Some(SmallVec::from_buf_and_len(alloc, [Entry::default(); 8], count));
+    if count <= INLINE {
+        return Some(SmallVec::from_buf_and_len(alloc, [Entry::default(); INLINE], count));
     }
     let Ok(mut entries) = Vec::with_capacity(alloc, count) else {
         return None;

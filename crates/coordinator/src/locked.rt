@@ -17,28 +17,6 @@ use report_line::{Call, Reply};
 use std::alloc::Global;
 use std::sync::ledger::{Blank, Book, Ledger, Share};
 
-/// The desk's turn of a call. The line is what it was read off, where there is one.
-fn make_turn<D: Disk>(
-    desk: &mut Desk<D>,
-    line: Option<&[u8]>,
-    call: Call,
-) -> Result<Receipt, TurnFault>
-    requires short { IsShort call }
-    requires read { IfSome line (λ l. IsReadOff l.now call) }
-    ensures step { IfOk result (λ receipt. IsTurn desk.old.held call receipt.reply desk.new.held) }
-    ensures turns { IfOk result (λ receipt. desk.new.turns ≡ desk.old.turns ++ record { call = call; receipt = receipt } ∷ []) }
-    ensures number { IfOk result (λ receipt. receipt.turn ≡ length desk.old.turns + 1) }
-    ensures opening { desk.new.opening ≡ desk.old.opening }
-    ensures found { desk.new.found ≡ desk.old.found }
-    ensures err { IfErr result (λ _. desk.new ≡ desk.old) }
-    ensures worn { result ≡ Err TurnFault.Worn → length desk.old.turns ≡ turn_limit }
-{
-    match line {
-        Some(line) => desk.turn_read(line, call),
-        None => desk.turn(call),
-    }
-}
-
 /// How many passes a coordinator hands out.
 const PASSES: u32 = 8_192;
 
@@ -190,6 +168,28 @@ impl<L: Ledger, D: Disk> Locked<L, D> {
             Ok(chains) => Ok(Some(chains)),
             Err(_) => Ok(None),
         }
+    }
+}
+
+/// The desk's turn of a call. The line is what it was read off, where there is one.
+fn make_turn<D: Disk>(
+    desk: &mut Desk<D>,
+    line: Option<&[u8]>,
+    call: Call,
+) -> Result<Receipt, TurnFault>
+    requires short { IsShort call }
+    requires read { IfSome line (λ l. IsReadOff l.now call) }
+    ensures step { IfOk result (λ receipt. IsTurn desk.old.held call receipt.reply desk.new.held) }
+    ensures turns { IfOk result (λ receipt. desk.new.turns ≡ desk.old.turns ++ record { call = call; receipt = receipt } ∷ []) }
+    ensures number { IfOk result (λ receipt. receipt.turn ≡ length desk.old.turns + 1) }
+    ensures opening { desk.new.opening ≡ desk.old.opening }
+    ensures found { desk.new.found ≡ desk.old.found }
+    ensures err { IfErr result (λ _. desk.new ≡ desk.old) }
+    ensures worn { result ≡ Err TurnFault.Worn → length desk.old.turns ≡ turn_limit }
+{
+    match line {
+        Some(line) => desk.turn_read(line, call),
+        None => desk.turn(call),
     }
 }
 

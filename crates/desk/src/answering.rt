@@ -1,4 +1,4 @@
-//! The reply to a call.
+//! The reply to a call. What is asked less often than reports come is not put into the turn, which would clear its places each time.
 
 ghost use Rattle.std.specs.Prelude.{◌≡◌, ℕ, List, true, false, IfOk, IfErr, IfSome};
 ghost use Rattle.record_file.specs.File.{Said};

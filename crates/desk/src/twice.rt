@@ -1,4 +1,5 @@
-//! Replies, each once for the caller and once for the list of turns.
+//! Replies, each once for the caller and once for the list of turns. Those that are rare are not put into their callers, which would clear the
+//! places of all of them at each turn.
 
 ghost use Rattle.std.specs.Prelude.{◌≡◌, ◌⊎◌, IfOk, IfErr, None, option_copied, is_some};
 ghost use Rattle.chains.specs.Admission.{TakesMemory};

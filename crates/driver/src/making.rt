@@ -370,6 +370,8 @@ fn fork_parts(
     })
 }
 
+// ---- the acts: each stays a function of its own in the program, too, since one for all clears the places of all at each step
+
 #[inline(never)]
 pub(crate) fn work(alloc: Global, tables: &Tables, process: &Name) -> Result<Made, StepFault>
     requires { AreSound tables.now }

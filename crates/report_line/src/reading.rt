@@ -1,4 +1,4 @@
-//! Lines as calls.
+//! Lines as calls. What is rarer than checkpoints is not put into the reading of a line, which would clear its places each time.
 
 ghost use Rattle.std.specs.Prelude.{◌≡◌, ◌≢◌, ◌∷◌, ℕ, List, [], IsTrue, IfOk, MatchOption, MatchResult, codes};
 ghost use Rattle.std.specs.Fmt.{decimal};

@@ -39,8 +39,8 @@ fn kind_of(fault: &CallFault) -> Kind
     }
 }
 
-/// Makes the turn of a call that was read off this line, and adds it to the pass. A question for a line waits for it at the gate; the runs of its table of needs have
-/// none of their own.
+/// Makes the turn of a call that was read off this line, and adds it to the pass. A question for a line waits for it at the gate; the runs
+/// of its table of needs have none of their own.
 fn ask<R: Threads + Wait + Sync, L: Ledger, D: Disk, G: Gate>(
     rt: &R,
     coordinator: &Coordinator<L, D>,

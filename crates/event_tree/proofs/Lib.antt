@@ -23,3 +23,4 @@ pub mod Growth
 pub mod Costs
 pub mod Steps
 pub mod Filling
+pub mod Balances

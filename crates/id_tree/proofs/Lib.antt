@@ -13,3 +13,4 @@ pub mod Steps
 pub mod Forms
 pub mod Takes
 pub mod Lengths
+pub mod Balanced

@@ -16,6 +16,7 @@ ghost use Rattle.id_tree.specs.Faults.{IsFaultOf};
 ghost use Rattle.id_tree.specs.Split.{left_part, right_part, parts_depth, IsSplit};
 ghost use Rattle.id_tree.specs.Sum.{sum_of};
 
+mod balance;
 mod fault;
 mod form;
 mod marks;
@@ -26,6 +27,7 @@ mod text;
 mod together;
 mod view;
 
+pub use balance::is_unbalanced;
 pub use fault::{IdFault, SplitFault, SumFault};
 use form::{are_normal, fits};
 use marks::{Mark, Marks, are_apart, are_same, cover, own_any, sum_into};
@@ -209,6 +211,10 @@ impl Id {
         // What is spelled right is mostly read so; which fault a text has, and what memory is wanting for, the reader says.
         if let Some(marks) = straight::read(alloc, bytes) {
             return Ok(Id { marks });
+        }
+        // Of a text that is cut short or garbled a look tells so, and spares a second reading.
+        if is_unbalanced(bytes) {
+            return Err(IdFault::Syntax);
         }
         let marks = reader::read(alloc, bytes)?;
         if !are_normal(marks.as_slice()) {

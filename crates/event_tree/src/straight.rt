@@ -208,8 +208,21 @@ fn blank_entries(alloc: Global, count: usize) -> Option<Entries> {
     Some(SmallVec::from_vec(entries))
 }
 
-// The event tree that the bytes spell; `None` where they have a fault, or memory is wanting.
-pub fn read(alloc: Global, text: &[u8]) -> Option<Node>
+// The leaf that the whole text spells. It takes no blank entries.
+#[inline(always)]
+fn read_leaf(alloc: Global, text: &[u8]) -> Option<Node>
+    ensures { IfSome result (λ node. IsEvents node × (text.now ≡ spelling node)) }
+{
+    let (number, rest) = take_number(text)?;
+    if rest.is_empty() {
+        Some(Node::leaf(alloc, number))
+    } else {
+        None
+    }
+}
+
+// The tree that the whole text spells, into blank entries.
+fn read_node(alloc: Global, text: &[u8]) -> Option<Node>
     ensures { IfSome result (λ node. IsEvents node × (text.now ≡ spelling node)) }
 {
     let mut entries = blank_entries(alloc, count_entries(text))?;
@@ -217,5 +230,15 @@ pub fn read(alloc: Global, text: &[u8]) -> Option<Node>
         Some(Node::of(entries))
     } else {
         None
+    }
+}
+
+// The event tree that the bytes spell; `None` where they have a fault, or memory is wanting.
+pub fn read(alloc: Global, text: &[u8]) -> Option<Node>
+    ensures { IfSome result (λ node. IsEvents node × (text.now ≡ spelling node)) }
+{
+    match text {
+        [b'(', ..] => read_node(alloc, text),
+        _ => read_leaf(alloc, text),
     }
 }

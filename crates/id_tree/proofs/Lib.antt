@@ -1,4 +1,5 @@
 pub mod Preorder
+pub mod OneWays
 pub mod Closing
 pub mod Points
 pub mod Splits

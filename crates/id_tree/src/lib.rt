@@ -26,6 +26,7 @@ mod straight;
 mod text;
 mod together;
 mod view;
+mod way;
 
 pub use balance::is_unbalanced;
 pub use fault::{IdFault, SplitFault, SumFault};
@@ -38,6 +39,7 @@ use std::marker::Model;
 use text::{text_length, write_first};
 use together::is_sum_by;
 pub use view::{IdPart, IdView};
+pub use way::Way;
 
 /// Which part of an interval someone owns.
 #[derive(Drop)]

@@ -16,6 +16,7 @@ pub mod Verdicts
 pub mod Normal
 pub mod Picks
 pub mod Restrictions
+pub mod Besides
 pub mod Bounds
 pub mod Raises
 pub mod Fills

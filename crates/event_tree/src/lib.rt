@@ -30,6 +30,7 @@ mod event;
 mod fault;
 mod measured;
 mod node;
+mod one_way;
 mod order;
 mod part;
 mod pointwise;

@@ -2,14 +2,15 @@
 
 ghost use Rattle.std.specs.Prelude.{◌≡◌, ◌+◌, ◌<◌, ◌^◌, ◌++◌, [], IfOk, OnOk};
 ghost use Rattle.id_tree.specs.IdTree.{Pair};
+ghost use Rattle.id_tree.specs.Size.{size as id_size};
 ghost use Rattle.event_tree.specs.NormalForm.{greatest};
 ghost use Rattle.event_tree.specs.Entries.{preorder};
 ghost use Rattle.event_tree.specs.Walks as walks;
 
-use crate::closing;
 use crate::entries::{self, Entries, Entry, INLINE};
 use crate::node::Node;
 use crate::part::EventView;
+use crate::{closing, one_way};
 use id_tree::{IdPart, IdView};
 use smallvec::SmallVec;
 use std::alloc::{AllocError, Global};
@@ -50,8 +51,25 @@ fn restricted_in_halves(
     closing::close(out, 0, start, middle)
 }
 
-// The tree where the id, which has so many nodes and leaves, owns, and the limit elsewhere.
+// The tree where the id, which has so many nodes and leaves, owns, and the limit elsewhere. Most ids own one part alone.
 pub fn restricted(alloc: Global, size: usize, id: IdView, e: EventView) -> Result<Node, AllocError>
+    requires size { size ≡ id_size id }
+    requires small { greatest e < 2 ^ 32 }
+    ensures { IfOk result (λ node. node ≡ walks.restricted_from id.entry 0 e.entry) }
+{
+    match id.only_way() {
+        Some(way) => one_way::restricted(alloc, size, way, e),
+        None => restricted_by_halves(alloc, size, id, e),
+    }
+}
+
+// The same by a walk over the halves of any id.
+fn restricted_by_halves(
+    alloc: Global,
+    size: usize,
+    id: IdView,
+    e: EventView,
+) -> Result<Node, AllocError>
     requires { greatest e < 2 ^ 32 }
     ensures { IfOk result (λ node. node ≡ walks.restricted_from id.entry 0 e.entry) }
 {

@@ -3,7 +3,7 @@ use Rattle.event_tree.specs.Entries.{preorder}
 use Rattle.event_tree.specs.Walks.{restricted_from}
 use Rattle.event_tree.specs.declared.entries.Entry.{Entry}
 use Rattle.event_tree.proofs.Preorder.{is_preorder, tree_of_preorder}
-use Rattle.event_tree.proofs.restricted.restricted.Goals as goal
+use Rattle.event_tree.proofs.restricted.restricted_by_halves.Goals as goal
 
 pub of-requires : goal.of-requires
 of-requires c =

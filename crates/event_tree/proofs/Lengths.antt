@@ -1,10 +1,8 @@
 -- How the texts of trees are written, and how long they are.
-use Rattle.std.proofs.Common.{◌≡◌, ℕ, ◌+◌, ◌/◌, ◌%◌, ◌^◌, ◌<◌, ◌≤◌, zero, suc, false, List, [], ◌∷◌, ◌++◌, length, length-append, take, take_all, refl, ap, ◌∙◌, arith, append_assoc}
-use Rattle.std.specs.Prelude.{cond, nat_le}
+use Rattle.std.proofs.Common.{◌≡◌, ℕ, ◌+◌, ◌*◌, ◌/◌, ◌%◌, ◌^◌, ◌<◌, ◌≤◌, zero, suc, List, [], ◌∷◌, ◌++◌, length, length-append, take, take_all, refl, ap, ◌∙◌, arith, append_assoc}
 use Rattle.std.specs.List.{sum_by}
 use Rattle.std.specs.Fmt.{decimal}
 use Rattle.std.proofs.Math.Nat.{one-le-pow}
-use Rattle.std.proofs.lemmas.Bool.{lt-leb}
 use Rattle.std.proofs.lemmas.Fmt.{decimal_digit, decimal_step}
 use Rattle.std.proofs.lemmas.List.Sums.{sum_by-append, sum_by-cons}
 use Rattle.event_tree.specs.EventTree.{EventTree, Leaf, Node}
@@ -12,7 +10,6 @@ use Rattle.event_tree.specs.Size.{size}
 use Rattle.event_tree.specs.Entries.{entry, preorder}
 use Rattle.event_tree.specs.Spelling.{spelling}
 use Rattle.event_tree.specs.declared.entries.Entry.{Entry}
-use Rattle.event_tree.proofs.Preorder.{some_size}
 
 -- ---- the digits of a number
 
@@ -62,25 +59,22 @@ digits_between (suc k) n low high small =
 pub node_length : (n : ℕ) (a b : EventTree) → length (spelling (Node n a b)) ≡ (length (decimal n) + 4) + (length (spelling a) + length (spelling b))
 node_length n a b = simp length-append (omega arith)
 
--- what an entry adds: its digits, and for a node two brackets and two commas
-abbrev pub entry_length : Entry → ℕ
-entry_length e = length (decimal e.value) + cond (nat_le e.size 1) 0 4
+-- the digits of an entry's value
+abbrev pub digits_of : Entry → ℕ
+digits_of e = length (decimal e.value)
 
-node_adds : (n s : ℕ) → 1 < s → entry_length (entry n s) ≡ length (decimal n) + 4
-node_adds n s h = let big : nat_le s 1 ≡ false = lt-leb s 1 h in rw big refl
-
-pub sum_preorder : (t : EventTree) → sum_by entry_length (preorder t) ≡ length (spelling t)
+-- beside them a node has two brackets and two commas, and there is a leaf more than nodes
+pub sum_preorder : (t : EventTree) → sum_by digits_of (preorder t) + 2 * size t ≡ length (spelling t) + 2
 sum_preorder (Leaf n) = omega arith
 sum_preorder (Node n a b) =
     omega (
       arith,
-      sum_by-cons entry_length (entry n (size a + size b + 1)) (preorder a ++ preorder b),
-      sum_by-append entry_length (preorder a) (preorder b),
-      node_adds n (size a + size b + 1) (omega (arith, some_size a)),
+      sum_by-cons digits_of (entry n (size a + size b + 1)) (preorder a ++ preorder b),
+      sum_by-append digits_of (preorder a) (preorder b),
       sum_preorder a,
       sum_preorder b,
       node_length n a b,
     )
 
-pub all_counted : (t : EventTree) (es : List Entry) (i n : ℕ) → es ≡ preorder t → length es ≤ i → n ≡ sum_by entry_length (take i es) → n ≡ length (spelling t)
-all_counted t es i n e h is = is ∙ ap (sum_by entry_length) (take_all i es h ∙ e) ∙ sum_preorder t
+pub all_counted : (t : EventTree) (es : List Entry) (i n : ℕ) → es ≡ preorder t → length es ≤ i → n ≡ sum_by digits_of (take i es) → n + 2 * size t ≡ length (spelling t) + 2
+all_counted t es i n e h is = ap (λ (m : ℕ). m + 2 * size t) (is ∙ ap (sum_by digits_of) (take_all i es h ∙ e)) ∙ sum_preorder t

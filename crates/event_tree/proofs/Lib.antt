@@ -10,6 +10,8 @@ pub mod Numerals
 pub mod Takes
 pub mod Texts
 pub mod Lengths
+pub mod Digits
+pub mod Puts
 pub mod Runs
 pub mod Spelled
 pub mod Verdicts

@@ -204,12 +204,7 @@ impl Events {
         ensures ok { OnOk result (out.new.items ≡ out.old.items ++ spelling self.now) }
         ensures err { OnErr result (out.new.items ≡ out.old.items) }
     {
-        let before = out.len();
-        let written = self.node.write(out);
-        if written.is_err() {
-            out.truncate(before);
-        }
-        written
+        self.node.write(out)
     }
 }
 

@@ -1,127 +1,172 @@
-//! How the text of a tree is written: its length is known first, so that there is room for all of it.
+//! How the text of a tree is written: its length is known first, so that there is room for all of it. Then one walk over the entries
+//! writes it by place. A comma stands in front of each entry but the first, and behind a leaf a bracket for each node that ends there.
 
-ghost use Rattle.std.specs.Prelude.{◌≡◌, ◌≤◌, ◌<◌, ◌+◌, ◌/◌, ◌%◌, ◌∷◌, ◌++◌, [], length, vec_len, vec_capacity};
+ghost use Rattle.std.specs.Prelude.{◌≡◌, ◌≤◌, ◌<◌, ◌+◌, ◌*◌, ◌^◌, ◌/◌, ◌%◌, ◌∷◌, ◌++◌, [], length, OnOk, OnErr};
 ghost use Rattle.std.specs.Fmt.{decimal};
+ghost use Rattle.id_tree.specs.NormalForm.{depth_limit};
+ghost use Rattle.event_tree.specs.NormalForm.{depth};
 ghost use Rattle.event_tree.specs.Spelling.{spelling};
+ghost use Rattle.event_tree.specs.Pieces.{closing, turned, piece, behind, pieces, AreKept, IsPut};
 
 use crate::entries::Entry;
 use crate::part::{EventPart, EventView};
+use std::alloc::AllocError;
 
-// How many digits a number has.
-fn digits(n: u32) -> usize
-    ensures are { result ≡ length (decimal n) }
-    ensures most { result ≤ 10 }
+// How many digits a number has beside its first.
+#[inline(always)]
+fn more_digits(n: u32) -> usize
+    ensures are { result + 1 ≡ length (decimal n) }
+    ensures most { result ≤ 9 }
 {
     match n {
-        0..=9 => 1,
-        10..=99 => 2,
-        100..=999 => 3,
-        1_000..=9_999 => 4,
-        10_000..=99_999 => 5,
-        100_000..=999_999 => 6,
-        1_000_000..=9_999_999 => 7,
-        10_000_000..=99_999_999 => 8,
-        100_000_000..=999_999_999 => 9,
-        _ => 10,
+        0..=9 => 0,
+        10..=99 => 1,
+        100..=999 => 2,
+        1_000..=9_999 => 3,
+        10_000..=99_999 => 4,
+        100_000..=999_999 => 5,
+        1_000_000..=9_999_999 => 6,
+        10_000_000..=99_999_999 => 7,
+        100_000_000..=999_999_999 => 8,
+        _ => 9,
     }
 }
 
-// How many bytes an entry adds to the text: its digits, and for a node two brackets and two commas.
-fn entry_length(entry: &Entry) -> usize
-    ensures leaf { entry.now.size ≤ 1 → result ≡ length (decimal entry.now.value) }
-    ensures node { 1 < entry.now.size → result ≡ length (decimal entry.now.value) + 4 }
-    ensures most { result ≤ 14 }
-{
-    let digits = digits(entry.value);
-    if entry.size <= 1 { digits } else { digits + 4 }
-}
-
-// How many bytes the text has.
-pub fn text_length(e: &EventView) -> usize
+// How many bytes the text has: the digits, and two brackets and two commas for each node, of which there is one less than leaves.
+fn text_length(e: &EventView) -> usize
     ensures { result ≡ length (spelling e.now) }
 {
+    let entries = e.entries();
     let mut sum: usize = 0;
-    for entry in e.entries() {
-        sum += entry_length(entry);
+    for entry in entries {
+        sum += more_digits(entry.value);
     }
-    sum
+    sum + 3 * entries.len() - 2
 }
 
-// Appends the text, for which there is room. Half of all parts are leaves, which take no call.
+// Writes a byte.
 #[inline(always)]
-#[cycle(write)]
-pub fn write_part(e: &EventView, out: &mut Vec<u8>)
-    requires { vec_len out.old + length (spelling e.now) ≤ vec_capacity out.old }
-    ensures text { out.new.items ≡ out.old.items ++ spelling e.now }
-    ensures capacity { vec_capacity out.new ≡ vec_capacity out.old }
+fn put_byte(byte: u8, out: &mut [u8], at: usize) -> usize
+    requires { at < length out.old }
+    ensures { IsPut out.old out.new at result (byte ∷ []) }
 {
-    match e.leaf() {
-        Some(n) => write_number(n, out),
-        None => write_halves(e, out),
-    }
+    out[at] = byte;
+    at + 1
 }
 
-// Appends the text, mostly that of a node, for which there is room.
-#[cycle(write)]
-fn write_halves(e: &EventView, out: &mut Vec<u8>)
-    requires { vec_len out.old + length (spelling e.now) ≤ vec_capacity out.old }
-    ensures text { out.new.items ≡ out.old.items ++ spelling e.now }
-    ensures capacity { vec_capacity out.new ≡ vec_capacity out.old }
+// Writes two digits.
+#[inline(always)]
+fn put_pair(n: u32, out: &mut [u8], at: usize) -> usize
+    requires two { n < 100 }
+    requires room { at + 1 < length out.old }
+    ensures { IsPut out.old out.new at result ((48 + n / 10) ∷ (48 + n % 10) ∷ []) }
+{
+    let last = put_byte(b'0' + (n / 10) as u8, out, at);
+    put_byte(b'0' + (n % 10) as u8, out, last)
+}
+
+// Writes the digits of a number. Most have one or two, which take no call.
+#[inline(always)]
+#[cycle(put)]
+fn put_number(n: u32, out: &mut [u8], at: usize) -> usize
+    requires { at + length (decimal n) ≤ length out.old }
+    ensures { IsPut out.old out.new at result (decimal n) }
+{
+    if n < 10 {
+        return put_byte(b'0' + n as u8, out, at);
+    }
+    if n < 100 {
+        return put_pair(n, out, at);
+    }
+    put_digits(n, out, at)
+}
+
+// Writes the digits of a number that has more than two.
+#[cycle(put)]
+fn put_digits(n: u32, out: &mut [u8], at: usize) -> usize
+    requires more { 100 ≤ n }
+    requires room { at + length (decimal n) ≤ length out.old }
+    ensures { IsPut out.old out.new at result (decimal n) }
+{
+    let last = put_number(n / 100, out, at);
+    put_pair(n % 100, out, last)
+}
+
+// Writes the brackets that close where a half ends.
+#[inline(always)]
+fn put_closing(digits: u64, out: &mut [u8], at: usize) -> (usize, u64)
+    requires { at + length (closing digits) ≤ length out.old }
+    ensures put { IsPut out.old out.new at result.0 (closing digits) }
+    ensures turned { result.1 ≡ turned digits }
+{
+    let mut next = at;
+    let mut left = digits;
+    while left % 2 == 1 {
+        next = put_byte(b')', out, next);
+        left /= 2;
+    }
+    (next, left + 1)
+}
+
+// Writes what an entry adds.
+#[inline(always)]
+fn put_piece(entry: &Entry, digits: u64, out: &mut [u8], at: usize) -> (usize, u64)
+    requires small { digits < 2 ^ 63 }
+    requires room { at + length (piece entry.now digits) ≤ length out.old }
+    ensures put { IsPut out.old out.new at result.0 (piece entry.now digits) }
+    ensures turned { result.1 ≡ behind entry.now digits }
+{
+    if entry.size <= 1 {
+        let end = put_number(entry.value, out, at);
+        return put_closing(digits, out, end);
+    }
+    let inside = put_byte(b'(', out, at);
+    (put_number(entry.value, out, inside), digits * 2)
+}
+
+// Writes the text of the entries behind that of the whole tree.
+fn put_pieces(entries: &[Entry], out: &mut [u8], start: usize) -> usize
+    requires kept { AreKept 0 entries.now }
+    requires room { start + length (pieces 0 entries.now) ≤ length out.old }
+    ensures { IsPut out.old out.new start result (pieces 0 entries.now) }
+{
+    let mut at = start;
+    let mut digits: u64 = 0;
+    for entry in entries {
+        let next = put_byte(b',', out, at);
+        let (end, later) = put_piece(entry, digits, out, next);
+        at = end;
+        digits = later;
+    }
+    at
+}
+
+// Writes the text of a tree.
+fn put_text(e: &EventView, out: &mut [u8], start: usize) -> usize
+    requires shallow { depth e.now ≤ depth_limit }
+    requires room { start + length (spelling e.now) ≤ length out.old }
+    ensures { IsPut out.old out.new start result (spelling e.now) }
 {
     match e.part() {
-        EventPart::Leaf(n) => write_number(n, out),
-        EventPart::Node(n, a, b) => {
-            out.push_reserved(b'(');
-            write_number(n, out);
-            out.push_reserved(b',');
-            write_part(&a, out);
-            out.push_reserved(b',');
-            write_part(&b, out);
-            out.push_reserved(b')');
+        EventPart::Leaf(n) => put_number(n, out, start),
+        EventPart::Node(n, _, _) => {
+            let base = put_byte(b'(', out, start);
+            let end = put_number(n, out, base);
+            put_pieces(e.entries().split_at(1).1, out, end)
         }
     }
 }
 
-// Appends the digits, for which there is room.
-#[inline(always)]
-fn write_number(n: u32, out: &mut Vec<u8>)
-    requires { vec_len out.old + length (decimal n) ≤ vec_capacity out.old }
-    ensures text { out.new.items ≡ out.old.items ++ decimal n }
-    ensures capacity { vec_capacity out.new ≡ vec_capacity out.old }
+/// Appends the text. On a refused growth `out` is as it was.
+pub fn append_text(e: &EventView, out: &mut Vec<u8>) -> Result<(), AllocError>
+    requires { depth e.now ≤ depth_limit }
+    ensures ok { OnOk result (out.new.items ≡ out.old.items ++ spelling e.now) }
+    ensures err { OnErr result (out.new.items ≡ out.old.items) }
 {
-    if n < 10 {
-        out.push_reserved(b'0' + n as u8);
-        return;
-    }
-    write_digits(n, out);
-}
-
-// Appends the digits of a number, which are mostly more than one, for which there is room.
-fn write_digits(n: u32, out: &mut Vec<u8>)
-    requires { vec_len out.old + length (decimal n) ≤ vec_capacity out.old }
-    ensures text { out.new.items ≡ out.old.items ++ decimal n }
-    ensures capacity { vec_capacity out.new ≡ vec_capacity out.old }
-{
-    if n < 10 {
-        out.push_reserved(b'0' + n as u8);
-        return;
-    }
-    if n < 100 {
-        write_pair(n, out);
-        return;
-    }
-    write_digits(n / 100, out);
-    write_pair(n % 100, out);
-}
-
-// Appends two digits, for which there is room.
-#[inline(always)]
-fn write_pair(n: u32, out: &mut Vec<u8>)
-    requires two { n < 100 }
-    requires room { vec_len out.old + 2 ≤ vec_capacity out.old }
-    ensures text { out.new.items ≡ out.old.items ++ (48 + n / 10) ∷ (48 + n % 10) ∷ [] }
-    ensures capacity { vec_capacity out.new ≡ vec_capacity out.old }
-{
-    out.push_reserved(b'0' + (n / 10) as u8);
-    out.push_reserved(b'0' + (n % 10) as u8);
+    let start = out.len();
+    let length = text_length(e);
+    out.reserve(length)?;
+    out.resize(start + length, 0)?;
+    let _end = put_text(e, out.as_mut_slice(), start);
+    Ok(())
 }

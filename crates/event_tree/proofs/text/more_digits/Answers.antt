@@ -1,6 +1,6 @@
 use Rattle.std.proofs.Common.{sym, arith}
 use Rattle.event_tree.proofs.Lengths.{one_digit, digits_between}
-use Rattle.event_tree.proofs.text.digits.Goals as goal
+use Rattle.event_tree.proofs.text.more_digits.Goals as goal
 
 pub returns-in-0-to-9-clause-are : goal.returns-in-0-to-9-clause-are
 returns-in-0-to-9-clause-are c = sym (one_digit c.args.n (omega arith))

@@ -1,5 +1,5 @@
--- Working definitions: the text of a tree, written entry by entry. Where the walk stands is one number: its binary digits stand for the
--- nodes that are open, the innermost last, 1 where its second half is written.
+-- Working definitions: the text of a tree, written entry by entry. Which halves are being written is one number: it has a binary digit for
+-- each node that is open, the innermost last, and 1 in its second half.
 use Rattle.std.specs.Prelude.{◌≡◌, ℕ, zero, suc, ◌+◌, ◌*◌, ◌/◌, ◌%◌, ◌^◌, ◌<◌, nat_le, cond, ⊤, List, [], ◌∷◌, ◌++◌, length, take}
 use Rattle.std.specs.Fmt.{decimal}
 use Rattle.event_tree.specs.declared.entries.Entry.{Entry}
@@ -11,37 +11,37 @@ by_digit (suc n) x y = y
 
 -- where a half ends, a bracket for each node whose second half it ends; of so many nodes at most
 abbrev pub closing_of : ℕ → ℕ → List ℕ
-closing_of zero digits = []
-closing_of (suc n) digits = by_digit (digits % 2) [] (41 ∷ closing_of n (digits / 2))
+closing_of zero halves = []
+closing_of (suc n) halves = by_digit (halves % 2) [] (41 ∷ closing_of n (halves / 2))
 
 -- behind it the second half of the innermost node that is left begins
 abbrev pub turned_of : ℕ → ℕ → ℕ
-turned_of zero digits = digits + 1
-turned_of (suc n) digits = by_digit (digits % 2) (digits + 1) (turned_of n (digits / 2))
+turned_of zero halves = halves + 1
+turned_of (suc n) halves = by_digit (halves % 2) (halves + 1) (turned_of n (halves / 2))
 
 abbrev pub closing : ℕ → List ℕ
-closing digits = closing_of digits digits
+closing halves = closing_of halves halves
 
 abbrev pub turned : ℕ → ℕ
-turned digits = turned_of digits digits
+turned halves = turned_of halves halves
 
 -- what an entry adds
 abbrev pub piece : Entry → ℕ → List ℕ
-piece e digits = cond (nat_le e.size 1) (decimal e.value ++ closing digits) (40 ∷ decimal e.value)
+piece e halves = cond (nat_le e.size 1) (decimal e.value ++ closing halves) (40 ∷ decimal e.value)
 
 -- where the walk stands behind it
 abbrev pub behind : Entry → ℕ → ℕ
-behind e digits = cond (nat_le e.size 1) (turned digits) (digits * 2)
+behind e halves = cond (nat_le e.size 1) (turned halves) (halves * 2)
 
 -- the text of these entries, with a comma in front of each
 abbrev pub pieces : ℕ → List Entry → List ℕ
-pieces digits [] = []
-pieces digits (e ∷ es) = 44 ∷ (piece e digits ++ pieces (behind e digits) es)
+pieces halves [] = []
+pieces halves (e ∷ es) = 44 ∷ (piece e halves ++ pieces (behind e halves) es)
 
--- on the way over these entries the number has one digit more of 64 at each place
+-- at each of these entries there is room in 64 binary digits for one more
 abbrev pub AreKept : ℕ → List Entry → Type 0
-AreKept digits [] = ⊤
-AreKept digits (e ∷ es) = (digits < 2 ^ 63) × AreKept (behind e digits) es
+AreKept halves [] = ⊤
+AreKept halves (e ∷ es) = (halves < 2 ^ 63) × AreKept (behind e halves) es
 
 -- a text is written into a list of bytes, from one place up to another, and what stands in front of it stays
 pub record IsPut (old new : List ℕ) (start stop : ℕ) (text : List ℕ) : Type 0 where

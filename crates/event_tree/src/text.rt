@@ -1,5 +1,5 @@
-//! How the text of a tree is written: its length is known first, so that there is room for all of it. Then one walk over the entries
-//! writes it by place. A comma stands in front of each entry but the first, and behind a leaf a bracket for each node that ends there.
+//! How the text of a tree is written: its length is known first, so that there is room for all of it, and then one walk over the
+//! entries writes it by place. A comma stands in front of each entry but the first, and behind a leaf a bracket for each node that ends there.
 
 ghost use Rattle.std.specs.Prelude.{◌≡◌, ◌≤◌, ◌<◌, ◌+◌, ◌*◌, ◌^◌, ◌/◌, ◌%◌, ◌∷◌, ◌++◌, [], length, OnOk, OnErr};
 ghost use Rattle.std.specs.Fmt.{decimal};
@@ -12,15 +12,14 @@ use crate::entries::Entry;
 use crate::part::{EventPart, EventView};
 use std::alloc::AllocError;
 
-// How many digits a number has beside its first.
-#[inline(always)]
-fn more_digits(n: u32) -> usize
+// How many digits a number of more than one digit has beside its first.
+fn digits_behind(n: u32) -> usize
+    requires { 10 ≤ n }
     ensures are { result + 1 ≡ length (decimal n) }
     ensures most { result ≤ 9 }
 {
     match n {
-        0..=9 => 0,
-        10..=99 => 1,
+        0..=99 => 1,
         100..=999 => 2,
         1_000..=9_999 => 3,
         10_000..=99_999 => 4,
@@ -32,14 +31,27 @@ fn more_digits(n: u32) -> usize
     }
 }
 
-// How many bytes the text has: the digits, and two brackets and two commas for each node, of which there is one less than leaves.
+// The sum and the digits that a number has beside its first. Most have none, which is asked first.
+#[inline(always)]
+fn with_digits(sum: usize, n: u32) -> usize
+    requires { sum + 9 < 2 ^ 64 }
+    ensures are { result + 1 ≡ sum + length (decimal n) }
+    ensures most { result ≤ sum + 9 }
+{
+    if n < 10 {
+        return sum;
+    }
+    sum + digits_behind(n)
+}
+
+// How many bytes the text has: the digits, and two brackets and two commas for each node, of which there are one fewer than leaves.
 fn text_length(e: &EventView) -> usize
     ensures { result ≡ length (spelling e.now) }
 {
     let entries = e.entries();
     let mut sum: usize = 0;
     for entry in entries {
-        sum += more_digits(entry.value);
+        sum = with_digits(sum, entry.value);
     }
     sum + 3 * entries.len() - 2
 }
@@ -92,15 +104,16 @@ fn put_digits(n: u32, out: &mut [u8], at: usize) -> usize
     put_pair(n % 100, out, last)
 }
 
-// Writes the brackets that close where a half ends.
+// Writes the brackets that close where a half ends, and turns to the second half of the innermost node that is left. Which halves are
+// being written is one number: a binary digit for each node that is open, the innermost last, and 1 in its second half.
 #[inline(always)]
-fn put_closing(digits: u64, out: &mut [u8], at: usize) -> (usize, u64)
-    requires { at + length (closing digits) ≤ length out.old }
-    ensures put { IsPut out.old out.new at result.0 (closing digits) }
-    ensures turned { result.1 ≡ turned digits }
+fn put_closing(halves: u64, out: &mut [u8], at: usize) -> (usize, u64)
+    requires { at + length (closing halves) ≤ length out.old }
+    ensures put { IsPut out.old out.new at result.0 (closing halves) }
+    ensures turned { result.1 ≡ turned halves }
 {
     let mut next = at;
-    let mut left = digits;
+    let mut left = halves;
     while left % 2 == 1 {
         next = put_byte(b')', out, next);
         left /= 2;
@@ -108,40 +121,40 @@ fn put_closing(digits: u64, out: &mut [u8], at: usize) -> (usize, u64)
     (next, left + 1)
 }
 
-// Writes what an entry adds.
+// Writes what an entry adds, and says which halves are being written behind it.
 #[inline(always)]
-fn put_piece(entry: &Entry, digits: u64, out: &mut [u8], at: usize) -> (usize, u64)
-    requires small { digits < 2 ^ 63 }
-    requires room { at + length (piece entry.now digits) ≤ length out.old }
-    ensures put { IsPut out.old out.new at result.0 (piece entry.now digits) }
-    ensures turned { result.1 ≡ behind entry.now digits }
+fn put_piece(entry: &Entry, halves: u64, out: &mut [u8], at: usize) -> (usize, u64)
+    requires small { halves < 2 ^ 63 }
+    requires room { at + length (piece entry.now halves) ≤ length out.old }
+    ensures put { IsPut out.old out.new at result.0 (piece entry.now halves) }
+    ensures turned { result.1 ≡ behind entry.now halves }
 {
     if entry.size <= 1 {
         let end = put_number(entry.value, out, at);
-        return put_closing(digits, out, end);
+        return put_closing(halves, out, end);
     }
     let inside = put_byte(b'(', out, at);
-    (put_number(entry.value, out, inside), digits * 2)
+    (put_number(entry.value, out, inside), halves * 2)
 }
 
-// Writes the text of the entries behind that of the whole tree.
+// Writes the text of the entries behind the first, which is a node.
 fn put_pieces(entries: &[Entry], out: &mut [u8], start: usize) -> usize
     requires kept { AreKept 0 entries.now }
     requires room { start + length (pieces 0 entries.now) ≤ length out.old }
     ensures { IsPut out.old out.new start result (pieces 0 entries.now) }
 {
     let mut at = start;
-    let mut digits: u64 = 0;
+    let mut halves: u64 = 0;
     for entry in entries {
         let next = put_byte(b',', out, at);
-        let (end, later) = put_piece(entry, digits, out, next);
+        let (end, later) = put_piece(entry, halves, out, next);
         at = end;
-        digits = later;
+        halves = later;
     }
     at
 }
 
-// Writes the text of a tree.
+// Writes the text of a tree from one place on, and says where it ends.
 fn put_text(e: &EventView, out: &mut [u8], start: usize) -> usize
     requires shallow { depth e.now ≤ depth_limit }
     requires room { start + length (spelling e.now) ≤ length out.old }
@@ -157,7 +170,7 @@ fn put_text(e: &EventView, out: &mut [u8], start: usize) -> usize
     }
 }
 
-/// Appends the text. On a refused growth `out` is as it was.
+// Appends the text. On a refused growth `out` is as it was.
 pub fn append_text(e: &EventView, out: &mut Vec<u8>) -> Result<(), AllocError>
     requires { depth e.now ≤ depth_limit }
     ensures ok { OnOk result (out.new.items ≡ out.old.items ++ spelling e.now) }

@@ -4,8 +4,8 @@ use Rattle.event_tree.proofs.text.put_closing.Given as goal
 
 abbrev pub invariant-loop-left : goal.invariant-loop-left
 invariant-loop-left l = record {
-  put : IsPutBut l.initial.out l.out l.at l.next (closing l.digits) (closing l.left);
-  turned : turned l.left ≡ turned l.digits;
+  put : IsPutBut l.initial.out l.out l.at l.next (closing l.halves) (closing l.left);
+  turned : turned l.left ≡ turned l.halves;
 }
 
 abbrev pub decreases-loop-left : goal.decreases-loop-left

@@ -7,8 +7,8 @@ put_byte-next-requires c =
     omega (
       arith,
       room_left c.args.out.now c.loop-entry.out c.args.start c.loop-entry.at _ _ c.loop-entry.invariant.put c.requires.room,
-      some_left c.loop-entry.digits c.loop-entry.entry-index c.args.entries.now c.loop-entry-test.true,
+      some_left c.loop-entry.halves c.loop-entry.entry-index c.args.entries.now c.loop-entry-test.true,
     )
 
 pub put_piece-end-requires-clause-small : goal.put_piece-end-requires-clause-small
-put_piece-end-requires-clause-small c = next_small c.loop-entry.digits c.loop-entry.entry-index c.args.entries.now c.loop-entry-test.true c.loop-entry.invariant.kept
+put_piece-end-requires-clause-small c = next_small c.loop-entry.halves c.loop-entry.entry-index c.args.entries.now c.loop-entry-test.true c.loop-entry.invariant.kept

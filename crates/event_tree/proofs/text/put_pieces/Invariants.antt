@@ -4,6 +4,6 @@ use Rattle.event_tree.proofs.text.put_pieces.Given as goal
 
 abbrev pub invariant-loop-entry : goal.invariant-loop-entry
 invariant-loop-entry l = record {
-  put : IsPutBut l.fn.out l.out l.start l.at (pieces 0 l.entries) (pieces l.digits (drop l.entry-index l.entries));
-  kept : AreKept l.digits (drop l.entry-index l.entries);
+  put : IsPutBut l.fn.out l.out l.start l.at (pieces 0 l.entries) (pieces l.halves (drop l.entry-index l.entries));
+  kept : AreKept l.halves (drop l.entry-index l.entries);
 }

@@ -1,12 +1,9 @@
 use Rattle.std.proofs.Common.{sym, arith}
-use Rattle.event_tree.proofs.Lengths.{one_digit, digits_between}
-use Rattle.event_tree.proofs.text.more_digits.Goals as goal
+use Rattle.event_tree.proofs.Lengths.{digits_between}
+use Rattle.event_tree.proofs.text.digits_behind.Goals as goal
 
-pub returns-in-0-to-9-clause-are : goal.returns-in-0-to-9-clause-are
-returns-in-0-to-9-clause-are c = sym (one_digit c.args.n (omega arith))
-
-pub returns-in-10-to-99-clause-are : goal.returns-in-10-to-99-clause-are
-returns-in-10-to-99-clause-are c = sym (digits_between 1 c.args.n (omega arith) (omega arith) (omega arith))
+pub returns-in-0-to-99-clause-are : goal.returns-in-0-to-99-clause-are
+returns-in-0-to-99-clause-are c = sym (digits_between 1 c.args.n (omega arith) (omega arith) (omega arith))
 
 pub returns-in-100-to-999-clause-are : goal.returns-in-100-to-999-clause-are
 returns-in-100-to-999-clause-are c = sym (digits_between 2 c.args.n (omega arith) (omega arith) (omega arith))

@@ -1,6 +1,7 @@
 pub mod Rising
 pub mod Laws
 pub mod Looking
+pub mod Repeated
 pub mod Lawful
 pub mod Listed
 pub mod Thresholding

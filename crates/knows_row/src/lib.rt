@@ -15,7 +15,7 @@ ghost use Rattle.chains.specs.Positions.{last_rank};
 ghost use Rattle.chains.specs.Knowledge.{Knows, events_at};
 ghost use Rattle.chains.specs.Folded.{IsFolded};
 ghost use Rattle.knows_row.specs.Knowing.{KnowsAt, IsLawful, KnowsRank, IsNeed, IsLastKnown};
-ghost use Rattle.knows_row.specs.Beyond.{IsBeyondAt, IsBeyondFrom, IsLastBeyond};
+ghost use Rattle.knows_row.specs.Beyond.{IsBeyondAt, IsBeyondFrom, IsLastBeyond, AreRising};
 
 pub use by_runs::needs;
 use chains::{Chains, Elements, Place, Position};
@@ -37,7 +37,10 @@ pub fn knows(chains: &Chains, place: Place, process: u32, position: Position) ->
     };
     match events_beside(chains, place, process) {
         None => false,
-        Some(events) => is_beyond_from(events, &chains.elements(process), k),
+        Some(events) => {
+            chains.lawful();
+            is_beyond_from(events, &chains.elements(process), k)
+        }
     }
 }
 
@@ -96,14 +99,33 @@ fn is_beyond(events: &Events, elements: &Elements<'_>, k: u32) -> bool
     }
 }
 
-/// Whether the events are beyond some element from k on.
+/// Up to how many nodes and leaves an id is compared with the one before, so that this takes less than most looks at events.
+const SHORT_ID: usize = 64;
+
+/// Whether the events are beyond some element from k on. One with the id of the one before adds nothing to it, and is passed over.
 fn is_beyond_from(events: &Events, elements: &Elements<'_>, k: u32) -> bool
+    requires { AreRising elements.now }
     ensures { IsTrue result ↔ IsBeyondFrom events.now elements.now k }
 {
-    for later in k..elements.len() + 1 {
-        if is_beyond(events, elements, later) {
+    let first = k.max(1);
+    let Some(element) = elements.get(first - 1) else {
+        return false;
+    };
+    if events.exceeds_on(element.events, element.id) {
+        return true;
+    }
+    let mut id = element.id;
+    for before in first..elements.len() {
+        let Some(later) = elements.get(before) else {
+            return false;
+        };
+        if later.id.size() <= SHORT_ID && id.equal(later.id) {
+            continue;
+        }
+        if events.exceeds_on(later.events, later.id) {
             return true;
         }
+        id = later.id;
     }
     false
 }

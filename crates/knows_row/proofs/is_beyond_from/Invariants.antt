@@ -1,5 +1,6 @@
-use Rattle.knows_row.proofs.Looking.{NoneOf}
+use Rattle.std.proofs.Common.{◌≤◌}
+use Rattle.knows_row.proofs.Repeated.{IsLookedAt}
 use Rattle.knows_row.proofs.is_beyond_from.Given as goal
 
-abbrev pub invariant-loop-later : goal.invariant-loop-later
-invariant-loop-later l = NoneOf l.events l.elements l.k l.later
+abbrev pub invariant-loop-before : goal.invariant-loop-before
+invariant-loop-before l = (l.k ≤ l.before) × IsLookedAt l.events l.elements l.k l.before l.id

@@ -22,7 +22,7 @@ use Rattle.settled_lists.proofs.Folding.{within, is_within}
 use Rattle.driver.specs.declared.fault.StepFault.{StepFault}
 use Rattle.driver.specs.declared.mark.Mark.{Mark}
 use Rattle.driver.specs.declared.tables.Tables.{Tables}
-use Rattle.driver.specs.declared.tables.Made.{Made}
+use Rattle.driver.specs.Made.{Made}
 use Rattle.driver.specs.Tables.{AreSound, history_in, shown, carried, kept_of_actor, kept_of_other, kept_of_message}
 use Rattle.driver.specs.Making.{IsNotAlive, IsSame, IsReady, HasLineOf, Adds}
 use Rattle.driver.specs.Verdicts.{HasRetired}

@@ -2,6 +2,7 @@ pub mod Verdicts
 pub mod Owners
 pub mod Made
 pub mod Lined
+pub mod Stepped
 pub mod Folds
 pub mod Sound
 pub mod Closing

@@ -19,7 +19,7 @@ use Rattle.report_line.specs.Spelling.{IsAction, AreFields}
 use Rattle.report_line.specs.StepReports.{is_reported, reporting_steps, id_of, numbered, report_by}
 use Rattle.lawful_reports.specs.HandedOver.{HasLine}
 use Rattle.driver.specs.declared.step.Act.{Act}
-use Rattle.driver.specs.declared.tables.Made.{Made}
+use Rattle.driver.specs.Made.{Made}
 use Rattle.driver.specs.Stamping.{stamp_of}
 use Rattle.driver.specs.Making.{Makes, IsReady, HasLineOf, HasParts, HasWholeParts, HasLineIfCounted}
 

@@ -1,48 +1,26 @@
 -- The steps that are made: stamped as asked, allowed, and refused by no cause.
-use Rattle.std.proofs.Common.{Option, ◌≡◌, ◌≢◌, ℕ, Some, None, refl, sym, ◌∙◌, ap, subst}
+use Rattle.std.proofs.Common.{◌≡◌, ◌≢◌, ℕ, Some, None, refl, sym, ◌∙◌, ap, subst}
 use Rattle.id_tree.specs.IdTree.{IdTree}
 use Rattle.id_tree.specs.Points.{owns}
 use Rattle.stamp.specs.declared.stamp.Stamp.{Stamp}
 use Rattle.event_tree.specs.EventTree.{EventTree}
 use Rattle.stamp.specs.Operations.{IsFork, IsNormalJoin}
-use Rattle.report_line.specs.declared.report.Action.{Action}
 use Rattle.report_line.specs.declared.report.Action.TheVariants as acts
-use Rattle.report_line.specs.declared.report.Report.{Report}
-use Rattle.report_line.specs.declared.report.Report.TheVariants.{Numbered}
 use Rattle.report_line.specs.declared.step.Deed.{Deed}
 use Rattle.report_line.specs.declared.step.Deed.TheVariants as deeds
-use Rattle.report_line.specs.declared.step.Step.{Step as Taken}
 use Rattle.report_line.specs.History.{Name, History, Event, Unborn, Retired, status, sending}
 use Rattle.report_line.specs.Lawful.{IsOwnWork}
 use Rattle.report_line.specs.StepReports.{reporting_steps, id_of}
 use Rattle.histories.proofs.Status.{root_born}
 use Rattle.driver.specs.declared.step.Act.TheVariants.{Work, Check, Present, Send, Receive, Fork, Retire, Absorb}
-use Rattle.driver.specs.declared.known.Known.{Known}
 use Rattle.driver.specs.declared.known.Known.TheVariants.{Lives, Waits, Gone}
-use Rattle.driver.specs.declared.tables.Made.{Made}
-use Rattle.driver.specs.declared.tables.Sent.{Sent}
-use Rattle.driver.specs.declared.tables.Other.{Other}
+use Rattle.driver.specs.Made.{Made, step_of, silently, openly}
 use Rattle.driver.specs.declared.making.Alive.{Alive}
 use Rattle.driver.specs.declared.making.NextReport.{NextReport}
 use Rattle.driver.specs.declared.making.ForkParts.{ForkParts}
 use Rattle.driver.specs.Stamping.{stamp_of}
 use Rattle.driver.specs.Making.{IsAlive, IsEventMade, IsForkMade, IsReceiveMade, IsAbsorbMade, report_after, parts_after, Makes}
 use Rattle.driver.proofs.Verdicts.{passed}
-
--- the step of a deed, with this stamp after it
-abbrev pub step_of : Name → Deed → Stamp → Taken
-step_of p d t = record { process = p; deed = d; stamp = t }
-
--- a report with a number
-abbrev pub numbered : Name → ℕ → Stamp → Action → Report
-numbered p n s a = Numbered (record { process = p; number = n; stamp = s; action = a })
-
--- a step that is not reported, and one that is
-abbrev pub silently : Name → Deed → Stamp → ℕ → Option Sent → Made
-silently p d t n sent = record { step = step_of p d t; after = Lives t n; other = None; message = sent; report = None }
-
-abbrev pub openly : Name → Deed → Stamp → Known → Option Other → ℕ → Stamp → Action → Made
-openly p d t after other n reported a = record { step = step_of p d t; after = after; other = other; message = None; report = Some (numbered p n reported a) }
 
 -- an event on the own stamp is the own work
 pub own_work : (e : Event) (p : Name) (d : Deed) (t : Stamp) → IsEventMade (stamp_of e) t → IsOwnWork e e.values (step_of p d t)

@@ -29,7 +29,7 @@ use Rattle.driver.specs.declared.known.Known.TheVariants.{Lives, Gone}
 use Rattle.driver.specs.declared.tables.Tables.{Tables}
 use Rattle.driver.specs.declared.tables.Other.{Other}
 use Rattle.driver.specs.declared.tables.Sent.{Sent}
-use Rattle.driver.specs.declared.tables.Made.{Made}
+use Rattle.driver.specs.Made.{Made}
 use Rattle.driver.specs.Making.{IsReady, HasLineOf, Adds}
 use Rattle.driver.specs.Tables.{AreSound, history_in, shown, carried, kept_of_actor, kept_of_other, kept_of_message, noted_other, noted_message}
 

@@ -1,6 +1,6 @@
 -- Which verdict the tests give.
 use Rattle.std.proofs.Common.{Err, ◌≡◌, ◌≢◌, ◌<◌, Some, None, refl, sym, ◌∙◌, ap, subst, inl, inr}
-use Rattle.report_line.specs.History.{Name, History, Event, Status, Unborn, Living, status}
+use Rattle.report_line.specs.History.{Name, History, Event, Status, Unborn, Living, Retired, status}
 use Rattle.driver.specs.declared.step.Act.{Act}
 use Rattle.driver.specs.declared.fault.StepFault.{StepFault}
 use Rattle.driver.specs.declared.fault.StepFault.TheVariants as faults
@@ -9,9 +9,9 @@ use Rattle.id_tree.specs.NormalForm.{depth_limit}
 use Rattle.id_tree.specs.Split.{parts_depth}
 use Rattle.event_tree.specs.Event.{PassesLimit}
 use Rattle.stamp.specs.declared.stamp.Stamp.{Stamp}
-use Rattle.driver.specs.declared.step.Act.TheVariants.{Fork}
+use Rattle.driver.specs.declared.step.Act.TheVariants.{Fork, Absorb}
 use Rattle.driver.specs.declared.making.Alive.{Alive}
-use Rattle.driver.specs.Making.{IsNotAlive, IsAlive, ForkTold}
+use Rattle.driver.specs.Making.{IsNotAlive, IsAlive, ForkTold, AbsorbTold}
 
 living_not_unborn : (e : Event) → Living e ≢ Unborn
 living_not_unborn e is = cc
@@ -60,6 +60,15 @@ module _ (root : Name) (h : History) (p : Name) (act : Act) (e : Event) (living 
     pub passed : ¬ IsFullFor h e act → ¬ IsTooDeep (Living e) act → IsVerdict root h p act None
     passed not shallow =
         inr (known, inr (lives, inr (other, inr (free, inr (sent, inr (waits, inr (fits not, inr ((λ is. shallow (subst (λ (s : Status). IsTooDeep s act) living is)), refl))))))))
+
+-- an absorption's faults
+pub absorb_fault : (root : Name) (h : History) (p r : Name) (e : Event) (a : Alive) (retired : Stamp) (f : StepFault) → IsAlive root h p a → status root h r ≡ Retired e p → AbsorbTold a.stamp.now retired (Err f)
+    → f ≢ faults.Memory → IsVerdict root h p (Absorb r) (Some f)
+absorb_fault root h p r e a retired f alive waits (inl memory) other = absurd (other memory)
+absorb_fault root h p r e a retired f alive waits (inr w) other =
+    subst (λ (g : StepFault). IsVerdict root h p (Absorb r) (Some g)) (sym w.0)
+    (full root h p (Absorb r) alive.last alive.lives (λ no. no) (λ no. no) (λ no. no) (λ no. no) (λ none. none e waits)
+    (subst (λ (s : Stamp). PassesLimit s.id s.events) alive.stamp w.1))
 
 -- a fork's faults
 pub fork_fault : (root : Name) (h : History) (p c : Name) (a : Alive) (f : StepFault) → IsAlive root h p a → status root h c ≡ Unborn → ForkTold a.stamp.now (Err f)

@@ -12,7 +12,7 @@ use Rattle.settled_histories.specs.Kept.{Cut, IsClosed, kept}
 use Rattle.driver.specs.declared.known.Known.{Known}
 use Rattle.driver.specs.declared.known.Known.TheVariants.{Lives, Waits}
 use Rattle.driver.specs.declared.tables.Tables.{Tables}
-use Rattle.driver.specs.declared.tables.Made.{Made}
+use Rattle.driver.specs.Made.{Made}
 use Rattle.driver.specs.Marks.{Marks, reached}
 use Rattle.driver.specs.Tables.{AreSound, history_in, kept_of_actor, kept_of_other, kept_of_message}
 

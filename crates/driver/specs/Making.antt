@@ -30,7 +30,7 @@ use Rattle.driver.specs.declared.making.NextReport.{NextReport}
 use Rattle.driver.specs.declared.making.ForkParts.{ForkParts}
 use Rattle.indexmap.specs.IndexMap.{spare}
 use Rattle.driver.specs.declared.tables.Tables.{Tables}
-use Rattle.driver.specs.declared.tables.Made.{Made}
+use Rattle.driver.specs.Made.{Made}
 use Rattle.driver.specs.Stamping.{stamp_of, IsStamped}
 use Rattle.driver.specs.Verdicts.{HasRetired, IsVerdict}
 use Rattle.driver.specs.Tables.{Changes, IsMade, AreSound, history_in}
@@ -132,10 +132,6 @@ pub record Makes (root : Name) (h : History) (p : Name) (act : Act) (made : Made
   pub allowed : IsAllowed root h before made.step made.step.deed
   pub verdict : IsVerdict root h p act None
   pub changes : IsMade root h made
-
-abbrev pub MakingTold : Name → History → Name → Act → Result Made StepFault → Type 0
-MakingTold root h p act (Ok made) = Makes root h p act made
-MakingTold root h p act (Err f) = f ≢ faults.Memory → IsVerdict root h p act (Some f)
 
 -- the same but for room
 pub record IsSame (old new : Tables) : Type 0 where

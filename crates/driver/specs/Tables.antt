@@ -17,7 +17,7 @@ use Rattle.driver.specs.declared.known.Known.TheVariants.{Lives, Waits, Gone}
 use Rattle.driver.specs.declared.tables.Tables.{Tables}
 use Rattle.driver.specs.declared.tables.Other.{Other}
 use Rattle.driver.specs.declared.tables.Sent.{Sent}
-use Rattle.driver.specs.declared.tables.Made.{Made}
+use Rattle.driver.specs.Made.{Made}
 
 -- what is kept of a process that stands so and has so many reports
 abbrev pub shown : Status → ℕ → Option Known

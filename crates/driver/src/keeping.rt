@@ -19,7 +19,7 @@ use crate::mark::Mark;
 use crate::marking::is_reached;
 use crate::noting::{add, reserve};
 use crate::remaking::remade;
-use crate::tables::Tables;
+use crate::tables::{Remade, Tables};
 use indexmap::IndexMap;
 use report_line::{Deed, Name, Step as Taken};
 use std::alloc::Global;
@@ -87,7 +87,13 @@ fn keep(alloc: Global, tables: &mut Tables, step: &Taken) -> Result<(), StepFaul
         Ok(made) => made,
         Err(fault) => return Err(fault),
     };
-    drop(add(tables, made));
+    let Remade {
+        step: kept,
+        after,
+        other,
+        message,
+    } = made;
+    add(tables, kept, after, other, message);
     Ok(())
 }
 

@@ -1,7 +1,6 @@
 //! Whether reports have lines, by what holds of their parts.
 
-ghost use Rattle.std.specs.Prelude.{◌≡◌, ◌<◌, ◌^◌, Some};
-ghost use Rattle.report_line.specs.declared.report.Report.{Report as AnyReport};
+ghost use Rattle.std.specs.Prelude.{◌<◌, ◌^◌};
 ghost use Rattle.report_line.specs.Spelling.{IsAction};
 ghost use Rattle.driver.specs.Making.{HasLineIfCounted, HasParts, HasWholeParts};
 
@@ -37,7 +36,7 @@ fn know_number(number: u32)
 }
 
 // Tells a proof that a report has a line, where it is counted from 1.
-fn know_report(report: &Report)
+pub(crate) fn know_report(report: &Report)
     ensures { HasLineIfCounted report.now }
 {
     match report {
@@ -50,16 +49,6 @@ fn know_report(report: &Report)
             fields.stamp.known();
             know_action(&fields.action);
         }
-    }
-}
-
-// Tells a proof the same of the report that was made, if one was.
-pub(crate) fn know_made(report: &Option<Report>)
-    ensures { (r : AnyReport) → report.now ≡ Some r → HasLineIfCounted r }
-{
-    match report {
-        None => {}
-        Some(made) => know_report(made),
     }
 }
 

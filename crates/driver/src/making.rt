@@ -1,18 +1,20 @@
-//! Making the step that is asked, without changing anything.
+//! Making the step that is asked, and taking it.
 
 ghost use Rattle.std.specs.Prelude.{◌≡◌, ◌≢◌, ◌+◌, ◌<◌, ◌^◌, ◌↔◌, false, IfOk, IfErr, OnOk, Some, None};
 ghost use Rattle.id_tree.specs.Points.{OwnsSome, Overlap};
 ghost use Rattle.report_line.specs.History.{Unborn, status};
-ghost use Rattle.driver.specs.Making.{AliveTold, EventTold, report_after, WorkTold, parts_after, ForkTold, ReceiveTold, AbsorbTold, MessageTold, RetirementTold, MakingTold};
+ghost use Rattle.driver.specs.Making.{AliveTold, EventTold, report_after, WorkTold, parts_after, ForkTold, ReceiveTold, AbsorbTold, MessageTold, RetirementTold};
+ghost use Rattle.driver.specs.Stepping.{IsStepTaken};
 ghost use Rattle.driver.specs.Tables.{AreSound, history_in};
 
 use crate::fault::StepFault;
 use crate::known::Known;
+use crate::noting::{take_openly, take_silently};
 use crate::step::{Act, Step};
-use crate::tables::{Made, Other, Sent, Tables};
+use crate::tables::{Other, Sent, Tables};
 use event_tree::Events;
 use id_tree::Id;
-use report_line::{Action, Deed, Name, NumberedReport, Report, Shared, Step as Taken};
+use report_line::{Action, Deed, Name, Report, Shared};
 use stamp::{Stamp, StampFault};
 use std::alloc::{AllocError, Global};
 
@@ -153,39 +155,6 @@ fn absorbed(alloc: Global, stamp: &Stamp, retired: &Stamp) -> Result<Stamp, Step
     }
 }
 
-// A step that is not reported.
-fn silent(
-    alloc: Global,
-    process: &Name,
-    deed: Deed,
-    stamp: Stamp,
-    reports: u32,
-    message: Option<Sent>,
-) -> Result<Made, AllocError>
-    ensures { IfOk result (λ m. m ≡ record { step = record { process = process.now; deed = deed; stamp = stamp }; after = Known.Lives stamp reports; other = None; message = message; report = None }) }
-{
-    let Ok(after) = stamp.copy(alloc) else {
-        drop(deed);
-        drop(stamp);
-        drop(message);
-        return Err(AllocError);
-    };
-    Ok(Made {
-        step: Taken {
-            process: process.copy(),
-            deed,
-            stamp,
-        },
-        after: Known::Lives {
-            stamp: after,
-            reports,
-        },
-        other: None,
-        message,
-        report: None,
-    })
-}
-
 // The number of the next report.
 pub(crate) fn next_number(reports: u32) -> Result<u32, StepFault>
     ensures ok { IfOk result (λ n. n ≡ reports + 1) }
@@ -254,37 +223,6 @@ fn worked(alloc: Global, stamp: &Stamp, reports: u32) -> Result<(Stamp, NextRepo
         return Err(StepFault::Memory);
     };
     Ok((after, report))
-}
-
-// A step that is reported.
-fn told(
-    process: &Name,
-    deed: Deed,
-    stamp: Stamp,
-    after: Known,
-    other: Option<Other>,
-    number: u32,
-    reported: Stamp,
-    action: Action,
-) -> Made
-    ensures { result ≡ record { step = record { process = process.now; deed = deed; stamp = stamp }; after = after; other = other; message = None; report = Some (Report.Numbered (record { process = process.now; number = number; stamp = reported; action = action })) } }
-{
-    Made {
-        step: Taken {
-            process: process.copy(),
-            deed,
-            stamp,
-        },
-        after,
-        other,
-        message: None,
-        report: Some(Report::Numbered(NumberedReport {
-            process: process.copy(),
-            number,
-            stamp: reported,
-            action,
-        })),
-    }
 }
 
 // A child that begins with this stamp.
@@ -370,32 +308,41 @@ fn fork_parts(
     })
 }
 
-// ---- the acts: each stays a function of its own in the program, too, since one for all clears the places of all at each step
+// ---- the acts
 
-#[inline(never)]
-pub(crate) fn work(alloc: Global, tables: &Tables, process: &Name) -> Result<Made, StepFault>
-    requires { AreSound tables.now }
-    ensures { MakingTold tables.now.root (history_in tables.now) process.now Act.Work result }
+pub(crate) fn work(
+    alloc: Global,
+    tables: &mut Tables,
+    asked: &Step,
+) -> Result<Option<Report>, StepFault>
+    requires sound { AreSound tables.old }
+    requires act { asked.now.act ≡ Act.Work }
+    ensures { IsStepTaken tables.old asked.now tables.new result }
 {
-    let alive = living(tables, process)?;
+    let alive = living(tables, &asked.process)?;
+    let reports = alive.reports;
     let stamp = event(alloc, alive.stamp)?;
-    let made = silent(alloc, process, Deed::Work, stamp, alive.reports, None)?;
-    Ok(made)
+    take_silently(alloc, tables, asked, Deed::Work, stamp, reports, None)
 }
 
-#[inline(never)]
-pub(crate) fn check(alloc: Global, tables: &Tables, process: &Name) -> Result<Made, StepFault>
-    requires { AreSound tables.now }
-    ensures { MakingTold tables.now.root (history_in tables.now) process.now Act.Check result }
+pub(crate) fn check(
+    alloc: Global,
+    tables: &mut Tables,
+    asked: &Step,
+) -> Result<Option<Report>, StepFault>
+    requires sound { AreSound tables.old }
+    requires act { asked.now.act ≡ Act.Check }
+    ensures { IsStepTaken tables.old asked.now tables.new result }
 {
-    let alive = living(tables, process)?;
+    let alive = living(tables, &asked.process)?;
     let (stamp, report) = worked(alloc, alive.stamp, alive.reports)?;
     let after = Known::Lives {
         stamp: report.kept,
         reports: report.number,
     };
-    Ok(told(
-        process,
+    take_openly(
+        tables,
+        asked,
         Deed::Check,
         stamp,
         after,
@@ -403,22 +350,27 @@ pub(crate) fn check(alloc: Global, tables: &Tables, process: &Name) -> Result<Ma
         report.number,
         report.reported,
         Action::Check,
-    ))
+    )
 }
 
-#[inline(never)]
-pub(crate) fn present(alloc: Global, tables: &Tables, process: &Name) -> Result<Made, StepFault>
-    requires { AreSound tables.now }
-    ensures { MakingTold tables.now.root (history_in tables.now) process.now Act.Present result }
+pub(crate) fn present(
+    alloc: Global,
+    tables: &mut Tables,
+    asked: &Step,
+) -> Result<Option<Report>, StepFault>
+    requires sound { AreSound tables.old }
+    requires act { asked.now.act ≡ Act.Present }
+    ensures { IsStepTaken tables.old asked.now tables.new result }
 {
-    let alive = living(tables, process)?;
+    let alive = living(tables, &asked.process)?;
     let (stamp, report) = worked(alloc, alive.stamp, alive.reports)?;
     let after = Known::Lives {
         stamp: report.kept,
         reports: report.number,
     };
-    Ok(told(
-        process,
+    take_openly(
+        tables,
+        asked,
         Deed::Present,
         stamp,
         after,
@@ -426,76 +378,72 @@ pub(crate) fn present(alloc: Global, tables: &Tables, process: &Name) -> Result<
         report.number,
         report.reported,
         Action::Present,
-    ))
+    )
 }
 
-#[inline(never)]
 pub(crate) fn send(
     alloc: Global,
-    tables: &Tables,
-    process: &Name,
+    tables: &mut Tables,
+    asked: &Step,
     name: &Name,
-) -> Result<Made, StepFault>
-    requires { AreSound tables.now }
-    ensures { MakingTold tables.now.root (history_in tables.now) process.now (Act.Send name.now) result }
+) -> Result<Option<Report>, StepFault>
+    requires sound { AreSound tables.old }
+    requires act { asked.now.act ≡ Act.Send name.now }
+    ensures { IsStepTaken tables.old asked.now tables.new result }
 {
-    let alive = living(tables, process)?;
-    match message(tables, name) {
-        None => {
-            let stamp = event(alloc, alive.stamp)?;
-            let Ok(events) = stamp.events.copy(alloc) else {
-                drop(stamp);
-                return Err(StepFault::Memory);
-            };
-            let sent = Sent {
-                name: name.copy(),
-                events,
-            };
-            let deed = Deed::Send {
-                message: name.copy(),
-            };
-            let made = silent(alloc, process, deed, stamp, alive.reports, Some(sent))?;
-            Ok(made)
-        }
-        Some(_) => Err(StepFault::Taken),
-    }
+    let alive = living(tables, &asked.process)?;
+    let None = message(tables, name) else {
+        return Err(StepFault::Taken);
+    };
+    let reports = alive.reports;
+    let stamp = event(alloc, alive.stamp)?;
+    let Ok(events) = stamp.events.copy(alloc) else {
+        drop(stamp);
+        return Err(StepFault::Memory);
+    };
+    let sent = Sent {
+        name: name.copy(),
+        events,
+    };
+    let deed = Deed::Send {
+        message: name.copy(),
+    };
+    take_silently(alloc, tables, asked, deed, stamp, reports, Some(sent))
 }
 
-#[inline(never)]
 pub(crate) fn receive(
     alloc: Global,
-    tables: &Tables,
-    process: &Name,
+    tables: &mut Tables,
+    asked: &Step,
     name: &Name,
-) -> Result<Made, StepFault>
-    requires { AreSound tables.now }
-    ensures { MakingTold tables.now.root (history_in tables.now) process.now (Act.Receive name.now) result }
+) -> Result<Option<Report>, StepFault>
+    requires sound { AreSound tables.old }
+    requires act { asked.now.act ≡ Act.Receive name.now }
+    ensures { IsStepTaken tables.old asked.now tables.new result }
 {
-    let alive = living(tables, process)?;
-    match message(tables, name) {
-        None => Err(StepFault::NoMessage),
-        Some(came) => {
-            let stamp = received(alloc, alive.stamp, came)?;
-            let deed = Deed::Receive {
-                message: name.copy(),
-            };
-            let made = silent(alloc, process, deed, stamp, alive.reports, None)?;
-            Ok(made)
-        }
-    }
+    let alive = living(tables, &asked.process)?;
+    let Some(came) = message(tables, name) else {
+        return Err(StepFault::NoMessage);
+    };
+    let reports = alive.reports;
+    let stamp = received(alloc, alive.stamp, came)?;
+    let deed = Deed::Receive {
+        message: name.copy(),
+    };
+    take_silently(alloc, tables, asked, deed, stamp, reports, None)
 }
 
-#[inline(never)]
 pub(crate) fn fork(
     alloc: Global,
-    tables: &Tables,
-    process: &Name,
+    tables: &mut Tables,
+    asked: &Step,
     child: &Name,
-) -> Result<Made, StepFault>
-    requires { AreSound tables.now }
-    ensures { MakingTold tables.now.root (history_in tables.now) process.now (Act.Fork child.now) result }
+) -> Result<Option<Report>, StepFault>
+    requires sound { AreSound tables.old }
+    requires act { asked.now.act ≡ Act.Fork child.now }
+    ensures { IsStepTaken tables.old asked.now tables.new result }
 {
-    let alive = living(tables, process)?;
+    let alive = living(tables, &asked.process)?;
     if is_born(tables, child) {
         return Err(StepFault::Taken);
     }
@@ -523,8 +471,9 @@ pub(crate) fn fork(
         stamp: parts.kept,
         reports: parts.number,
     };
-    Ok(told(
-        process,
+    take_openly(
+        tables,
+        asked,
         deed,
         stamp,
         after,
@@ -532,24 +481,24 @@ pub(crate) fn fork(
         parts.number,
         parts.reported,
         parts.action,
-    ))
+    )
 }
 
-#[inline(never)]
 pub(crate) fn retire(
     alloc: Global,
-    tables: &Tables,
-    process: &Name,
+    tables: &mut Tables,
+    asked: &Step,
     target: &Name,
-) -> Result<Made, StepFault>
-    requires { AreSound tables.now }
-    ensures { MakingTold tables.now.root (history_in tables.now) process.now (Act.Retire target.now) result }
+) -> Result<Option<Report>, StepFault>
+    requires sound { AreSound tables.old }
+    requires act { asked.now.act ≡ Act.Retire target.now }
+    ensures { IsStepTaken tables.old asked.now tables.new result }
 {
     if !is_born(tables, target) {
         return Err(StepFault::Unknown);
     }
-    let alive = living(tables, process)?;
-    if target.as_bytes() == process.as_bytes() {
+    let alive = living(tables, &asked.process)?;
+    if target.as_bytes() == asked.process.as_bytes() {
         return Err(StepFault::SelfTarget);
     }
     let stamp = event(alloc, alive.stamp)?;
@@ -564,8 +513,9 @@ pub(crate) fn retire(
         stamp: report.kept,
         target: target.copy(),
     };
-    Ok(told(
-        process,
+    take_openly(
+        tables,
+        asked,
         deed,
         stamp,
         after,
@@ -573,49 +523,51 @@ pub(crate) fn retire(
         report.number,
         report.reported,
         Action::Retire { target: into },
-    ))
+    )
 }
 
-#[inline(never)]
 pub(crate) fn absorb(
     alloc: Global,
-    tables: &Tables,
-    process: &Name,
+    tables: &mut Tables,
+    asked: &Step,
     name: &Name,
-) -> Result<Made, StepFault>
-    requires { AreSound tables.now }
-    ensures { MakingTold tables.now.root (history_in tables.now) process.now (Act.Absorb name.now) result }
+) -> Result<Option<Report>, StepFault>
+    requires sound { AreSound tables.old }
+    requires act { asked.now.act ≡ Act.Absorb name.now }
+    ensures { IsStepTaken tables.old asked.now tables.new result }
 {
-    let alive = living(tables, process)?;
-    match retirement(tables, process, name) {
-        None => Err(StepFault::NotWaiting),
-        Some(retired) => {
-            let stamp = absorbed(alloc, alive.stamp, retired)?;
-            let Ok((report, of)) = next_report_naming(alloc, alive.reports, &stamp, name) else {
-                drop(stamp);
-                return Err(StepFault::Memory);
-            };
-            let deed = Deed::Absorb {
-                retired: name.copy(),
-            };
-            let other = Other {
-                name: name.copy(),
-                known: Known::Gone,
-            };
-            let after = Known::Lives {
-                stamp: report.kept,
-                reports: report.number,
-            };
-            Ok(told(
-                process,
-                deed,
-                stamp,
-                after,
-                Some(other),
-                report.number,
-                report.reported,
-                Action::Absorb { retired: of },
-            ))
-        }
-    }
+    let alive = living(tables, &asked.process)?;
+    let Some(retired) = retirement(tables, &asked.process, name) else {
+        return Err(StepFault::NotWaiting);
+    };
+    let stamp = match absorbed(alloc, alive.stamp, retired) {
+        Ok(stamp) => stamp,
+        Err(fault) => return Err(fault),
+    };
+    let Ok((report, of)) = next_report_naming(alloc, alive.reports, &stamp, name) else {
+        drop(stamp);
+        return Err(StepFault::Memory);
+    };
+    let deed = Deed::Absorb {
+        retired: name.copy(),
+    };
+    let other = Other {
+        name: name.copy(),
+        known: Known::Gone,
+    };
+    let after = Known::Lives {
+        stamp: report.kept,
+        reports: report.number,
+    };
+    take_openly(
+        tables,
+        asked,
+        deed,
+        stamp,
+        after,
+        Some(other),
+        report.number,
+        report.reported,
+        Action::Absorb { retired: of },
+    )
 }

@@ -4,11 +4,12 @@ ghost use Rattle.std.specs.Prelude.{◌≡◌, ◌+◌, ◌<◌, ◌^◌, true, 
 ghost use Rattle.report_line.specs.StepReports.{is_reported};
 ghost use Rattle.driver.specs.Tables.{kept_of_other, kept_of_message};
 ghost use Rattle.driver.specs.Keeping.{after_by, IsRemade};
+ghost use Rattle.driver.specs.Made.{again};
 
 use crate::fault::StepFault;
 use crate::known::Known;
 use crate::making::{next_number, twice};
-use crate::tables::{Made, Other, Sent};
+use crate::tables::{Other, Remade, Sent};
 use report_line::{Deed, Name, Step as Taken};
 use stamp::Stamp;
 use std::alloc::{AllocError, Global};
@@ -129,8 +130,8 @@ fn message_of(alloc: Global, step: &Taken) -> Result<Option<Sent>, AllocError>
 }
 
 // The step, with what it changes where its process made so many reports before.
-pub(crate) fn remade(alloc: Global, step: &Taken, reports: u32) -> Result<Made, StepFault>
-    ensures ok { IfOk result (λ made. IsRemade step.now reports made) }
+pub(crate) fn remade(alloc: Global, step: &Taken, reports: u32) -> Result<Remade, StepFault>
+    ensures ok { IfOk result (λ r. IsRemade step.now reports (again r)) }
     ensures few { OnOk result (is_reported step.now.deed ≡ true → reports + 1 < 2 ^ 32) }
     ensures err { IfErr result (λ f. f ≡ StepFault.Memory) }
 {
@@ -157,7 +158,7 @@ pub(crate) fn remade(alloc: Global, step: &Taken, reports: u32) -> Result<Made, 
         drop(other);
         return Err(StepFault::Memory);
     };
-    Ok(Made {
+    Ok(Remade {
         after: after_of(&step.deed, own, reports),
         step: Taken {
             process: step.process.copy(),
@@ -166,6 +167,5 @@ pub(crate) fn remade(alloc: Global, step: &Taken, reports: u32) -> Result<Made, 
         },
         other,
         message,
-        report: None,
     })
 }

@@ -3,7 +3,7 @@
 use crate::known::Known;
 use event_tree::Events;
 use indexmap::IndexMap;
-use report_line::{Name, Report, Step as Taken};
+use report_line::{Name, Step as Taken};
 
 /// The root, how many settlements there were, the steps, the oldest first, and what they say of each name.
 #[derive(Drop)]
@@ -29,12 +29,11 @@ pub(crate) struct Sent {
     pub(crate) events: Events,
 }
 
-/// A step that is ready, with what it changes and its report.
+/// A step that is made once more, with what it changes.
 #[derive(Drop)]
-pub(crate) struct Made {
+pub(crate) struct Remade {
     pub(crate) step: Taken,
     pub(crate) after: Known,
     pub(crate) other: Option<Other>,
     pub(crate) message: Option<Sent>,
-    pub(crate) report: Option<Report>,
 }

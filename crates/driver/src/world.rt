@@ -9,20 +9,18 @@ ghost use Rattle.lawful_reports.specs.HandedOver.{IsReportable};
 ghost use Rattle.driver.specs.Lines.{reported};
 ghost use Rattle.driver.specs.Stamping.{Takes};
 ghost use Rattle.driver.specs.Verdicts.{IsVerdict};
-ghost use Rattle.driver.specs.Making.{MakingTold};
-ghost use Rattle.driver.specs.Tables.{AreSound, history_in};
+ghost use Rattle.driver.specs.Stepping.{IsStepTaken};
+ghost use Rattle.driver.specs.Tables.{AreSound};
 ghost use Rattle.driver.specs.Seen.{chronicle_in};
 ghost use Rattle.driver.specs.Settling.{HasUnknownName, IsClosedLine, Settles, RefusesLine};
 
 use crate::beginning::begun;
 use crate::fault::StepFault;
 use crate::line::NamedPosition;
-use crate::lining::know_made;
 use crate::making::{absorb, check, fork, present, receive, retire, send, work};
-use crate::noting::{add, reserve};
 use crate::settling::settle_on;
 use crate::step::{Act, Step};
-use crate::tables::{Made, Tables};
+use crate::tables::Tables;
 use report_line::{Name, Report};
 use std::alloc::{AllocError, Global};
 use std::marker::Model;
@@ -107,42 +105,19 @@ impl World {
     }
 }
 
-// The step that is asked, made ready.
-fn make(alloc: Global, tables: &Tables, asked: &Step) -> Result<Made, StepFault>
-    requires { AreSound tables.now }
-    ensures { MakingTold tables.now.root (history_in tables.now) asked.now.process asked.now.act result }
-{
-    let process = &asked.process;
-    match &asked.act {
-        Act::Work => work(alloc, tables, process),
-        Act::Check => check(alloc, tables, process),
-        Act::Present => present(alloc, tables, process),
-        Act::Send { message } => send(alloc, tables, process, message),
-        Act::Receive { message } => receive(alloc, tables, process, message),
-        Act::Fork { child } => fork(alloc, tables, process, child),
-        Act::Retire { target } => retire(alloc, tables, process, target),
-        Act::Absorb { retired } => absorb(alloc, tables, process, retired),
-    }
-}
-
 // The step that is asked, made and added.
 fn take_step(alloc: Global, tables: &mut Tables, asked: &Step) -> Result<Option<Report>, StepFault>
     requires { AreSound tables.old }
-    ensures sound { AreSound tables.new }
-    ensures step { IfOk result (λ given. Takes (chronicle_in tables.old) asked.now (chronicle_in tables.new) given) }
-    ensures reports { IfOk result (λ given. reports tables.new.root (history_in tables.new) ≡ reports tables.old.root (history_in tables.old) ++ cons_option given []) }
-    ensures accepted { OnOk result (IsVerdict tables.old.root (history_in tables.old) asked.now.process asked.now.act None) }
-    ensures refused { IfErr result (λ fault. fault ≢ StepFault.Memory → IsVerdict tables.old.root (history_in tables.old) asked.now.process asked.now.act (Some fault)) }
-    ensures unchanged { OnErr result (chronicle_in tables.new ≡ chronicle_in tables.old) }
+    ensures { IsStepTaken tables.old asked.now tables.new result }
 {
-    let made = match make(alloc, tables, asked) {
-        Ok(made) => made,
-        Err(fault) => return Err(fault),
-    };
-    know_made(&made.report);
-    let Ok(()) = reserve(tables) else {
-        drop(made);
-        return Err(StepFault::Memory);
-    };
-    Ok(add(tables, made))
+    match &asked.act {
+        Act::Work => work(alloc, tables, asked),
+        Act::Check => check(alloc, tables, asked),
+        Act::Present => present(alloc, tables, asked),
+        Act::Send { message } => send(alloc, tables, asked, message),
+        Act::Receive { message } => receive(alloc, tables, asked, message),
+        Act::Fork { child } => fork(alloc, tables, asked, child),
+        Act::Retire { target } => retire(alloc, tables, asked, target),
+        Act::Absorb { retired } => absorb(alloc, tables, asked, retired),
+    }
 }

@@ -1,16 +1,20 @@
 use Rattle.std.proofs.Common.{refl}
 use Rattle.driver.proofs.Owners.{owner}
 use Rattle.driver.proofs.Made.{makes_fork}
+use Rattle.driver.proofs.Stepped.{step_refused}
 use Rattle.driver.proofs.Verdicts.{fork_fault}
 use Rattle.driver.proofs.making.fork.Goals as goal
 
 pub halves-requires : goal.halves-requires
-halves-requires c = owner c.args.tables.now c.args.process.now c.in_ok-alive.alive c.requires c.in_ok-alive.ensures
+halves-requires c = owner c.args.tables.now c.args.asked.now.process c.in_ok-alive.alive c.requires.sound c.in_ok-alive.ensures
+
+pub take_openly-requires-clause-makes : goal.take_openly-requires-clause-makes
+take_openly-requires-clause-makes c =
+    rw (c.requires.act, c.born.ensures)
+    (makes_fork _ _ _ c.args.child.now _ _ c.in_ok-alive.alive c.in-Ok.halves.0 c.in-Ok.halves.1 c.in-Ok-fork_parts.parts _
+    c.in_ok-alive.ensures (c.is_born.ensures.0 c.if-is_born.false) c.in-Ok.ensures c.in-Ok-fork_parts.ensures.ok refl c.copy.ensures refl)
 
 pub returns-in-Err : goal.returns-in-Err
-returns-in-Err c = fork_fault _ _ _ _ c.in_ok-alive.alive c.in-Err.fault c.in_ok-alive.ensures (c.is_born.ensures.0 c.if-is_born.false) c.in-Err.ensures
-
-pub returns : goal.returns
-returns c =
-    makes_fork _ _ _ c.args.child.now _ _ c.in_ok-alive.alive c.in-Ok.halves.0 c.in-Ok.halves.1 c.in-Ok-fork_parts.parts c.told.result
-    c.in_ok-alive.ensures (c.is_born.ensures.0 c.if-is_born.false) c.in-Ok.ensures c.in-Ok-fork_parts.ensures.ok refl c.copy.ensures (rw c.born.ensures at c.told.ensures)
+returns-in-Err c =
+    step_refused _ _ _ c.in-Err.fault c.requires.sound c.requires.act
+    (fork_fault _ _ _ _ c.in_ok-alive.alive c.in-Err.fault c.in_ok-alive.ensures (c.is_born.ensures.0 c.if-is_born.false) c.in-Err.ensures)

@@ -1,4 +1,4 @@
-use Rattle.std.proofs.Common.{◌≡◌, ◌≢◌, Bool, false, sym, ◌∙◌}
+use Rattle.std.proofs.Common.{◌≡◌, ◌≢◌, Bool, false, refl, sym, ◌∙◌}
 use Rattle.std.specs.Str.{bytes_eq}
 use Rattle.std.proofs.lemmas.Bool.{true≢false}
 use Rattle.report_line.specs.History.{Name}
@@ -11,12 +11,13 @@ differs : (x y q p : Name) (b : Bool) → b ≡ bytes_eq x y → b ≡ false →
 differs x y q p b test is is_x is_y same = true≢false (sym (bytes_same x y (is_x ∙ (same ∙ sym is_y))) ∙ (sym test ∙ is))
 
 pub event-requires : goal.event-requires
-event-requires c = owner c.args.tables.now c.args.process.now c.in_ok-alive.alive c.requires c.in_ok-alive.ensures
+event-requires c = owner c.args.tables.now c.args.asked.now.process c.in_ok-alive.alive c.requires.sound c.in_ok-alive.ensures
 
-pub returns : goal.returns
-returns c =
-    makes_retire _ _ _ _ _ _ _ c.in_ok-alive.alive c.in_ok-stamp.stamp c.in-Ok.report c.told.result
+pub take_openly-requires-clause-makes : goal.take_openly-requires-clause-makes
+take_openly-requires-clause-makes c =
+    rw c.requires.act
+    (makes_retire _ _ _ _ _ _ _ c.in_ok-alive.alive c.in_ok-stamp.stamp c.in-Ok.report _
     c.in_ok-alive.ensures c.in_ok-stamp.ensures
     (λ unborn. true≢false (sym c.if-not-is_born.false ∙ c.is_born.ensures.1 unborn))
-    (differs c.as_bytes.result.now c.as_bytes-2.result.now c.args.target.now c.args.process.now c.eq.result c.eq.ensures c.if-eq.false c.as_bytes.ensures.value c.as_bytes-2.ensures.value)
-    c.in-Ok.ensures.report c.copy.ensures c.copy-2.ensures c.in-Ok.ensures.name c.told.ensures
+    (differs c.as_bytes.result.now c.as_bytes-2.result.now c.args.target.now c.args.asked.now.process c.eq.result c.eq.ensures c.if-eq.false c.as_bytes.ensures.value c.as_bytes-2.ensures.value)
+    c.in-Ok.ensures.report c.copy.ensures c.copy-2.ensures c.in-Ok.ensures.name refl)

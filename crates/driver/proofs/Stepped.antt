@@ -1,0 +1,109 @@
+-- A step that was made and added is taken as it was asked.
+use Rattle.std.proofs.Common.{◌≡◌, ◌≢◌, ℕ, ◌∷◌, Option, Some, None, Ok, Err, refl, ◌∙◌, ap, subst}
+use Rattle.stamp.specs.declared.stamp.Stamp.{Stamp}
+use Rattle.report_line.specs.declared.report.Action.{Action}
+use Rattle.report_line.specs.declared.report.Report.{Report}
+use Rattle.report_line.specs.declared.step.Deed.{Deed}
+use Rattle.report_line.specs.History.{Name, History, status}
+use Rattle.report_line.specs.StepReports.{report_of}
+use Rattle.driver.specs.declared.known.Known.{Known}
+use Rattle.driver.specs.declared.known.Known.TheVariants.{Lives}
+use Rattle.driver.specs.declared.step.Step.{Step}
+use Rattle.driver.specs.declared.step.Act.{Act}
+use Rattle.driver.specs.declared.tables.Tables.{Tables}
+use Rattle.driver.specs.declared.tables.Sent.{Sent}
+use Rattle.driver.specs.declared.tables.Other.{Other}
+use Rattle.driver.specs.Made.{Made, step_of, numbered, silently, openly}
+use Rattle.driver.specs.Tables.{AreSound, history_in}
+use Rattle.driver.specs.Verdicts.{IsVerdict}
+use Rattle.driver.specs.declared.fault.StepFault.{StepFault}
+use Rattle.driver.specs.declared.fault.StepFault.TheVariants as faults
+use Rattle.driver.specs.Making.{Makes, IsSame, IsReady, HasLineIfCounted, Adds}
+use Rattle.driver.specs.Stepping.{IsStepTaken}
+use Rattle.driver.proofs.GoingOver.{ready_still}
+use Rattle.driver.proofs.Lined.{ready_made}
+
+same_history : (old new : Tables) → IsSame old new → history_in new ≡ history_in old
+same_history old new same = rw same.steps refl
+
+-- the report has no part in what is added
+unreported : (root : Name) (h : History) (made : Made) → IsReady root h made
+    → IsReady root h (record { step = made.step; after = made.after; other = made.other; message = made.message; report = None })
+unreported root h made ready = record {
+  before = ready.before;
+  living = ready.living;
+  allowed = ready.allowed;
+  changes = record { actor = ready.changes.actor; other = ready.changes.other; message = ready.changes.message };
+  line = ready.line;
+}
+
+pub silently_ready : (old middle : Tables) (p x : Name) (act : Act) (d : Deed) (t k : Stamp) (n : ℕ) (sent : Option Sent) → Makes old.root (history_in old) p act (silently p d t n sent)
+    → IsSame old middle → x ≡ p → k ≡ t
+    → IsReady middle.root (history_in middle) (record { step = step_of x d t; after = Lives k n; other = None; message = sent; report = None })
+silently_ready old middle p x act d t k n sent makes same is_x is_k =
+    rw (is_x, is_k) (ready_still old middle (silently p d t n sent) same (ready_made old.root (history_in old) p act (silently p d t n sent) makes (λ r none. absurd cc)))
+
+pub openly_ready : (old middle : Tables) (p x y : Name) (act : Act) (d : Deed) (t : Stamp) (after : Known) (other : Option Other) (n : ℕ) (reported : Stamp) (a : Action)
+    → Makes old.root (history_in old) p act (openly p d t after other n reported a) → HasLineIfCounted (numbered y n reported a) → IsSame old middle → x ≡ p → y ≡ p
+    → IsReady middle.root (history_in middle) (record { step = step_of x d t; after = after; other = other; message = None; report = None })
+openly_ready old middle p x y act d t after other n reported a makes line same is_x is_y =
+    rw is_x (unreported middle.root (history_in middle) (openly p d t after other n reported a)
+    (ready_still old middle (openly p d t after other n reported a) same
+    (ready_made old.root (history_in old) p act (openly p d t after other n reported a) makes
+    (λ r is. subst HasLineIfCounted (ap (λ (z : Name). numbered z n reported a) is_y ∙ some_report r is) line))))
+  where
+    some_report : (r : Report) → Some (numbered p n reported a) ≡ Some r → numbered p n reported a ≡ r
+    some_report r is = cc
+
+step_taken : (old middle new : Tables) (asked : Step) (made : Made) (given : Option Report) → Makes old.root (history_in old) asked.process asked.act made → IsSame old middle
+    → Adds middle made.step new → given ≡ made.report → IsStepTaken old asked new (Ok given)
+step_taken old middle new asked made given makes same added is =
+    let root : new.root ≡ old.root = added.root ∙ same.root in
+    let history : history_in new ≡ made.step ∷ history_in old = added.history ∙ ap (λ (h : History). made.step ∷ h) (same_history old middle same) in
+    let report : given ≡ report_of old.root (history_in old) made.step = is ∙ makes.changes.report in
+    record {
+      sound = added.sound;
+      step = record {
+        step = made.step;
+        asked = record {
+          process = makes.process;
+          before = makes.before;
+          living = ap (status old.root (history_in old)) makes.process ∙ makes.living;
+          stamped = makes.stamped;
+        };
+        root = root;
+        epoch = added.epoch ∙ same.epoch;
+        history = history;
+        lawful = added.sound.lawful;
+        report = report;
+      };
+      reports = rw (root, history, report) refl;
+      accepted = makes.verdict;
+      refused = tt;
+      unchanged = tt;
+    }
+
+pub silently_taken : (old middle new : Tables) (asked : Step) (x : Name) (d : Deed) (t : Stamp) (n : ℕ) (sent : Option Sent)
+    → Makes old.root (history_in old) asked.process asked.act (silently asked.process d t n sent) → IsSame old middle → x ≡ asked.process → Adds middle (step_of x d t) new
+    → IsStepTaken old asked new (Ok None)
+silently_taken old middle new asked x d t n sent makes same is_x added =
+    step_taken old middle new asked (silently asked.process d t n sent) None makes same (subst (λ (z : Name). Adds middle (step_of z d t) new) is_x added) refl
+
+pub openly_taken : (old middle new : Tables) (asked : Step) (x y : Name) (d : Deed) (t : Stamp) (after : Known) (other : Option Other) (n : ℕ) (reported : Stamp) (a : Action)
+    → Makes old.root (history_in old) asked.process asked.act (openly asked.process d t after other n reported a) → IsSame old middle → x ≡ asked.process → y ≡ asked.process
+    → Adds middle (step_of x d t) new → IsStepTaken old asked new (Ok (Some (numbered y n reported a)))
+openly_taken old middle new asked x y d t after other n reported a makes same is_x is_y added =
+    step_taken old middle new asked (openly asked.process d t after other n reported a) (Some (numbered y n reported a)) makes same
+    (subst (λ (z : Name). Adds middle (step_of z d t) new) is_x added) (ap (λ (z : Name). Some (numbered z n reported a)) is_y)
+
+-- a step that is refused leaves all as it was
+pub step_refused : (old : Tables) (asked : Step) (act : Act) (fault : StepFault) → AreSound old → asked.act ≡ act → (fault ≢ faults.Memory → IsVerdict old.root (history_in old) asked.process act (Some fault))
+    → IsStepTaken old asked old (Err fault)
+step_refused old asked act fault sound is refused = record {
+  sound = sound;
+  step = tt;
+  reports = tt;
+  accepted = tt;
+  refused = rw is refused;
+  unchanged = refl;
+}

@@ -1,4 +1,4 @@
-//! The reply to a call. What is asked less often than reports come is not put into the turn, which would clear its places each time.
+//! The reply to a call.
 
 ghost use Rattle.std.specs.Prelude.{◌≡◌, ℕ, List, true, false, IfOk, IfErr, IfSome};
 ghost use Rattle.record_file.specs.File.{Said};
@@ -20,7 +20,6 @@ use record_file::Store;
 use report_line::{Call, Code, Name, Outcome};
 
 /// The turn of a question for a line.
-#[inline(never)]
 fn line_asked(chains: &Chains, stopped: bool, names: &[Name]) -> Twice
     ensures { IsQuestionTurn stopped fine (held_with chains.now stopped) (IsLineReply (held_with chains.now stopped) names.now) result (held_with chains.now stopped) }
 {
@@ -31,7 +30,6 @@ fn line_asked(chains: &Chains, stopped: bool, names: &[Name]) -> Twice
 }
 
 /// The turn of the question for the line with every process failed.
-#[inline(never)]
 fn garbage_asked(chains: &Chains, stopped: bool) -> Twice
     ensures { IsQuestionTurn stopped fine (held_with chains.now stopped) (IsGarbageReply (held_with chains.now stopped)) result (held_with chains.now stopped) }
 {
@@ -42,7 +40,6 @@ fn garbage_asked(chains: &Chains, stopped: bool) -> Twice
 }
 
 /// The turn of a question for the state of a process, if memory suffices for it.
-#[inline(never)]
 fn state_asked(chains: &Chains, stopped: bool, name: &Name) -> Result<Twice, TurnFault>
     ensures given { IfOk result (λ twice. IsQuestionTurn stopped fine (held_with chains.now stopped) (IsStateReply chains.now.accepted name.now) twice (held_with chains.now stopped)) }
     ensures err { IfErr result (λ fault. (fault ≡ TurnFault.Memory) × (stopped ≡ false) × IsKnown chains.now.accepted name.now) }

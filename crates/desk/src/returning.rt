@@ -52,7 +52,6 @@ fn return_all<D: Disk>(
 }
 
 /// The turn of a settlement.
-#[inline(never)]
 pub(crate) fn settlement_placed<D: Disk>(
     chains: &mut Chains,
     store: &mut Store<D>,

@@ -1,5 +1,4 @@
-//! Replies, each once for the caller and once for the list of turns. Those that are rare are not put into their callers, which would clear the
-//! places of all of them at each turn.
+//! Replies, each once for the caller and once for the list of turns.
 
 ghost use Rattle.std.specs.Prelude.{◌≡◌, ◌⊎◌, IfOk, IfErr, None, option_copied, is_some};
 ghost use Rattle.chains.specs.Admission.{TakesMemory};
@@ -55,7 +54,6 @@ impl Twice {
 }
 
 /// The device failed, or was not called any more.
-#[inline(never)]
 pub(crate) fn failed(outcome: Outcome) -> Twice
     ensures { result ≡ Reply.Fail outcome }
 {
@@ -96,7 +94,6 @@ pub(crate) fn old(front: u32) -> Twice
 }
 
 /// The line was no call.
-#[inline(never)]
 pub(crate) fn bad(number: u8) -> Twice
     ensures { result ≡ Reply.Bad number }
 {
@@ -107,7 +104,6 @@ pub(crate) fn bad(number: u8) -> Twice
 }
 
 /// The client is done.
-#[inline(never)]
 pub(crate) fn bye() -> Twice
     ensures { result ≡ Reply.Bye }
 {
@@ -138,7 +134,6 @@ fn refusal(code: Code, name: Option<Name>) -> Reply
 }
 
 /// A refusal with nothing to name.
-#[inline(never)]
 pub(crate) fn refused(code: Code) -> Twice
     ensures { result ≡ Reply.No code None None }
 {
@@ -160,7 +155,6 @@ fn refused_named(code: Code, name: Name) -> Twice
 }
 
 /// A refusal of a report; or want of memory, where its value takes memory.
-#[inline(never)]
 pub(crate) fn refused_by(alloc: Global, refused_as: No) -> Twice
     ensures { (result ≡ Reply.No refused_as.code refused_as.name refused_as.value)
         ⊎ (TakesMemory (Reply.No refused_as.code refused_as.name refused_as.value) × (result ≡ no_memory)) }

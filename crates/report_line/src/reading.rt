@@ -1,4 +1,4 @@
-//! Lines as calls. What is rarer than checkpoints is not put into the reading of a line, which would clear its places each time.
+//! Lines as calls.
 
 ghost use Rattle.std.specs.Prelude.{◌≡◌, ◌≢◌, ◌∷◌, ℕ, List, [], IsTrue, IfOk, MatchOption, MatchResult, codes};
 ghost use Rattle.std.specs.Fmt.{decimal};
@@ -50,7 +50,6 @@ fn read_id(alloc: Global, word: &[u8]) -> Result<Id, LineFault>
     }
 }
 
-#[inline(never)]
 fn read_names(alloc: Global, word: &[u8]) -> Result<Names, LineFault>
     ensures { Finds result (λ ns. AreNames ns × (word.now ≡ names_text ns)) }
 {
@@ -127,7 +126,6 @@ fn last_name(words: &mut Words<'_>) -> Result<Name, LineFault>
     }
 }
 
-#[inline(never)]
 fn read_fork(alloc: Global, words: &mut Words<'_>) -> Result<Action, LineFault>
     ensures { Finds result (IsActionOf (codes "FORK") words.old) }
 {
@@ -141,7 +139,6 @@ fn read_fork(alloc: Global, words: &mut Words<'_>) -> Result<Action, LineFault>
     }
 }
 
-#[inline(never)]
 fn read_retire(alloc: Global, words: &mut Words<'_>) -> Result<Action, LineFault>
     ensures { Finds result (IsActionOf (codes "RETIRE") words.old) }
 {
@@ -151,7 +148,6 @@ fn read_retire(alloc: Global, words: &mut Words<'_>) -> Result<Action, LineFault
     })
 }
 
-#[inline(never)]
 fn read_absorb(alloc: Global, words: &mut Words<'_>) -> Result<Action, LineFault>
     ensures { Finds result (IsActionOf (codes "ABSORB") words.old) }
 {
@@ -227,7 +223,6 @@ fn read_numbered(alloc: Global, kind: &[u8], words: &mut Words<'_>) -> Result<Ca
     Ok(Call::Report(MarkedReport { epoch, report }))
 }
 
-#[inline(never)]
 fn read_begin(alloc: Global, words: &mut Words<'_>) -> Result<Call, LineFault>
     ensures { Finds result (IsCallOf (codes "BEGIN" ∷ words.old)) }
 {
@@ -236,7 +231,6 @@ fn read_begin(alloc: Global, words: &mut Words<'_>) -> Result<Call, LineFault>
     Ok(Call::Report(MarkedReport::unmarked(Shared::new(alloc, report)?)))
 }
 
-#[inline(never)]
 fn read_failed(alloc: Global, words: &mut Words<'_>) -> Result<Call, LineFault>
     ensures { Finds result (IsCallOf (codes "LINE" ∷ words.old)) }
 {
@@ -261,7 +255,6 @@ fn read_garbage(words: &Words<'_>) -> Result<Call, LineFault>
     }
 }
 
-#[inline(never)]
 fn read_settle(alloc: Global, words: &mut Words<'_>) -> Result<Call, LineFault>
     ensures { Finds result (IsCallOf (codes "SETTLE" ∷ words.old)) }
 {
@@ -277,7 +270,6 @@ fn read_settle(alloc: Global, words: &mut Words<'_>) -> Result<Call, LineFault>
     }
 }
 
-#[inline(never)]
 fn read_state(alloc: Global, words: &mut Words<'_>) -> Result<Call, LineFault>
     ensures { Finds result (IsCallOf (codes "STATE" ∷ words.old)) }
 {

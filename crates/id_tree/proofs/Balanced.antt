@@ -1,12 +1,19 @@
--- Each text of a tree is balanced.
-use Rattle.std.proofs.Common.{◌≡◌, ◌≢◌, ℕ, ◌+◌, cond, List, [], ◌∷◌, ◌++◌, IsTrue, refl, arith}
+-- Each text of a tree is balanced, and looks so.
+use Rattle.std.proofs.Common.{◌≡◌, ◌≢◌, ◌↔◌, ℕ, ◌+◌, ◌%◌, Bool, true, false, cond, List, [], ◌∷◌, ◌++◌, Some, IsTrue, refl, ap, arith}
 use Rattle.std.specs.Prelude.{◌==◌}
 use Rattle.std.specs.List.{list_all}
 use Rattle.std.proofs.lemmas.List.Sums.{sum_by-cons, sum_by-append}
 use Rattle.id_tree.specs.IdTree.{IdTree, Zero, One, Pair}
 use Rattle.id_tree.specs.Spelling.{spelling, is_tree_byte}
-use Rattle.id_tree.specs.Balance.{how_many, IsBalanced}
+use Rattle.id_tree.specs.Balance.{how_many, LooksBalanced}
+use Rattle.id_tree.specs.Reading.{run, start, whole}
+use Rattle.id_tree.proofs.Runs.{spelled}
 use Rattle.id_tree.proofs.Texts.{list_all-append_true}
+
+-- each byte is one of a tree's text, and as many brackets are closed as opened
+pub record IsBalanced (bytes : List ℕ) : Type 0 where
+  pub plain : IsTrue (list_all is_tree_byte bytes)
+  pub even : how_many 40 bytes ≡ how_many 41 bytes
 
 -- each byte is one of a tree's text, and so many brackets more are closed than opened
 pub record Closes (more : ℕ) (bytes : List ℕ) : Type 0 where
@@ -39,5 +46,14 @@ balanced Zero = record { plain = refl; even = refl }
 balanced One = record { plain = refl; even = refl }
 balanced (Pair l r) = opening _ (behind 1 (spelling l) _ (balanced l) (comma 1 _ (behind 1 (spelling r) _ (balanced r) closing)))
 
-pub unbalanced_is_no_text : (bytes : List ℕ) (i : IdTree) → ¬ IsBalanced bytes → bytes ≢ spelling i
-unbalanced_is_no_text bytes i h e = h (rw e (balanced i))
+-- ---- a look
+
+pub looks_balanced : (bytes : List ℕ) → IsBalanced bytes → LooksBalanced bytes
+looks_balanced bytes h = record { plain = h.plain; even = ap (λ n. n % 256) h.even }
+
+-- a text of which a look tells otherwise is no whole spelling
+pub unbalanced_run : (told : Bool) (bytes : List ℕ) → (told ≡ false) ↔ LooksBalanced bytes → told ≡ true → (t : IdTree) → run start bytes ≢ Some (whole t)
+unbalanced_run told bytes tells is t e =
+    let looks : LooksBalanced bytes = looks_balanced bytes (rw (spelled bytes t e) (balanced t)) in
+    let otherwise : told ≡ false = tells.1 looks in
+    cc

@@ -83,6 +83,12 @@ pub record StepsTo (s : State) (byte : ℕ) (ms : List Mark) (hs : List Half) (c
   pub steps : step_of s byte ≡ Some next
   pub shows : Shows ms hs complete next
 
+-- a state after these bytes, which is shown
+pub record RunsTo (s : State) (bytes : List ℕ) (ms : List Mark) (hs : List Half) (complete : Bool) : Type 0 where
+  pub next : State
+  pub runs : run s bytes ≡ Some next
+  pub shows : Shows ms hs complete next
+
 -- the only faults of a step: there is no state after it, or no memory
 abbrev pub IsStepFault : {A : Type 0} → IdFault → Option A → Type 0
 IsStepFault faults.Syntax after = after ≡ None

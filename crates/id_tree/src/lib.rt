@@ -214,10 +214,6 @@ impl Id {
         if let Some(marks) = straight::read(alloc, bytes) {
             return Ok(Id { marks });
         }
-        // Of a text that is cut short or garbled a look tells so, and spares a second reading.
-        if is_unbalanced(bytes) {
-            return Err(IdFault::Syntax);
-        }
         let marks = reader::read(alloc, bytes)?;
         if !are_normal(marks.as_slice()) {
             return Err(IdFault::NotNormal);

@@ -1,8 +1,9 @@
 //! Reads a spelling of any depth in a loop.
 
 ghost use Rattle.std.specs.Prelude.{◌≡◌, ◌++◌, ◌∷◌, [], IfOk, IfErr, OnOk};
-ghost use Rattle.id_tree.specs.Reading.{State, Shows, StepsTo, Spells, IsStepFault, IsRunFault, step_of, run, start};
+ghost use Rattle.id_tree.specs.Reading.{State, Shows, StepsTo, RunsTo, Spells, IsStepFault, IsRunFault, step_of, run, start};
 
+use crate::balance::is_unbalanced;
 use crate::fault::IdFault;
 use crate::marks::{Mark, Marks};
 use smallvec::SmallVec;
@@ -64,17 +65,39 @@ fn step(
     }
 }
 
-// The marks of the tree that the bytes spell.
+// Whether a tree is complete after all of these bytes, where one was `before` them or not.
+fn read_on(
+    marks: &mut Marks,
+    halves: &mut Vec<Half>,
+    before: bool,
+    bytes: &[u8],
+) -> Result<bool, IdFault>
+    ensures ok { (s : State) → Shows marks.old.items halves.old.items before s
+        → IfOk result (λ next. RunsTo s bytes.now marks.new.items halves.new.items next) }
+    ensures err { (s : State) → Shows marks.old.items halves.old.items before s
+        → IfErr result (λ fault. IsStepFault fault (run s bytes.now)) }
+{
+    let mut complete = before;
+    for byte in bytes {
+        complete = step(marks, halves, complete, *byte)?;
+    }
+    Ok(complete)
+}
+
+// The marks of the tree that the bytes spell. Most texts with a fault are cut short or garbled, which a look at all bytes tells;
+// it comes behind a 64th of the steps, so that a text with a fault near its front is not looked over.
 pub fn read(alloc: Global, bytes: &[u8]) -> Result<Marks, IdFault>
     ensures ok { IfOk result (λ marks. Spells marks.items bytes.now) }
     ensures err { IfErr result (λ fault. IsRunFault fault (run start bytes.now)) }
 {
     let mut marks = SmallVec::new(alloc);
     let mut halves = Vec::new(alloc);
-    let mut complete = false;
-    for byte in bytes {
-        complete = step(&mut marks, &mut halves, complete, *byte)?;
+    let (front, rest) = bytes.split_at(bytes.len() / 64);
+    let begun = read_on(&mut marks, &mut halves, false, front)?;
+    if is_unbalanced(bytes) {
+        return Err(IdFault::Syntax);
     }
+    let complete = read_on(&mut marks, &mut halves, begun, rest)?;
     if halves.len() > 0 {
         return Err(IdFault::Syntax);
     }

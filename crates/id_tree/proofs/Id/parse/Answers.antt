@@ -3,19 +3,12 @@ use Rattle.std.proofs.lemmas.Result.{err_from_is_err_and}
 use Rattle.id_tree.specs.NormalForm.{depth, depth_limit}
 use Rattle.id_tree.specs.Marks.{tree_of}
 use Rattle.id_tree.specs.Form.{are_normal}
-use Rattle.id_tree.proofs.Balanced.{unbalanced_is_no_text}
 use Rattle.id_tree.proofs.Texts.{one_spelling}
 use Rattle.id_tree.proofs.Forms.{found_id, found_spelling, found_unnormal, found_deep, found_tree, not_unnormal, not_deep, fault_found, fault_of_id, told_deep, told_shallow}
 use Rattle.id_tree.proofs.Id.parse.Goals as goal
 
 pub returns-in-Some-clause-only : goal.returns-in-Some-clause-only
 returns-in-Some-clause-only c = λ t n e. one_spelling _ t (sym c.in-Some.ensures.spelled ∙ e)
-
-pub returns-then-is_unbalanced-clause-err : goal.returns-then-is_unbalanced-clause-err
-returns-then-is_unbalanced-clause-err c = λ t e. unbalanced_is_no_text c.args.bytes.now t (c.is_unbalanced.ensures.sure c.if-is_unbalanced.true) e
-
-pub returns-then-is_unbalanced-clause-only : goal.returns-then-is_unbalanced-clause-only
-returns-then-is_unbalanced-clause-only c = λ t n e. absurd (unbalanced_is_no_text c.args.bytes.now t (c.is_unbalanced.ensures.sure c.if-is_unbalanced.true) e)
 
 pub returns-in_err-marks-clause-err : goal.returns-in_err-marks-clause-err
 returns-in_err-marks-clause-err c =

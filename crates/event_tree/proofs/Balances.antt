@@ -1,16 +1,17 @@
--- Each text of a tree is balanced.
-use Rattle.std.proofs.Common.{◌≡◌, ◌≢◌, ◌<◌, ℕ, true, List, [], ◌∷◌, IsTrue, refl, arith}
+-- Each text of a tree is balanced, and looks so.
+use Rattle.std.proofs.Common.{◌≡◌, ◌≢◌, ◌↔◌, ◌<◌, ℕ, Bool, true, false, List, Option, Some, None, [], ◌∷◌, IsTrue, refl, arith}
 use Rattle.std.specs.Char.{is_ascii_digit}
 use Rattle.std.specs.List.{list_all}
 use Rattle.std.proofs.lemmas.Bool.{and_parts}
 use Rattle.std.proofs.lemmas.Bool.Decides.{nat_tests}
-use Rattle.id_tree.specs.Balance.{how_many, IsBalanced}
-use Rattle.id_tree.proofs.Balanced.{how_many-cons, opening, closing, comma, behind}
+use Rattle.id_tree.specs.Balance.{how_many, LooksBalanced}
+use Rattle.id_tree.proofs.Balanced.{IsBalanced, how_many-cons, opening, closing, comma, behind, looks_balanced}
 use Rattle.event_tree.specs.EventTree.{EventTree, Leaf, Node}
-use Rattle.event_tree.specs.NormalForm.{IsEvents}
-use Rattle.event_tree.specs.Spelling.{spelling, IsTextOf}
+use Rattle.event_tree.specs.Spelling.{IsTextOf}
+use Rattle.event_tree.specs.Reading.{reading}
 use Rattle.event_tree.proofs.Numerals.{digit_range}
-use Rattle.event_tree.proofs.Texts.{plain_digits, spelling_is_text}
+use Rattle.event_tree.proofs.Texts.{plain_digits}
+use Rattle.event_tree.proofs.Spelled.{spells}
 
 no_bracket : (byte d : ℕ) (ds : List ℕ) → byte < 48 → is_ascii_digit d ≡ true → how_many byte (d ∷ ds) ≡ how_many byte ds
 no_bracket byte d ds small h = let range = digit_range d h in let step = how_many-cons byte d ds in grind (arith, nat_tests)
@@ -31,8 +32,15 @@ balanced (Node n a b) text h =
     rw h.6 (opening _ (behind 1 h.0 _ (digits_balanced h.0 h.3.digits)
     (comma 1 _ (behind 1 h.1 _ (balanced a h.1 h.4) (comma 1 _ (behind 1 h.2 _ (balanced b h.2 h.5) closing))))))
 
-pub unbalanced_is_no_text : (text : List ℕ) (t : EventTree) → ¬ IsBalanced text → ¬ IsTextOf t text
-unbalanced_is_no_text text t h is = h (balanced t text is)
+-- what can be nothing is none
+none_of : {X : Type 0} (o : Option X) → ((x : X) → o ≢ Some x) → o ≡ None
+none_of None h = refl
+none_of (Some x) h = absurd (h x refl)
 
-pub unbalanced_is_no_spelling : (text : List ℕ) (t : EventTree) → ¬ IsBalanced text → IsEvents t → text ≢ spelling t
-unbalanced_is_no_spelling text t h known e = h (rw e (balanced t (spelling t) (spelling_is_text t known.small)))
+-- nothing comes of a text of which a look tells otherwise
+pub unbalanced_reading : (told : Bool) (bytes : List ℕ) → (told ≡ false) ↔ LooksBalanced bytes → told ≡ true → reading bytes ≡ None
+unbalanced_reading told bytes tells is = none_of (reading bytes) (λ v e.
+    let s = spells bytes v e in
+    let looks : LooksBalanced bytes = looks_balanced bytes (balanced s.tree bytes s.spelled) in
+    let otherwise : told ≡ false = tells.1 looks in
+    cc)

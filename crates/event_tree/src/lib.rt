@@ -42,7 +42,7 @@ mod text;
 mod written;
 
 pub use fault::{EventFault, EventsFault};
-use id_tree::{Id, IdPart, is_unbalanced};
+use id_tree::{Id, IdPart};
 use node::Node;
 use pointwise::{joined, met};
 use reader::Part;
@@ -179,10 +179,6 @@ impl Events {
         // What is spelled right is mostly read so; which fault a text has, and what memory is wanting for, the reader says.
         if let Some(node) = straight::read(alloc, bytes) {
             return Ok(Events { node });
-        }
-        // Of a text that is cut short or garbled a look tells so, and spares a second reading.
-        if is_unbalanced(bytes) {
-            return Err(EventsFault::Syntax);
         }
         match reader::read(alloc, bytes)? {
             Part::Normal(_, _, Some(tree)) => Ok(Events {

@@ -4,7 +4,7 @@ use Rattle.std.proofs.lemmas.List.{take_more, take_more_set, get_or-take, length
 use Rattle.std.specs.List.{refill}
 use Rattle.std.specs.Prelude.{Result, Ok, Err, IfOk}
 use Rattle.std.proofs.lemmas.Grind.{take-set_at}
-use Rattle.std.proofs.Math.Seq.{take-set-lt}
+use Rattle.std.proofs.Math.Seq.{take-set-lt, take-append_seam}
 use Rattle.event_tree.specs.EventTree.{EventTree, Leaf, Node}
 use Rattle.event_tree.specs.Halves.{root}
 use Rattle.event_tree.specs.Norm.{lifted, normal_node}
@@ -55,15 +55,23 @@ first_alone : (e : EventTree) → get_or (preorder e) 0 blank ≡ entry (root e)
 first_alone (Leaf n) = refl
 first_alone (Node n a b) = refl
 
+-- what is put into a list stands there, behind what stays in front
+put_there : (old copied front : List Entry) (start : ℕ) → start + length front ≤ length old → copied ≡ take start old ++ (front ++ drop (start + length front) old) → take (start + length front) copied ≡ take start old ++ front
+put_there old copied front start room is =
+    let before = take start old ++ front in
+    let rest = drop (start + length front) old in
+    let long : start + length front ≡ length before = omega (arith, length-append (take start old) front, length-take-le start old (omega (arith, room))) in
+    rw (long, is ∙ sym (append_assoc (take start old) front rest)) (take-append_seam before rest)
+
 pub part_lifted : (old copied entries front : List Entry) (start k : ℕ) (e : EventTree) → entries ≡ preorder e → start + size e ≤ length old → front ≡ take (get_or entries 0 blank).size entries → length copied ≡ length old
-    → take (start + length front) copied ≡ take start old ++ front
+    → copied ≡ take start old ++ (front ++ drop (start + length front) old)
     → IsWritten old (set copied start (entry ((get_or entries 0 blank).value + k) (get_or entries 0 blank).size)) start (start + (get_or entries 0 blank).size) (lifted k e)
 part_lifted old copied entries front start k e are room parts long is =
     let first : get_or entries 0 blank ≡ entry (root e) (size e) = ap (λ (es : List Entry). get_or es 0 blank) are ∙ first_alone e in
     let whole : front ≡ preorder e = parts ∙ ap (λ (x : Entry). take x.size entries) first ∙ ap (take (size e)) are ∙ take_all (size e) (preorder e) (omega (arith, length_preorder e)) in
     let front_long : size e ≡ length front = sym (ap length whole ∙ length_preorder e) in
     rw first
-    (lifted_written old copied _ start _ k e room refl long (ap (λ (n : ℕ). take (start + n) copied) front_long ∙ is ∙ ap (λ (es : List Entry). take start old ++ es) whole) refl)
+    (lifted_written old copied _ start _ k e room refl long (ap (λ (n : ℕ). take (start + n) copied) front_long ∙ put_there old copied front start (omega (arith, room, front_long)) is ∙ ap (λ (es : List Entry). take start old ++ es) whole) refl)
 
 -- ---- two halves
 

@@ -1,8 +1,9 @@
 -- What a restricted tree of the code is.
-use Rattle.std.proofs.Common.{◌≡◌, ℕ, ◌+◌, ◌≤◌, max, true, false, [], ◌∷◌, inl, inr, refl, ◌∙◌, arith}
+use Rattle.std.proofs.Common.{◌≡◌, ℕ, ◌+◌, ◌≤◌, max, true, false, [], ◌∷◌, inl, inr, refl, ap, ◌∙◌, arith}
 use Rattle.std.proofs.lemmas.Bool.{both_ways, cases_Bool}
 use Rattle.id_tree.specs.IdTree.{IdTree, Zero, One, Pair}
-use Rattle.id_tree.specs.Points.{Point, owns}
+use Rattle.id_tree.specs.Points.{Point, owns, OwnsSome}
+use Rattle.id_tree.specs.Size.{size as id_size}
 use Rattle.id_tree.specs.NormalForm.{depth as id_depth}
 use Rattle.event_tree.specs.EventTree.{EventTree, Leaf, Node}
 use Rattle.event_tree.specs.Values.{value_at}
@@ -14,6 +15,24 @@ use Rattle.event_tree.specs.Walks.{restricted_from}
 use Rattle.event_tree.proofs.Trees.{value_at-nil, value_at-left, value_at-right, greatest_ge, greatest_below}
 use Rattle.event_tree.proofs.Normal.{value_at-normal_node, IsNormal-normal_node, depth-normal_node, IsNormal-lifted, value_at-lifted, depth-lifted}
 use Rattle.event_tree.proofs.Picks.{depth-halves}
+
+-- ---- of an id that owns everything
+
+some_id_size : (i : IdTree) → 1 ≤ id_size i
+some_id_size Zero = omega arith
+some_id_size One = omega arith
+some_id_size (Pair l r) = omega arith
+
+pub is_everything : (i : IdTree) → id_size i ≡ 1 → OwnsSome i → i ≡ One
+is_everything Zero s o = absurd (both_ways false refl o.1)
+is_everything One s o = refl
+is_everything (Pair l r) s o = absurd (omega (arith, s, some_id_size l))
+
+pub everything_kept : (i : IdTree) (e : EventTree) → i ≡ One → restricted_from i 0 e ≡ e
+everything_kept i (Leaf n) is = let same : n + 0 ≡ n = omega arith in rw is (ap Leaf same)
+everything_kept i (Node n a b) is = let same : n + 0 ≡ n = omega arith in rw is (ap (λ (m : ℕ). Node m a b) same)
+
+-- ---- of any id
 
 value_owned : (i : IdTree) (x : ℕ) (e : EventTree) (p : Point) → owns i p ≡ true → value_at (restricted_from i x e) p ≡ x + value_at e p
 value_owned Zero x e p o = absurd (both_ways false refl o)

@@ -142,7 +142,7 @@ impl Events {
         ensures { IfOk result (λ bound. IsRestricted id.now self.now bound) }
     {
         id.known();
-        let node = restricted::restricted(alloc, id.size(), id.view(), self.node.view())?;
+        let node = restricted::restricted(alloc, id, &self.node)?;
         Ok(Events { node })
     }
 

@@ -18,6 +18,7 @@ ghost use Rattle.event_tree.specs.Beside as besides;
 use crate::entries::{Entries, Entry, INLINE};
 use crate::node::Node;
 use crate::part::{EventPart, EventView};
+use crate::written::put_all;
 use id_tree::Way;
 use smallvec::SmallVec;
 use std::alloc::{AllocError, Global};
@@ -102,15 +103,6 @@ fn width(turn: bool) -> usize
     ensures { result ≡ besides.width turn }
 {
     if turn { 2 } else { 1 }
-}
-
-// Writes these entries.
-fn put_all(out: &mut [Entry], start: usize, entries: &[Entry])
-    requires { start + length entries.now ≤ length out.old }
-    ensures as_long { length out.new ≡ length out.old }
-    ensures are { out.new ≡ take start out.old ++ (entries.now ++ drop (start + length entries.now) out.old) }
-{
-    out[start..start + entries.len()].copy_from_slice(entries);
 }
 
 // Writes the entries of the part, with `v` at its root.

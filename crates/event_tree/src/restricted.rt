@@ -1,8 +1,7 @@
 //! An event tree restricted to an id, in one pass over both into one list.
 
-ghost use Rattle.std.specs.Prelude.{◌≡◌, ◌+◌, ◌<◌, ◌^◌, ◌++◌, [], IfOk, OnOk};
-ghost use Rattle.id_tree.specs.IdTree.{Pair};
-ghost use Rattle.id_tree.specs.Size.{size as id_size};
+ghost use Rattle.std.specs.Prelude.{◌≡◌, ◌+◌, ◌<◌, ◌^◌, ◌++◌, [], IsTrue, IfOk, OnOk};
+ghost use Rattle.id_tree.specs.IdTree.{One, Pair};
 ghost use Rattle.event_tree.specs.NormalForm.{greatest};
 ghost use Rattle.event_tree.specs.Entries.{preorder};
 ghost use Rattle.event_tree.specs.Walks as walks;
@@ -11,7 +10,7 @@ use crate::entries::{self, Entries, Entry, INLINE};
 use crate::node::Node;
 use crate::part::EventView;
 use crate::{closing, one_way};
-use id_tree::{IdPart, IdView};
+use id_tree::{Id, IdPart, IdView};
 use smallvec::SmallVec;
 use std::alloc::{AllocError, Global};
 
@@ -51,15 +50,26 @@ fn restricted_in_halves(
     closing::close(out, 0, start, middle)
 }
 
-// The tree where the id, which has so many nodes and leaves, owns, and the limit elsewhere. Most ids own one part alone.
-pub fn restricted(alloc: Global, size: usize, id: IdView, e: EventView) -> Result<Node, AllocError>
-    requires size { size ≡ id_size id }
-    requires small { greatest e < 2 ^ 32 }
-    ensures { IfOk result (λ node. node ≡ walks.restricted_from id.entry 0 e.entry) }
+// Whether the id owns everything.
+#[tactic(auto, using(crate::proofs::Restrictions::is_everything))]
+fn owns_everything(id: &Id) -> bool
+    ensures { IsTrue result → id.now ≡ One }
 {
+    id.size() == 1 && id.owns_any()
+}
+
+// The tree where the id owns, and the limit elsewhere. Most ids own one part alone. Where that is everything, nothing stands beside it.
+pub fn restricted(alloc: Global, id: &Id, e: &Node) -> Result<Node, AllocError>
+    requires { greatest e.now < 2 ^ 32 }
+    ensures { IfOk result (λ node. node ≡ walks.restricted_from id.now 0 e.now) }
+{
+    if owns_everything(id) {
+        return e.copy(alloc);
+    }
+    let size = id.size();
     match id.only_way() {
-        Some(way) => one_way::restricted(alloc, size, way, e),
-        None => restricted_by_halves(alloc, size, id, e),
+        Some(way) => one_way::restricted(alloc, size, way, e.view()),
+        None => restricted_by_halves(alloc, size, id.view(), e.view()),
     }
 }
 

@@ -1,6 +1,6 @@
 //! How a tree is written into a slice that has room for it. Each function says where what comes next begins.
 
-ghost use Rattle.std.specs.Prelude.{◌≡◌, ◌+◌, ◌<◌, ◌≤◌, ◌^◌, ◌++◌, length, take};
+ghost use Rattle.std.specs.Prelude.{◌≡◌, ◌+◌, ◌<◌, ◌≤◌, ◌^◌, ◌++◌, length, take, drop};
 ghost use Rattle.event_tree.specs.EventTree.{Leaf};
 ghost use Rattle.event_tree.specs.Halves.{root};
 ghost use Rattle.event_tree.specs.Norm.{lifted, normal_node};
@@ -45,10 +45,10 @@ pub fn put_leaves(out: &mut [Entry], start: usize, m: u32, n: u32) -> usize
 }
 
 // Writes these entries.
-fn put_all(out: &mut [Entry], start: usize, entries: &[Entry])
+pub fn put_all(out: &mut [Entry], start: usize, entries: &[Entry])
     requires { start + length entries.now ≤ length out.old }
     ensures as_long { length out.new ≡ length out.old }
-    ensures are { take (start + length entries.now) out.new ≡ take start out.old ++ entries.now }
+    ensures are { out.new ≡ take start out.old ++ (entries.now ++ drop (start + length entries.now) out.old) }
 {
     out[start..start + entries.len()].copy_from_slice(entries);
 }

@@ -4,10 +4,11 @@
 //! so that equal sets are equal ids with one text.
 #![tactic(auto)]
 
-ghost use Rattle.std.specs.Prelude.{◌≡◌, ◌↔◌, ◌++◌, [], ◌∷◌, IsTrue, IsOk, IfOk, IfErr, IsErrOf, MatchResult, OnOk, OnErr, ◌≤◌, ◌<◌, ◌≢◌, false};
+ghost use Rattle.std.specs.Prelude.{◌≡◌, ◌↔◌, ◌++◌, [], ◌∷◌, IsTrue, IsOk, IfOk, IfErr, IsErrOf, MatchOption, MatchResult, OnOk, OnErr, ◌≤◌, ◌<◌, ◌≢◌, false};
 ghost use Rattle.std.specs.List.{list_all};
 ghost use Rattle.id_tree.specs.IdTree.{IdTree, Zero, One};
 ghost use Rattle.id_tree.specs.Points.{Point, owns, OwnsSome, Overlap, AreDisjoint, AreTogether, Covers};
+ghost use Rattle.id_tree.specs.OneWay.{id_of_way};
 ghost use Rattle.id_tree.specs.Size.{size};
 ghost use Rattle.id_tree.specs.Marks.{tree_of, IsLeaf, AreMarksOf};
 ghost use Rattle.id_tree.specs.NormalForm.{IsId, IsNormal, depth, depth_limit};
@@ -40,6 +41,7 @@ use text::{text_length, write_first};
 use together::is_sum_by;
 pub use view::{IdPart, IdView};
 pub use way::Way;
+use way::is_only_way;
 
 /// Which part of an interval someone owns.
 #[derive(Drop)]
@@ -105,6 +107,19 @@ impl Id {
         ensures { result ≡ self.now }
     {
         IdView::of(self.marks())
+    }
+
+    /// The way down to what it owns, where that is one part alone; else there is none. One pass over it, which takes no memory.
+    #[tactic(auto, using(crate::proofs::OneWays::only_way, crate::proofs::OneWays::no_way))]
+    pub fn only_way(&self) -> Option<Way<'_>>
+        ensures { MatchOption result ((p : Point) → self.now ≢ id_of_way p) (λ way. self.now ≡ id_of_way way) }
+    {
+        let marks = self.marks();
+        if is_only_way(marks) {
+            Some(Way::of(marks))
+        } else {
+            None
+        }
     }
 
     /// How many nodes and leaves it has.

@@ -1,12 +1,10 @@
 //! A read-only look at an id from outside of this crate, one level at a time.
 
-ghost use Rattle.std.specs.Prelude.{◌≡◌, IfSome};
+ghost use Rattle.std.specs.Prelude.{◌≡◌};
 ghost use Rattle.id_tree.specs.View.{Shows};
 ghost use Rattle.id_tree.specs.Marks.{tree_of};
-ghost use Rattle.id_tree.specs.OneWay.{id_of_way};
 
 use crate::marks::{Mark, split_first_tree};
-use crate::way::{Way, is_only_way};
 use std::marker::Model;
 
 /// A part of an id, seen as the tree of what it owns there.
@@ -55,18 +53,6 @@ impl<'a> IdView<'a> {
                 IdPart::Halves(IdView { marks: halves }, IdView { marks: right })
             }
             _ => IdPart::Nothing,
-        }
-    }
-
-    /// The way down to what this part owns, where that is one part alone. One pass over it, and no call for a level.
-    #[tactic(auto, using(crate::proofs::OneWays::only_way))]
-    pub fn only_way(&self) -> Option<Way<'a>>
-        ensures { IfSome result (λ way. self.now ≡ id_of_way way) }
-    {
-        if is_only_way(self.marks) {
-            Some(Way::of(self.marks))
-        } else {
-            None
         }
     }
 }

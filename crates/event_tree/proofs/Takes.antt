@@ -1,27 +1,56 @@
 -- Trees that are read from the front of a text.
-use Rattle.std.proofs.Common.{◌≡◌, ℕ, ◌+◌, ◌-◌, ◌*◌, ◌^◌, ◌<◌, ◌≤◌, min, true, false, List, [], ◌∷◌, ◌++◌, length, take, drop, get_or, set, length-append, refl, sym, ap, subst, eqb-true, inl, inr, ◌∙◌, arith, append_assoc, append-nil}
+use Rattle.std.proofs.Common.{◌≡◌, ◌≢◌, ℕ, zero, suc, ◌+◌, ◌-◌, ◌*◌, ◌/◌, ◌%◌, ◌^◌, ◌<◌, ◌≤◌, min, true, false, List, [], ◌∷◌, ◌++◌, length, take, drop, get_or, length-append, length-set, refl, sym, ap, subst, eqb-true, inl, inr, ◌∙◌, arith, append_assoc, append-nil}
 use Rattle.std.specs.Fmt.{decimal}
 use Rattle.std.specs.Char.{is_ascii_digit}
 use Rattle.std.specs.Prelude.{Bool, ◌==◌, nat_le}
 use Rattle.std.proofs.lemmas.Bool.{cases_Bool, both_ways, lt-leb}
 use Rattle.std.proofs.lemmas.Bool.Decides.{nat_tests}
-use Rattle.std.proofs.Math.Seq.{take-append_seam}
+use Rattle.std.proofs.lemmas.List.{take_more_set, get_or-take, length-take-le, take_all}
+use Rattle.std.proofs.Math.Seq.{take-set-lt}
 use Rattle.event_tree.specs.EventTree.{EventTree, Leaf, Node}
 use Rattle.event_tree.specs.Halves.{root}
-use Rattle.event_tree.specs.NormalForm.{IsNormal, IsEvents, least, are_equal_leaves}
+use Rattle.event_tree.specs.NormalForm.{IsNormal, IsEvents, depth, greatest, least, are_equal_leaves}
 use Rattle.event_tree.specs.Size.{size}
 use Rattle.event_tree.specs.Spelling.{IsNumeral, spelling}
 use Rattle.event_tree.specs.Entries.{entry, blank, preorder, tree_of}
-use Rattle.event_tree.specs.Taking.{is_leaf, are_halves, IsClosed, IsTaken, IsNodeTaken, IsWhole}
+use Rattle.event_tree.specs.Taking.{is_leaf, are_halves, IsClosed, around_at, IsFirstRead, IsInnermost, AreOpen, IsUnread, IsTreeRead, IsBegun, IsLeafTaken, IsWhole}
 use Rattle.event_tree.specs.declared.entries.Entry.{Entry}
+use Rattle.event_tree.specs.declared.straight.Around.{Around}
 use Rattle.event_tree.proofs.Trees.{root_least}
-use Rattle.event_tree.proofs.Preorder.{below, preorder_root, first_entry, length_preorder, tree_of_preorder, is_preorder, some_size}
-use Rattle.event_tree.proofs.Closed.{seen}
+use Rattle.event_tree.proofs.Preorder.{length_preorder, tree_of_preorder, is_preorder, some_size}
+use Rattle.event_tree.proofs.Closed.{seen, HalvesAt, middle_within, one_seen, other_seen, written}
 use Rattle.std.proofs.lemmas.Fmt.{decimal_digit}
 use Rattle.event_tree.proofs.Numerals.{numeral_more, numeral_decimal, decimal_numeral}
 
 pub taken_one : (text rest : List ℕ) (d : ℕ) → d < 10 → text ≡ (48 + d) ∷ rest → text ≡ decimal d ++ rest
 taken_one text rest d small e = e ∙ ap (λ (ds : List ℕ). ds ++ rest) (sym (decimal_digit d small))
+
+digit_range : (n : ℕ) → is_ascii_digit n ≡ true → (48 ≤ n) × (n ≤ 57)
+digit_range n h = (grind (arith, nat_tests, h), grind (arith, nat_tests, h))
+
+-- a digit that was seen by place
+digit_seen : (n v : ℕ) → is_ascii_digit n ≡ true → v ≡ n - 48 → (n ∷ [] ≡ decimal v) × (v ≤ 9)
+digit_seen n v digit is =
+    let range = digit_range n digit in
+    let back : 48 + v ≡ n = omega (arith, is, range) in
+    (sym (decimal_digit v (omega (arith, is, range)) ∙ ap (λ (k : ℕ). k ∷ []) back), omega (arith, is, range))
+
+pub base_seen : (text : List ℕ) (v : ℕ) → 3 ≤ length text → get_or text 0 0 ≡ 40 → get_or text 2 0 ≡ 44 → is_ascii_digit (get_or text 1 0) ≡ true → v ≡ get_or text 1 0 - 48
+    → text ≡ 40 ∷ (decimal v ++ 44 ∷ take (length text - 3) (drop 3 text))
+base_seen [] v long bracket comma digit is = absurd (omega (arith, long))
+base_seen (x ∷ []) v long bracket comma digit is = absurd (omega (arith, long))
+base_seen (x ∷ y ∷ []) v long bracket comma digit is = absurd (omega (arith, long))
+base_seen (x ∷ y ∷ z ∷ rest) v long bracket comma digit is =
+    let same : length (x ∷ y ∷ z ∷ rest) - 3 ≡ length rest = omega arith in
+    rw (same, take_all (length rest) rest (omega arith), bracket, comma) (ap (λ (ds : List ℕ). 40 ∷ (ds ++ 44 ∷ rest)) (digit_seen y v digit is).0)
+
+pub value_seen : (text : List ℕ) (v : ℕ) → 2 ≤ length text → is_ascii_digit (get_or text 0 0) ≡ true → v ≡ get_or text 0 0 - 48
+    → (text ≡ decimal v ++ take (length text - 1) (drop 1 text)) × (v ≤ 4294967295)
+value_seen [] v long digit is = absurd (omega (arith, long))
+value_seen (x ∷ rest) v long digit is =
+    let same : length (x ∷ rest) - 1 ≡ length rest = omega arith in
+    let digits = digit_seen x v digit is in
+    (rw (same, take_all (length rest) rest (omega arith)) (ap (λ (ds : List ℕ). ds ++ rest) digits.0), omega (arith, digits.1))
 
 is_digit : (d : ℕ) → d < 10 → is_ascii_digit (48 + d) ≡ true
 is_digit d small = grind (arith, nat_tests)
@@ -74,111 +103,264 @@ leaf_seen (Node n a b) = lt-leb (size a + size b + 1) 1 (omega (arith, some_size
 halves_seen : (e f : Entry) (a b : EventTree) → e ≡ entry (root a) (size a) → f ≡ entry (root b) (size b) → are_halves e.value (nat_le e.size 1) f.value (nat_le f.size 1) ≡ true → are_halves (root a) (is_leaf a) (root b) (is_leaf b) ≡ true
 halves_seen e f a b i j h = rw (i, j, leaf_seen a, leaf_seen b) at h
 
--- ---- a node
+-- ---- the nodes that are open
 
-spelled_node : (n : ℕ) (a b : EventTree) (text inside later left_text left_rest right_text right_rest rest : List ℕ)
-    → text ≡ 40 ∷ inside → inside ≡ decimal n ++ later → later ≡ 44 ∷ left_text → left_text ≡ spelling a ++ left_rest → left_rest ≡ 44 ∷ right_text → right_text ≡ spelling b ++ right_rest → right_rest ≡ 41 ∷ rest
-    → text ≡ spelling (Node n a b) ++ rest
-spelled_node n a b text inside later left_text left_rest right_text right_rest rest e f g h i j k =
-    rw (e, f, g, h, i, j, k) (simp append_assoc)
+some_bit : (d halves last sum : ℕ) (text : List ℕ) (es : List Entry) → AreOpen d halves last sum text es → 2 ≤ halves
+some_bit zero halves last sum text es h = omega (arith, h.3)
+some_bit (suc d) halves last sum text es h = omega (arith, some_bit d (halves / 2) h.3 h.2 h.0 h.1 h.5)
 
-pub some_room : (room : List Entry) (b : Bool) → b ≡ (length room == 0) → b ≡ false → 0 < length room
-some_room [] b is h = absurd (both_ways b h is)
-some_room (x ∷ xs) b is h = omega arith
+-- the number 2 with so many binary digits behind
+abbrev twice : ℕ → ℕ
+twice zero = 2
+twice (suc k) = 2 * twice k
 
-pub leaf_there : (room : List Entry) (n : ℕ) → 0 < length room → set room 0 (entry n 1) ≡ preorder (Leaf n) ++ drop 1 room
-leaf_there [] n some = absurd (omega (arith, some))
-leaf_there (x ∷ xs) n some = refl
+levels_below : (k d halves last sum : ℕ) (text : List ℕ) (es : List Entry) → AreOpen d halves last sum text es → halves < twice k → d < k
+levels_below zero d halves last sum text es h low = absurd (omega (arith, low, some_bit d halves last sum text es h))
+levels_below (suc k) zero halves last sum text es h low = omega arith
+levels_below (suc k) (suc d) halves last sum text es h low =
+    let half : halves / 2 < twice k = omega (arith, low) in
+    omega (arith, levels_below k d (halves / 2) h.3 h.2 h.0 h.1 h.5 half)
 
--- the room with a first half behind the entry in front
-pub record IsHalfway (room : List Entry) (a : EventTree) (spare : List Entry) : Type 0 where
-  pub mark : Entry
-  pub are : room ≡ mark ∷ (preorder a ++ spare)
+-- ---- a tree begins
 
-halfway : (room now : List Entry) (a : EventTree) (spare : List Entry) → 0 < length room → now ≡ take 1 room ++ (preorder a ++ spare) → IsHalfway now a spare
-halfway [] now a spare some are = absurd (omega (arith, some))
-halfway (x ∷ xs) now a spare some are = record { mark = x; are = are }
+front_of_node : (so_far rest : List ℕ) (base : ℕ) → so_far ++ 40 ∷ (decimal base ++ 44 ∷ rest) ≡ (so_far ++ 40 ∷ (decimal base ++ 44 ∷ [])) ++ rest
+front_of_node so_far rest base = sym (simp append_assoc)
 
-pub half_there : (levels above : ℕ) (text : List ℕ) (room now : List Entry) (rest : List ℕ) → 0 < length room → (h : IsTaken levels above text (take 1 room) now rest) → IsHalfway now h.tree h.spare
-half_there levels above text room now rest some h = halfway room now h.tree h.spare some h.are
+begun : (d halves last sum base end : ℕ) (text : List ℕ) (es : List Entry) → length es ≡ end → AreOpen d halves last sum text es
+    → AreOpen (suc d) (halves * 2) end (sum + base) (text ++ 40 ∷ (decimal base ++ 44 ∷ [])) (es ++ entry base last ∷ [])
+begun d halves last sum base end text es long h =
+    let back : halves ≡ halves * 2 / 2 = omega arith in (
+      text,
+      es,
+      sum,
+      last,
+      record {
+        base = base;
+        said = [];
+        half = [];
+        spelled = refl;
+        are = refl;
+        last_is = long;
+        sum_is = refl;
+        unread = λ even. (refl, refl);
+        first_read = λ odd. absurd (omega (arith, odd));
+      },
+      subst (λ (n : ℕ). AreOpen d n last sum text es) back h,
+    )
 
-left_seen : (room : List Entry) (a : EventTree) (spare : List Entry) → IsHalfway room a spare → get_or room 1 blank ≡ entry (root a) (size a)
-left_seen room a spare h = rw h.are (first_entry a spare)
+pub node_begun : (whole text rest : List ℕ) (around inner : Around) (room after : List Entry) (end : ℕ) → IsUnread whole text around room end → IsBegun text rest around inner room after end → end < length room
+    → IsUnread whole rest inner after (end + 1)
+node_begun whole text rest around inner room after end h b free = record {
+  levels = suc h.levels;
+  so_far = h.so_far ++ 40 ∷ (decimal b.base ++ 44 ∷ []);
+  spelled = h.spelled ∙ ap (λ (ds : List ℕ). h.so_far ++ ds) b.spelled ∙ front_of_node h.so_far rest b.base;
+  open_there = rw (b.inner_is, b.put, take_more_set room end (entry b.base around.last) free) (begun h.levels around.halves around.last around.sum b.base end h.so_far (take end room) (length-take-le end room h.within) h.open_there);
+  low = omega (arith, levels_below 40 h.levels around.halves around.last around.sum h.so_far (take end room) h.open_there b.free);
+  within = omega (arith, ap length b.put, length-set room end (entry b.base around.last), free);
+  fits = omega (arith, ap length b.put, length-set room end (entry b.base around.last), h.fits);
+}
 
-half_long : (room : List Entry) (a : EventTree) (spare : List Entry) → IsHalfway room a spare → length room ≡ 1 + size a + length spare
-half_long room a spare h = omega (arith, ap length h.are, length-append (preorder a) spare, length_preorder a)
+-- ---- a leaf
 
--- there is a first half
-pub left_within : (room : List Entry) (a : EventTree) (spare : List Entry) → IsHalfway room a spare → 1 < length room
-left_within room a spare h = omega (arith, half_long room a spare h, some_size a)
+pub leaf_read : (whole text rest : List ℕ) (around : Around) (room after : List Entry) (end : ℕ) → IsUnread whole text around room end → IsLeafTaken text rest around.sum room after end → end < length room
+    → IsTreeRead whole rest around after (end + 1)
+leaf_read whole text rest around room after end h l free = record {
+  levels = h.levels;
+  tree = Leaf l.root;
+  so_far = h.so_far;
+  front = take end room;
+  spelled = h.spelled ∙ ap (λ (ds : List ℕ). h.so_far ++ ds) l.spelled;
+  are = ap (take (end + 1)) l.put ∙ take_more_set room end (entry l.root 1) free;
+  open_there = h.open_there;
+  normal = tt;
+  shallow = omega (arith, h.low);
+  small = omega (arith, l.small);
+  within = omega (arith, ap length l.put, length-set room end (entry l.root 1), free);
+  fits = omega (arith, ap length l.put, length-set room end (entry l.root 1), h.fits);
+}
 
--- and room for the second
-pub middle_at : (room : List Entry) (a : EventTree) (spare : List Entry) (e : Entry) (middle : ℕ) → IsHalfway room a spare → e ≡ get_or room 1 blank → middle ≡ e.size + 1 → (middle ≡ 1 + size a) × (middle ≤ length room)
-middle_at room a spare e middle h is m =
-    let here : e.size ≡ size a = ap (λ (x : Entry). x.size) (is ∙ left_seen room a spare h) in
-    (omega (arith, m, here), omega (arith, m, here, half_long room a spare h))
+-- ---- a second half
 
--- the room with both halves
-pub both_there : (room now : List Entry) (a b : EventTree) (spare more : List Entry) (middle : ℕ) → IsHalfway room a spare → middle ≡ 1 + size a → now ≡ take middle room ++ (preorder b ++ more) → IsHalfway now a (preorder b ++ more)
-both_there room now a b spare more middle h m are =
-    let long : middle ≡ length (h.mark ∷ preorder a) = omega (arith, m, length_preorder a) in
-    record { mark = h.mark; are = are ∙ rw (h.are, long) (ap (λ (es : List Entry). es ++ (preorder b ++ more)) (take-append_seam (h.mark ∷ preorder a) spare)) }
+turned : (d halves last sum : ℕ) (text : List ℕ) (es : List Entry) (t : EventTree) → halves % 2 ≡ 0 → halves ≢ 2 → AreOpen d halves last sum text es → IsNormal t → depth t + d ≤ 40 → sum + greatest t ≤ 4294967295
+    → AreOpen d (halves + 1) last sum (text ++ (spelling t ++ 44 ∷ [])) (es ++ preorder t)
+turned zero halves last sum text es t even more h normal shallow small = absurd (more h.3)
+turned (suc d) halves last sum text es t even more h normal shallow small =
+    let i = h.4 in
+    let empty = i.unread even in
+    let same : halves / 2 ≡ (halves + 1) / 2 = omega (arith, even) in (
+      h.0,
+      h.1,
+      h.2,
+      h.3,
+      record {
+        base = i.base;
+        said = spelling t ++ 44 ∷ [];
+        half = preorder t;
+        spelled = rw (i.spelled, empty.0) (simp append_assoc);
+        are = rw (i.are, empty.1) (append_assoc h.1 (entry i.base h.3 ∷ []) (preorder t));
+        last_is = i.last_is;
+        sum_is = i.sum_is;
+        unread = λ e. absurd (omega (arith, e, even));
+        first_read = λ odd. record { left = t; spelled = refl; are = refl; normal = normal; shallow = omega (arith, shallow); small = small };
+      },
+      subst (λ (n : ℕ). AreOpen d n h.3 h.2 h.0 h.1) same h.5,
+    )
 
-pub right_within : (room : List Entry) (a b : EventTree) (more : List Entry) (middle : ℕ) → IsHalfway room a (preorder b ++ more) → middle ≡ 1 + size a → middle < length room
-right_within room a b more middle h m = omega (arith, m, half_long room a (preorder b ++ more) h, length-append (preorder b) more, length_preorder b, some_size b)
+pub half_begun : (whole text rest : List ℕ) (around : Around) (room : List Entry) (end : ℕ) → IsTreeRead whole text around room end → around.halves % 2 ≡ 0 → around.halves ≢ 2 → text ≡ 44 ∷ rest
+    → IsUnread whole rest (around_at (around.halves + 1) around.last around.sum) room end
+half_begun whole text rest around room end h even more comma = record {
+  levels = h.levels;
+  so_far = h.so_far ++ (spelling h.tree ++ 44 ∷ []);
+  spelled = h.spelled ∙ rw comma (sym (simp append_assoc));
+  open_there = rw h.are (turned h.levels around.halves around.last around.sum h.so_far h.front h.tree even more h.open_there h.normal h.shallow h.small);
+  low = omega (arith, h.shallow);
+  within = h.within;
+  fits = h.fits;
+}
 
-right_seen : (room : List Entry) (a b : EventTree) (more : List Entry) (middle : ℕ) → IsHalfway room a (preorder b ++ more) → middle ≡ 1 + size a → get_or room middle blank ≡ entry (root b) (size b)
-right_seen room a b more middle h m =
-    seen (h.mark ∷ preorder a) (below b ++ more) room (entry (root b) (size b)) middle (omega (arith, m, length_preorder a))
-    (h.are ∙ ap (λ (es : List Entry). h.mark ∷ (preorder a ++ (es ++ more))) (preorder_root b))
+-- ---- a node ends
 
--- what was read of a node
-pub record IsRead (levels above less n sum middle : ℕ) (inside : List ℕ) (room final : List Entry) (left_rest right_rest rest : List ℕ) : Type 0 where
-  pub later : List ℕ
-  pub left_text : List ℕ
-  pub right_text : List ℕ
-  pub left_room : List Entry
-  pub full_room : List Entry
-  pub mark : Entry
-  pub one : IsTaken less sum left_text (take 1 room) left_room left_rest
-  pub other : IsTaken less sum right_text (take middle left_room) full_room right_rest
-  pub base : inside ≡ decimal n ++ later
-  pub comma : later ≡ 44 ∷ left_text
-  pub second_comma : left_rest ≡ 44 ∷ right_text
-  pub end_bracket : right_rest ≡ 41 ∷ rest
-  pub some : 0 < length room
-  pub mark_is : mark ≡ get_or left_room 1 blank
-  pub middle_is : middle ≡ mark.size + 1
-  pub closed_there : IsClosed n middle full_room final
-  pub level : less + 1 ≡ levels
-  pub sum_is : sum ≡ above + n
+-- the innermost node, of two halves
+pub record IsEnded (d halves last sum : ℕ) (text : List ℕ) (es all : List Entry) (t : EventTree) : Type 0 where
+  pub before : List ℕ
+  pub front : List Entry
+  pub above : ℕ
+  pub link : ℕ
+  pub innermost : IsInnermost d halves last link sum text before es front above
+  pub half : IsFirstRead d sum innermost.said innermost.half
+  pub halves_there : HalvesAt all front (entry innermost.base link) half.left t last (last + 1 + size half.left)
+  pub outside : AreOpen d (halves / 2) link above before front
 
-pub node_taken : (levels above less n sum middle left : ℕ) (inside : List ℕ) (room final : List Entry) (left_rest right_rest rest : List ℕ) → IsRead levels above less n sum middle inside room final left_rest right_rest rest → left ≡ length rest → IsNodeTaken levels above inside final left
-node_taken levels above less n sum middle left inside room final left_rest right_rest rest r is =
-    let a = r.one.tree in
-    let b = r.other.tree in
-    let c = r.closed_there in
-    let half = half_there less sum r.left_text room r.left_room left_rest r.some r.one in
-    let parted = (middle_at r.left_room a r.one.spare r.mark middle half r.mark_is r.middle_is).0 in
-    let both = both_there r.left_room r.full_room a b r.one.spare r.other.spare middle half parted r.other.are in
-    let left_at : c.left ≡ entry (root a) (size a) = c.left_is ∙ left_seen r.full_room a (preorder b ++ r.other.spare) both in
-    let right_at : c.right ≡ entry (root b) (size b) = c.right_is ∙ right_seen r.full_room a b r.other.spare middle both parted in
-    let fit = halves_normal a b r.one.normal r.other.normal (halves_seen c.left c.right a b left_at right_at c.halves) in
-    let spelled = spelled_node n a b (40 ∷ inside) inside r.later r.left_text left_rest r.right_text right_rest rest refl r.base r.comma r.one.spelled r.second_comma r.other.spelled r.end_bracket in
+ended : (d halves last sum : ℕ) (text : List ℕ) (es all : List Entry) (t : EventTree) → halves % 2 ≡ 1 → AreOpen (suc d) halves last sum text es → all ≡ es ++ preorder t → IsEnded d halves last sum text es all t
+ended d halves last sum text es all t odd h are =
+    let i = h.4 in
+    let f = i.first_read odd in
     record {
-      rest = rest;
-      taken = record {
-        tree = Node n a b;
-        spare = r.other.spare;
-        spelled = spelled;
-        are = c.sealed ∙ rw (left_at, right_at, both.are) (ap (λ (es : List Entry). entry n (size a + size b + 1) ∷ es) (sym (append_assoc (preorder a) (preorder b) r.other.spare)));
-        normal = (r.one.normal, r.other.normal, fit.0, fit.1);
-        shallow = omega (arith, r.one.shallow, r.other.shallow, r.level);
-        small = omega (arith, r.one.small, r.other.small, r.sum_is);
-      };
-      left_is = is;
-      before = drop 1 (spelling (Node n a b));
-      behind = ap (drop 1) spelled;
+      before = h.0;
+      front = h.1;
+      above = h.2;
+      link = h.3;
+      innermost = i;
+      half = f;
+      halves_there = record { begins = i.last_is; halved = refl; are = are ∙ rw (i.are, f.are) (append_assoc h.1 (entry i.base h.3 ∷ preorder f.left) (preorder t)) };
+      outside = h.5;
+    }
+
+-- what an odd number of halves tells of a tree that was read
+pub record IsLastRead (whole text : List ℕ) (around : Around) (room : List Entry) (end : ℕ) : Type 0 where
+  pub d : ℕ
+  pub tree : EventTree
+  pub so_far : List ℕ
+  pub front : List Entry
+  pub spelled : whole ≡ so_far ++ (spelling tree ++ text)
+  pub node : IsEnded d around.halves around.last around.sum so_far front (take end room) tree
+  pub normal : IsNormal tree
+  pub shallow : depth tree + d + 1 ≤ 40
+  pub small : around.sum + greatest tree ≤ 4294967295
+  pub within : end ≤ length room
+  pub fits : length room < 4294967296
+
+last_read_at : (whole text : List ℕ) (around : Around) (room : List Entry) (end levels : ℕ) (t : EventTree) (so_far : List ℕ) (front : List Entry) → whole ≡ so_far ++ (spelling t ++ text) → take end room ≡ front ++ preorder t
+    → AreOpen levels around.halves around.last around.sum so_far front → IsNormal t → depth t + levels ≤ 40 → around.sum + greatest t ≤ 4294967295 → end ≤ length room → length room < 4294967296 → around.halves % 2 ≡ 1
+    → IsLastRead whole text around room end
+last_read_at whole text around room end zero t so_far front spelled are there normal shallow small within fits odd = absurd (omega (arith, there.3, odd))
+last_read_at whole text around room end (suc d) t so_far front spelled are there normal shallow small within fits odd = record {
+  d = d;
+  tree = t;
+  so_far = so_far;
+  front = front;
+  spelled = spelled;
+  node = ended d around.halves around.last around.sum so_far front (take end room) t odd there are;
+  normal = normal;
+  shallow = omega (arith, shallow);
+  small = small;
+  within = within;
+  fits = fits;
+}
+
+last_read : (whole text : List ℕ) (around : Around) (room : List Entry) (end : ℕ) → IsTreeRead whole text around room end → around.halves % 2 ≡ 1 → IsLastRead whole text around room end
+last_read whole text around room end h odd = last_read_at whole text around room end h.levels h.tree h.so_far h.front h.spelled h.are h.open_there h.normal h.shallow h.small h.within h.fits odd
+
+-- what closing it reads and writes is there, and its base is within the sum
+pub record CanClose (around : Around) (room : List Entry) (end : ℕ) : Type 0 where
+  pub one : around.last + 1 < length room
+  pub other : around.last + 1 + (get_or room (around.last + 1) blank).size < length room
+  pub size : around.last ≤ end
+  pub base : (get_or room around.last blank).value ≤ around.sum
+
+mark_seen : (whole text : List ℕ) (around : Around) (room : List Entry) (end : ℕ) → (h : IsLastRead whole text around room end) → get_or room around.last blank ≡ entry h.node.innermost.base h.node.link
+mark_seen whole text around room end h =
+    let w = middle_within _ _ _ _ _ _ _ h.node.halves_there in
+    let long = length-take-le end room h.within in
+    sym (get_or-take end room around.last blank (omega (arith, w.2, long))) ∙ seen h.node.front _ (take end room) _ around.last h.node.halves_there.begins h.node.halves_there.are
+
+left_seen : (whole text : List ℕ) (around : Around) (room : List Entry) (end : ℕ) → (h : IsLastRead whole text around room end) → get_or room (around.last + 1) blank ≡ entry (root h.node.half.left) (size h.node.half.left)
+left_seen whole text around room end h =
+    let w = middle_within _ _ _ _ _ _ _ h.node.halves_there in
+    let long = length-take-le end room h.within in
+    sym (get_or-take end room (around.last + 1) blank (omega (arith, w.0, long))) ∙ one_seen _ _ _ _ _ _ _ h.node.halves_there
+
+right_seen : (whole text : List ℕ) (around : Around) (room : List Entry) (end : ℕ) → (h : IsLastRead whole text around room end) → get_or room (around.last + 1 + size h.node.half.left) blank ≡ entry (root h.tree) (size h.tree)
+right_seen whole text around room end h =
+    let w = middle_within _ _ _ _ _ _ _ h.node.halves_there in
+    let long = length-take-le end room h.within in
+    sym (get_or-take end room (around.last + 1 + size h.node.half.left) blank (omega (arith, w.1, long))) ∙ other_seen _ _ _ _ _ _ _ h.node.halves_there
+
+pub can_close : (whole text : List ℕ) (around : Around) (room : List Entry) (end : ℕ) → IsTreeRead whole text around room end → around.halves % 2 ≡ 1 → CanClose around room end
+can_close whole text around room end read odd =
+    let h = last_read whole text around room end read odd in
+    let w = middle_within _ _ _ _ _ _ _ h.node.halves_there in
+    let long = length-take-le end room h.within in
+    let left_size : (get_or room (around.last + 1) blank).size ≡ size h.node.half.left = ap (λ (x : Entry). x.size) (left_seen whole text around room end h) in
+    let base_is : (get_or room around.last blank).value ≡ h.node.innermost.base = ap (λ (x : Entry). x.value) (mark_seen whole text around room end h) in
+    record {
+      one = omega (arith, w.0, long, h.within);
+      other = omega (arith, w.1, long, h.within, left_size);
+      size = omega (arith, w.2, long);
+      base = omega (arith, base_is, h.node.innermost.sum_is);
+    }
+
+spelled_node : (whole so_far before text said rest : List ℕ) (n : ℕ) (a b : EventTree) → whole ≡ so_far ++ (spelling b ++ text) → so_far ≡ before ++ 40 ∷ (decimal n ++ 44 ∷ said) → said ≡ spelling a ++ 44 ∷ [] → text ≡ 41 ∷ rest
+    → whole ≡ before ++ (spelling (Node n a b) ++ rest)
+spelled_node whole so_far before text said rest n a b e f g h = rw (e, f, g, h) (simp append_assoc)
+
+pub node_closed : (whole text rest : List ℕ) (around : Around) (mark : Entry) (room after : List Entry) (end : ℕ) → IsTreeRead whole text around room end → around.halves % 2 ≡ 1 → text ≡ 41 ∷ rest → IsClosed around.last end mark room after
+    → IsTreeRead whole rest (around_at (around.halves / 2) mark.size (around.sum - mark.value)) after end
+node_closed whole text rest around mark room after end read odd bracket c =
+    let h = last_read whole text around room end read odd in
+    let i = h.node.innermost in
+    let a = h.node.half.left in
+    let b = h.tree in
+    let n = i.base in
+    let w = middle_within _ _ _ _ _ _ _ h.node.halves_there in
+    let long = length-take-le end room h.within in
+    let left_at = left_seen whole text around room end h in
+    let left_size : (get_or room (around.last + 1) blank).size ≡ size a = ap (λ (x : Entry). x.size) left_at in
+    let right_at = ap (λ (k : ℕ). get_or room (around.last + 1 + k) blank) left_size ∙ right_seen whole text around room end h in
+    let fit = halves_normal a b h.node.half.normal h.normal (halves_seen _ _ a b left_at right_at c.halves) in
+    let mark_at : mark ≡ entry n h.node.link = c.mark_is ∙ mark_seen whole text around room end h in
+    let value_is : mark.value ≡ n = ap (λ (x : Entry). x.value) mark_at in
+    let link_is : mark.size ≡ h.node.link = ap (λ (x : Entry). x.size) mark_at in
+    let sum_back : around.sum - mark.value ≡ h.node.above = omega (arith, value_is, i.sum_is) in
+    let size_is : end - around.last ≡ size a + size b + 1 =
+    omega (arith, sym long, ap length h.node.halves_there.are, length-append h.node.front (entry n h.node.link ∷ (preorder a ++ preorder b)), length-append (preorder a) (preorder b), length_preorder a, length_preorder b, h.node.halves_there.begins) in
+    let x = entry mark.value (end - around.last) in
+    let x_is : x ≡ entry n (size a + size b + 1) = rw (value_is, size_is) refl in
+    record {
+      levels = h.d;
+      tree = Node n a b;
+      so_far = h.node.before;
+      front = h.node.front;
+      spelled = spelled_node whole h.so_far h.node.before text i.said rest n a b h.spelled i.spelled h.node.half.spelled bracket;
+      are =
+          ap (take end) c.sealed ∙ take-set-lt end room around.last x (omega (arith, w.2, long)) ∙ written h.node.front _ (take end room) _ x around.last h.node.halves_there.begins h.node.halves_there.are
+          ∙ ap (λ (y : Entry). h.node.front ++ y ∷ (preorder a ++ preorder b)) x_is;
+      open_there = rw (link_is, sum_back) h.node.outside;
+      normal = (h.node.half.normal, h.normal, fit.0, fit.1);
+      shallow = omega (arith, h.node.half.shallow, h.shallow);
+      small = omega (arith, h.node.half.small, h.small, i.sum_is, sum_back);
+      within = omega (arith, ap length c.sealed, length-set room around.last x, h.within);
+      fits = omega (arith, ap length c.sealed, length-set room around.last x, h.fits);
     }
 
 -- ---- the whole text
@@ -187,20 +369,22 @@ no_length : {A : Type 0} (xs : List A) → length xs ≡ 0 → xs ≡ []
 no_length [] e = refl
 no_length (x ∷ xs) e = absurd (omega (arith, e))
 
--- the room is full where the first entry has as many as there are
-full : (room : List Entry) (t : EventTree) (spare : List Entry) → room ≡ preorder t ++ spare → (get_or room 0 blank).size ≡ length room → room ≡ preorder t
-full room t spare are size_is =
-    let first : (get_or room 0 blank).size ≡ size t = rw are (ap (λ (e : Entry). e.size) (first_entry t spare)) in
-    let none : length spare ≡ 0 = omega (arith, first, size_is, ap length are, length-append (preorder t) spare, length_preorder t) in
-    are ∙ ap (λ (es : List Entry). preorder t ++ es) (no_length spare none) ∙ append-nil (preorder t)
+none_open : (d halves last sum : ℕ) (text : List ℕ) (es : List Entry) → AreOpen d halves last sum text es → halves ≡ 2 → (text ≡ []) × (es ≡ [])
+none_open zero halves last sum text es h none = (h.0, h.1)
+none_open (suc d) halves last sum text es h none = absurd (omega (arith, none, some_bit d (halves / 2) h.3 h.2 h.0 h.1 h.5))
 
-pub whole : (text : List ℕ) (room : List Entry) (rest : List ℕ) (first : Entry) → IsTaken 40 0 text [] room rest → length rest ≡ 0 → first ≡ get_or room 0 blank → first.size ≡ length room → IsWhole text room
-whole text room rest first h ends seen size_is =
-    let are : room ≡ preorder h.tree = full room h.tree h.spare h.are (ap (λ (e : Entry). e.size) (sym seen) ∙ size_is) in
-    let is : tree_of room ≡ h.tree = tree_of_preorder room h.tree are in
-    let events : IsEvents h.tree = record { normal = h.normal; shallow = h.shallow; small = omega (arith, h.small) } in
-    record {
-      events = rw is events;
-      are = is_preorder room h.tree are;
-      spelled = h.spelled ∙ rw (no_length rest ends, is) (append-nil (spelling h.tree));
-    }
+whole_tree : (text : List ℕ) (room : List Entry) (t : EventTree) → text ≡ spelling t → room ≡ preorder t → IsNormal t → depth t ≤ 40 → greatest t ≤ 4294967295 → IsWhole text room
+whole_tree text room t spelled are normal shallow small =
+    let is : tree_of room ≡ t = tree_of_preorder room t are in
+    let events : IsEvents t = record { normal = normal; shallow = shallow; small = small } in
+    record { events = rw is events; are = is_preorder room t are; spelled = rw is spelled }
+
+pub whole : (text rest : List ℕ) (around : Around) (room : List Entry) (end : ℕ) → IsTreeRead text rest around room end → around.halves ≡ 2 → length rest ≡ 0 → end ≡ length room → IsWhole text room
+whole text rest around room end h none ends full =
+    let outside = none_open h.levels around.halves around.last around.sum h.so_far h.front h.open_there none in
+    whole_tree text room h.tree
+    (h.spelled ∙ rw (outside.0, no_length rest ends) (append-nil (spelling h.tree)))
+    (sym (take_all end room (omega (arith, full))) ∙ h.are ∙ rw outside.1 refl)
+    h.normal
+    (omega (arith, h.shallow))
+    (omega (arith, h.small))

@@ -1,10 +1,12 @@
--- Working definitions: a tree that is read from the front of a text, straight into its entries.
-use Rattle.std.specs.Prelude.{◌≡◌, ◌≤◌, ◌+◌, ◌==◌, ◌&&◌, nat_le, not, if◌then◌else◌, ℕ, Bool, true, false, List, [], ◌∷◌, ◌++◌, length, slice_index_or, slice_set}
+-- Working definitions: a tree that is read from the front of a text, straight into its entries, with a stack of the nodes that are open.
+use Rattle.std.specs.Prelude.{◌≡◌, ◌≤◌, ◌<◌, ◌+◌, ◌-◌, ◌*◌, ◌/◌, ◌%◌, ◌==◌, ◌&&◌, nat_le, not, if◌then◌else◌, ℕ, zero, suc, Bool, true, false, List, [], ◌∷◌, ◌++◌, length, take, slice_index_or, slice_set}
+use Rattle.std.specs.Fmt.{decimal}
 use Rattle.event_tree.specs.EventTree.{EventTree, Leaf, Node}
 use Rattle.event_tree.specs.NormalForm.{IsNormal, depth, greatest, IsEvents, value_limit}
 use Rattle.event_tree.specs.Spelling.{spelling}
 use Rattle.event_tree.specs.Entries.{entry, blank, preorder, tree_of, IsPreorder}
 use Rattle.event_tree.specs.declared.entries.Entry.{Entry}
+use Rattle.event_tree.specs.declared.straight.Around.{Around}
 
 abbrev pub is_leaf : EventTree → Bool
 is_leaf (Leaf n) = true
@@ -14,33 +16,95 @@ is_leaf (Node n a b) = false
 abbrev pub are_halves : ℕ → Bool → ℕ → Bool → Bool
 are_halves m y n z = if m == 0 then not ((y && z) && (n == 0)) else (n == 0)
 
--- the first entry became that of a node of the two halves behind it, since these make one in normal form
-pub record IsClosed (n middle : ℕ) (before after : List Entry) : Type 0 where
-  pub left : Entry
-  pub right : Entry
-  pub left_is : left ≡ slice_index_or before 1 blank
-  pub right_is : right ≡ slice_index_or before middle blank
-  pub halves : are_halves left.value (nat_le left.size 1) right.value (nat_le right.size 1) ≡ true
-  pub sealed : after ≡ slice_set before 0 (entry n (left.size + right.size + 1))
+-- so do those at whose front these entries stand
+abbrev pub are_node : Entry → Entry → Bool
+are_node e f = are_halves e.value (nat_le e.size 1) f.value (nat_le f.size 1)
 
--- some tree in normal form, at most so deep, and with no value above the limit where it stands above that sum, is at the front of the
--- text, with the rest behind it, and its entries are in the room behind those in front
-pub record IsTaken (levels above : ℕ) (text : List ℕ) (front room : List Entry) (rest : List ℕ) : Type 0 where
+-- the entry at start became that of a node of the two halves behind it, since these make one in normal form
+pub record IsClosed (start end : ℕ) (mark : Entry) (before after : List Entry) : Type 0 where
+  pub halves : are_node (slice_index_or before (start + 1) blank) (slice_index_or before (start + 1 + (slice_index_or before (start + 1) blank).size) blank) ≡ true
+  pub mark_is : mark ≡ slice_index_or before start blank
+  pub sealed : after ≡ slice_set before start (entry mark.value (end - start))
+
+abbrev pub around_at : ℕ → ℕ → ℕ → Around
+around_at halves last sum = record { halves = halves; last = last; sum = sum }
+
+-- what was read of an open node's halves is its first one, with the comma behind it
+pub record IsFirstRead (levels sum : ℕ) (said : List ℕ) (half : List Entry) : Type 0 where
+  pub left : EventTree
+  pub spelled : said ≡ spelling left ++ 44 ∷ []
+  pub are : half ≡ preorder left
+  pub normal : IsNormal left
+  pub shallow : depth left + levels + 1 ≤ 40
+  pub small : sum + greatest left ≤ value_limit
+
+-- an open node with so many around it ends this text and these entries, and stands behind that text and those entries
+pub record IsInnermost (levels halves last link sum : ℕ) (text before : List ℕ) (es front : List Entry) (above : ℕ) : Type 0 where
+  pub base : ℕ
+  pub said : List ℕ
+  pub half : List Entry
+  pub spelled : text ≡ before ++ 40 ∷ (decimal base ++ 44 ∷ said)
+  pub are : es ≡ front ++ entry base link ∷ half
+  pub last_is : length front ≡ last
+  pub sum_is : sum ≡ above + base
+  pub unread : halves % 2 ≡ 0 → (said ≡ []) × (half ≡ [])
+  pub first_read : halves % 2 ≡ 1 → IsFirstRead levels sum said half
+
+-- so many nodes are open, in these halves, with this text and these entries so far, and this sum of their bases
+abbrev pub AreOpen : ℕ → ℕ → ℕ → ℕ → List ℕ → List Entry → Type 0
+AreOpen zero halves last sum text es = (text ≡ []) × (es ≡ []) × (sum ≡ 0) × (halves ≡ 2)
+AreOpen (suc d) halves last sum text es =
+    (before : List ℕ) × (front : List Entry) × (above : ℕ) × (link : ℕ) × IsInnermost d halves last link sum text before es front above × AreOpen d (halves / 2) link above before front
+
+-- a tree is to be read next: what stands before it are open nodes
+pub record IsUnread (whole text : List ℕ) (around : Around) (room : List Entry) (end : ℕ) : Type 0 where
+  pub levels : ℕ
+  pub so_far : List ℕ
+  pub spelled : whole ≡ so_far ++ text
+  pub open_there : AreOpen levels around.halves around.last around.sum so_far (take end room)
+  pub low : levels ≤ 40
+  pub within : end ≤ length room
+  pub fits : length room < 4294967296
+
+-- a tree was read last: what stands before it are open nodes
+pub record IsTreeRead (whole text : List ℕ) (around : Around) (room : List Entry) (end : ℕ) : Type 0 where
+  pub levels : ℕ
   pub tree : EventTree
-  pub spare : List Entry
-  pub spelled : text ≡ spelling tree ++ rest
-  pub are : room ≡ front ++ (preorder tree ++ spare)
+  pub so_far : List ℕ
+  pub front : List Entry
+  pub spelled : whole ≡ so_far ++ (spelling tree ++ text)
+  pub are : take end room ≡ front ++ preorder tree
+  pub open_there : AreOpen levels around.halves around.last around.sum so_far front
   pub normal : IsNormal tree
-  pub shallow : depth tree ≤ levels
-  pub small : above + greatest tree ≤ value_limit
+  pub shallow : depth tree + levels ≤ 40
+  pub small : around.sum + greatest tree ≤ value_limit
+  pub within : end ≤ length room
+  pub fits : length room < 4294967296
 
--- so is a tree whose bracket stands in front of the text, and so many bytes stand behind it
-pub record IsNodeTaken (levels above : ℕ) (inside : List ℕ) (room : List Entry) (left : ℕ) : Type 0 where
-  pub rest : List ℕ
-  pub taken : IsTaken levels above (40 ∷ inside) [] room rest
-  pub left_is : left ≡ length rest
-  pub before : List ℕ
-  pub behind : inside ≡ before ++ rest
+-- so it is for some whole text
+pub record HasTreeRead (text : List ℕ) (around : Around) (room : List Entry) (end : ℕ) : Type 0 where
+  pub whole : List ℕ
+  pub read : IsTreeRead whole text around room end
+
+-- nodes were closed behind a tree, and the innermost that is left has its second half before it
+pub record AreClosed (text rest : List ℕ) (around left : Around) (room after : List Entry) (end : ℕ) : Type 0 where
+  pub read : (whole : List ℕ) → IsTreeRead whole text around room end → IsTreeRead whole rest left after end
+  pub in_first : left.halves % 2 ≡ 0
+
+-- a node was begun: its entry stands in the room, and it is the innermost one
+pub record IsBegun (text rest : List ℕ) (around inner : Around) (room after : List Entry) (end : ℕ) : Type 0 where
+  pub base : ℕ
+  pub spelled : text ≡ 40 ∷ (decimal base ++ 44 ∷ rest)
+  pub put : after ≡ slice_set room end (entry base around.last)
+  pub inner_is : inner ≡ around_at (around.halves * 2) end (around.sum + base)
+  pub free : around.halves < 2199023255552
+
+-- a leaf was read
+pub record IsLeafTaken (text rest : List ℕ) (above : ℕ) (room after : List Entry) (end : ℕ) : Type 0 where
+  pub root : ℕ
+  pub spelled : text ≡ decimal root ++ rest
+  pub small : above + root ≤ value_limit
+  pub put : after ≡ slice_set room end (entry root 1)
 
 -- the entries are those of an event tree that the whole text spells
 pub record IsWhole (text : List ℕ) (entries : List Entry) : Type 0 where

@@ -1,19 +1,30 @@
 //! Reads the text of an event tree in one pass, straight into its entries. Of a text with a fault it only says that it has one.
 
-ghost use Rattle.std.specs.Prelude.{◌≡◌, [], ◌∷◌, ◌++◌, ◌<◌, ◌≤◌, ◌+◌, IsTrue, IfSome, length, take};
+ghost use Rattle.std.specs.Prelude.{◌≡◌, [], ◌∷◌, ◌++◌, ◌<◌, ◌≤◌, ◌+◌, ◌^◌, IsTrue, IfSome, length, slice_index_or};
 ghost use Rattle.std.specs.Fmt.{decimal};
 ghost use Rattle.event_tree.specs.NormalForm.{IsEvents, value_limit};
 ghost use Rattle.event_tree.specs.Spelling.{spelling};
-ghost use Rattle.event_tree.specs.Taking.{IsTaken, IsNodeTaken, IsClosed, IsWhole};
+ghost use Rattle.event_tree.specs.Entries.{blank};
+ghost use Rattle.event_tree.specs.Taking.{IsBegun, IsLeafTaken, IsClosed, HasTreeRead, AreClosed, IsWhole};
 ghost use Rattle.event_tree.specs.Taking as taking;
 
-use crate::entries::{Entries, Entry, INLINE, look_in};
+use crate::entries::{Entries, Entry, INLINE};
 use crate::node::Node;
 use smallvec::SmallVec;
 use std::alloc::Global;
 
-/// How deep a tree may be.
-const MOST_LEVELS: u32 = 40;
+/// Where the halves that are read (`Around`) come to this number, 40 nodes are open, and none may be begun in them.
+const TOO_DEEP: u64 = 1 << 41;
+
+/// The nodes that are open, since their ends are not read yet. Which of their halves is read is one number: a binary digit for each node
+/// behind those of 2, the innermost last, and 1 in its second half. The innermost has its entry at `last`, and the bases have this sum.
+/// The entry of a node that is open has its base, and in place of its size where that of the node around it stands.
+#[derive(Clone, Copy)]
+pub struct Around {
+    halves: u64,
+    last: u32,
+    sum: u32,
+}
 
 // What stands behind this byte.
 #[inline(always)]
@@ -57,18 +68,69 @@ fn take_number(text: &[u8]) -> Option<(u32, &[u8])>
     Some((number as u32, rest))
 }
 
-// The leaf that stands at the front, below nodes whose bases have this sum: what stands behind it. Its entry is the first of the
-// room then.
+// A node's bracket and base that stand at the front, and what stands behind its comma. Most bases have one digit.
 #[inline(always)]
-fn take_leaf<'a>(text: &'a [u8], levels: u32, above: u32, room: &mut [Entry]) -> Option<&'a [u8]>
-    ensures { IfSome result (λ rest. IsTaken levels above text.now [] room.new rest.now) }
+fn take_base(text: &[u8]) -> Option<(u32, &[u8])>
+    ensures { IfSome result (λ taken. text.now ≡ 40 ∷ (decimal taken.0 ++ 44 ∷ taken.1.now)) }
 {
-    let (root, rest) = take_number(text)?;
-    let _value = above.checked_add(root)?;
-    if room.is_empty() {
+    if text.len() >= 3 && text[0] == b'(' && text[2] == b',' && text[1].is_ascii_digit() {
+        return Some((u32::from(text[1] - b'0'), &text[3..]));
+    }
+    let inside = behind(b'(', text)?;
+    let (base, later) = take_number(inside)?;
+    let rest = behind(b',', later)?;
+    Some((base, rest))
+}
+
+// A leaf's number that stands at the front, and what stands behind it. Most have one digit.
+#[inline(always)]
+fn take_value(text: &[u8]) -> Option<(u32, &[u8])>
+    ensures { IfSome result (λ taken. (text.now ≡ decimal taken.0 ++ taken.1.now) × (taken.0 ≤ value_limit)) }
+{
+    if text.len() >= 2 && text[0].is_ascii_digit() && !text[1].is_ascii_digit() {
+        return Some((u32::from(text[0] - b'0'), &text[1..]));
+    }
+    take_number(text)
+}
+
+// Begins the node that stands at the front: the nodes that are open with it, and what stands behind its base.
+#[inline(always)]
+fn begin<'a>(
+    text: &'a [u8],
+    around: Around,
+    room: &mut [Entry],
+    end: usize,
+) -> Option<(Around, &'a [u8])>
+    requires free { end < length room.old }
+    requires fits { length room.old < 2 ^ 32 }
+    ensures { IfSome result (λ begun. IsBegun text.now begun.1.now around begun.0 room.old room.new end) }
+{
+    if around.halves >= TOO_DEEP {
         return None;
     }
-    room[0] = Entry {
+    let (base, rest) = take_base(text)?;
+    let sum = around.sum.checked_add(base)?;
+    room[end] = Entry {
+        value: base,
+        size: around.last,
+    };
+    let inner = Around {
+        halves: around.halves * 2,
+        last: end as u32,
+        sum,
+    };
+    Some((inner, rest))
+}
+
+// Reads the leaf that stands at the front, below nodes whose bases have this sum: what stands behind it.
+#[inline(always)]
+fn take_leaf<'a>(text: &'a [u8], above: u32, room: &mut [Entry], end: usize) -> Option<&'a [u8]>
+    requires { end < length room.old }
+    ensures { IfSome result (λ rest. IsLeafTaken text.now rest.now above room.old room.new end) }
+{
+    let (root, rest) = take_value(text)?;
+    let _value = above.checked_add(root)?;
+    room[end] = Entry {
         value: root,
         size: 1,
     };
@@ -86,94 +148,113 @@ fn are_halves(left: u32, is_left_leaf: bool, right: u32, is_right_leaf: bool) ->
     }
 }
 
-// Makes the first entry that of a node of the two halves behind it, the second of which begins at `middle`; or they make none in
-// normal form.
+// Makes the entry at `start` that of a node of the two halves behind it, up to `end`, and hands out what it was before; or they make
+// none in normal form. Fields are read one by one, since both at once would wait for what was written of each.
 #[inline(always)]
-fn close(room: &mut [Entry], base: u32, middle: usize) -> bool
-    requires one { 1 < length room.old }
-    requires other { middle < length room.old }
-    ensures { IsTrue result → IsClosed base middle room.old room.new }
+fn close(room: &mut [Entry], start: usize, end: usize) -> Option<Entry>
+    requires one { start + 1 < length room.old }
+    requires other { start + 1 + (slice_index_or room.old (start + 1) blank).size < length room.old }
+    requires fits { end < 2 ^ 32 }
+    requires size { start ≤ end }
+    ensures { IfSome result (λ mark. IsClosed start end mark room.old room.new) }
 {
-    let left = look_in(room, 1);
-    let right = look_in(room, middle);
-    if !are_halves(left.value, left.size <= 1, right.value, right.size <= 1) {
-        return false;
-    }
-    let Some(behind) = left.size.checked_add(right.size) else {
-        return false;
-    };
-    let Some(size) = behind.checked_add(1) else {
-        return false;
-    };
-    room[0] = Entry { value: base, size };
-    true
-}
-
-// The tree that stands at the front, at most so deep, below nodes whose bases have this sum: what stands behind it. Its entries
-// are the first of the room then. Half of all parts are leaves, which take no call.
-#[inline(always)]
-#[cycle(take)]
-fn take_tree<'a>(text: &'a [u8], levels: u32, above: u32, room: &mut [Entry]) -> Option<&'a [u8]>
-    ensures { IfSome result (λ rest. IsTaken levels above text.now [] room.new rest.now) }
-{
-    match behind(b'(', text) {
-        Some(inside) => {
-            let left = take_node(inside, levels, above, room)?;
-            Some(&inside[inside.len() - left..])
-        }
-        None => take_leaf(text, levels, above, room),
-    }
-}
-
-// The same, with its entries from here on in the room.
-#[inline(always)]
-#[cycle(take)]
-fn take_half<'a>(
-    text: &'a [u8],
-    levels: u32,
-    above: u32,
-    room: &mut [Entry],
-    at: usize,
-) -> Option<&'a [u8]>
-    requires { at ≤ length room.old }
-    ensures { IfSome result (λ rest. IsTaken levels above text.now (take at room.old) room.new rest.now) }
-{
-    take_tree(text, levels, above, &mut room[at..])
-}
-
-// The node whose opening bracket stands in front of this text: how many bytes stand behind it. A number comes back in a register,
-// and a slice that may be none does not.
-#[cycle(take)]
-fn take_node(inside: &[u8], levels: u32, above: u32, room: &mut [Entry]) -> Option<usize>
-    ensures { IfSome result (λ left. IsNodeTaken levels above inside.now room.new left) }
-{
-    if levels == 0 || room.is_empty() {
+    let left = room[start + 1].value;
+    let left_size = room[start + 1].size;
+    let middle = start + 1 + left_size as usize;
+    let right = room[middle].value;
+    let right_size = room[middle].size;
+    if !are_halves(left, left_size <= 1, right, right_size <= 1) {
         return None;
     }
-    let (base, later) = take_number(inside)?;
-    let sum = above.checked_add(base)?;
-    let half = take_half(behind(b',', later)?, levels - 1, sum, room, 1)?;
-    let middle = look_in(room, 1).size as usize + 1;
-    let end = take_half(behind(b',', half)?, levels - 1, sum, room, middle)?;
-    let rest = behind(b')', end)?;
-    if close(room, base, middle) {
-        Some(rest.len())
-    } else {
-        None
+    let value = room[start].value;
+    let size = room[start].size;
+    room[start] = Entry {
+        value,
+        size: (end - start) as u32,
+    };
+    Some(Entry { value, size })
+}
+
+// Closes the nodes that end behind a tree, whose entries end at `end`: those that are open then, and what stands behind.
+#[inline(always)]
+fn close_all<'a>(
+    text: &'a [u8],
+    room: &mut [Entry],
+    end: usize,
+    around: Around,
+) -> Option<(Around, &'a [u8])>
+    requires { HasTreeRead text.now around room.old end }
+    ensures { IfSome result (λ left. AreClosed text.now left.1.now around left.0 room.old room.new end) }
+{
+    let mut rest = text;
+    let mut left = around;
+    while left.halves % 2 == 1 {
+        let Some(later) = behind(b')', rest) else {
+            return None;
+        };
+        let Some(mark) = close(room, left.last as usize, end) else {
+            return None;
+        };
+        left = Around {
+            halves: left.halves / 2,
+            last: mark.size,
+            sum: left.sum - mark.value,
+        };
+        rest = later;
     }
+    Some((left, rest))
 }
 
 // Whether the whole text is that of an event tree, whose entries fill the room then.
+fn take_over(text: &[u8], room: &mut [Entry]) -> bool
+    requires { length room.old < 2 ^ 32 }
+    ensures { IsTrue result → IsWhole text.now room.new }
+{
+    let mut rest = text;
+    let mut end: usize = 0;
+    let mut around = Around {
+        halves: 2,
+        last: 0,
+        sum: 0,
+    };
+    while end < room.len() {
+        if let [b'(', ..] = rest {
+            let Some((inner, inside)) = begin(rest, around, room, end) else {
+                return false;
+            };
+            rest = inside;
+            around = inner;
+            end += 1;
+            continue;
+        }
+        let Some(later) = take_leaf(rest, around.sum, room, end) else {
+            return false;
+        };
+        end += 1;
+        let Some((left, ended)) = close_all(later, room, end, around) else {
+            return false;
+        };
+        if left.halves == 2 {
+            return ended.is_empty() && end == room.len();
+        }
+        let Some(second) = behind(b',', ended) else {
+            return false;
+        };
+        around = Around {
+            halves: left.halves + 1,
+            last: left.last,
+            sum: left.sum,
+        };
+        rest = second;
+    }
+    false
+}
+
+// The same, also where the entries are too many for a size.
 fn take_all(text: &[u8], room: &mut [Entry]) -> bool
     ensures { IsTrue result → IsWhole text.now room.new }
 {
-    let Some(rest) = take_tree(text, MOST_LEVELS, 0, room) else {
-        return false;
-    };
-    if !rest.is_empty() || room.is_empty() {
-        return false;
-    }
-    look_in(room, 0).size as usize == room.len()
+    room.len() <= u32::MAX as usize && take_over(text, room)
 }
 
 // How many opening brackets a short text has. They are counted in one byte, so that many bytes are compared at once.

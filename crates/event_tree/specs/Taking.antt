@@ -1,4 +1,4 @@
--- Working definitions: a tree that is read from the front of a text, straight into its entries, with a stack of the nodes that are open.
+-- Working definitions: a tree that is read from the front of a text, straight into its entries, where nodes that are open are linked.
 use Rattle.std.specs.Prelude.{◌≡◌, ◌≤◌, ◌<◌, ◌+◌, ◌-◌, ◌*◌, ◌/◌, ◌%◌, ◌==◌, ◌&&◌, nat_le, not, if◌then◌else◌, ℕ, zero, suc, Bool, true, false, List, [], ◌∷◌, ◌++◌, length, take, slice_index_or, slice_set}
 use Rattle.std.specs.Fmt.{decimal}
 use Rattle.event_tree.specs.EventTree.{EventTree, Leaf, Node}

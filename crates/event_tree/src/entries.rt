@@ -20,13 +20,16 @@ pub const INLINE: usize = 8;
 /// The entries of an event tree.
 pub type Entries = SmallVec<Entry, 8>;
 
-// The entry at this place.
+// The entry at this place. Its fields are read one by one, since both at once would wait for what was just written of each.
 #[inline(always)]
 pub fn look_in(entries: &[Entry], at: usize) -> Entry
     requires { at < length entries.now }
     ensures { result ≡ slice_index_or entries.now at blank }
 {
-    entries[at]
+    Entry {
+        value: entries[at].value,
+        size: entries[at].size,
+    }
 }
 
 // No entries, and room for so many. Of more than a list holds itself they stand in one block from the start.

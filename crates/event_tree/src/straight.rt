@@ -1,6 +1,7 @@
-//! Reads the text of an event tree in one pass, straight into its entries. Of a text with a fault it only says that it has one.
+//! Reads the text of an event tree straight into its entries, whose room its brackets tell. Of a text with a fault it only says that it has
+//! one.
 
-ghost use Rattle.std.specs.Prelude.{◌≡◌, [], ◌∷◌, ◌++◌, ◌<◌, ◌≤◌, ◌+◌, ◌^◌, IsTrue, IfSome, length, slice_index_or};
+ghost use Rattle.std.specs.Prelude.{◌≡◌, ◌∷◌, ◌++◌, ◌<◌, ◌≤◌, ◌+◌, ◌^◌, IsTrue, IfSome, length, slice_index_or};
 ghost use Rattle.std.specs.Fmt.{decimal};
 ghost use Rattle.event_tree.specs.NormalForm.{IsEvents, value_limit};
 ghost use Rattle.event_tree.specs.Spelling.{spelling};
@@ -275,6 +276,11 @@ fn count_entries(text: &[u8]) -> usize {
     nodes.saturating_mul(2).saturating_add(1)
 }
 
+// How many bytes the text of so many entries has at least: a digit for each, and four marks for each node.
+fn least_length(count: usize) -> usize {
+    count.saturating_mul(3).saturating_sub(2)
+}
+
 // So many entries, to be written.
 fn blank_entries(alloc: Global, count: usize) -> Option<Entries> {
     if count <= INLINE {
@@ -302,11 +308,15 @@ fn read_leaf(alloc: Global, text: &[u8]) -> Option<Node>
     }
 }
 
-// The tree that the whole text spells, into blank entries.
+// The tree that the whole text spells, into blank entries. A text with too many brackets for its length gets no room.
 fn read_node(alloc: Global, text: &[u8]) -> Option<Node>
     ensures { IfSome result (λ node. IsEvents node × (text.now ≡ spelling node)) }
 {
-    let mut entries = blank_entries(alloc, count_entries(text))?;
+    let count = count_entries(text);
+    if text.len() < least_length(count) {
+        return None;
+    }
+    let mut entries = blank_entries(alloc, count)?;
     if take_all(text, entries.as_mut_slice()) {
         Some(Node::of(entries))
     } else {

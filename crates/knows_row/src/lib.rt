@@ -102,7 +102,8 @@ fn is_beyond(events: &Events, elements: &Elements<'_>, k: u32) -> bool
 /// Up to how many nodes and leaves an id is compared with the one before, so that this takes less than most looks at events.
 const SHORT_ID: usize = 64;
 
-/// Whether the events are beyond some element from k on. One with the id of the one before adds nothing to it, and is passed over.
+/// Whether the events are beyond some element from k on. One with the id of the one before, if it
+/// is short, is passed over, since it adds nothing.
 fn is_beyond_from(events: &Events, elements: &Elements<'_>, k: u32) -> bool
     requires { AreRising elements.now }
     ensures { IsTrue result ↔ IsBeyondFrom events.now elements.now k }

@@ -26,4 +26,5 @@ pub mod Growth
 pub mod Costs
 pub mod Steps
 pub mod Filling
+pub mod Owned
 pub mod Balances

@@ -14,8 +14,9 @@ ghost use Rattle.event_tree.specs.Walks.{cost_of};
 use crate::closing;
 use crate::entries::{self, Entries, Entry};
 use crate::node::Node;
+use crate::own_leaf::{own_leaf, raised};
 use crate::part::{EventPart, EventView};
-use id_tree::{IdPart, IdView};
+use id_tree::{Id, IdPart, IdView};
 use std::alloc::{AllocError, Global};
 
 // The greatest value.
@@ -211,8 +212,22 @@ fn is_filled(id: &IdView, e: &EventView) -> bool
     }
 }
 
-// What an event makes of the tree, or `None` where a value would pass the limit.
-pub fn event_step(alloc: Global, id: &IdView, e: &Node) -> Result<Option<Node>, AllocError>
+// What an event makes of the tree, or `None` where a value would pass the limit. Mostly it raises one leaf.
+pub fn event_step(alloc: Global, id: &Id, e: &Node) -> Result<Option<Node>, AllocError>
+    requires normal { IsNormalId id.now }
+    requires tree_normal { IsNormal e.now }
+    requires depth { id_depth id.now < 2 ^ 32 }
+    requires fits { greatest e.now < 2 ^ 32 }
+    ensures { IfOk result (λ o. MatchOption o (events.PassesLimit id.now e.now) (λ node. events.IsEventStep id.now e.now node × (greatest node < 2 ^ 32))) }
+{
+    match own_leaf(id, e.view()) {
+        Some(leaf) => raised(alloc, e, leaf, id),
+        None => step_by_walks(alloc, &id.view(), e),
+    }
+}
+
+// The same by walks over both, for any id and tree.
+fn step_by_walks(alloc: Global, id: &IdView, e: &Node) -> Result<Option<Node>, AllocError>
     requires normal { IsNormalId id.now }
     requires tree_normal { IsNormal e.now }
     requires depth { id_depth id.now < 2 ^ 32 }

@@ -32,6 +32,7 @@ mod measured;
 mod node;
 mod one_way;
 mod order;
+mod own_leaf;
 mod part;
 mod pointwise;
 mod reader;
@@ -161,7 +162,7 @@ impl Events {
         let view = id.view();
         match view.part() {
             IdPart::Nothing => Err(EventFault::NothingOwned),
-            _ => match event::event_step(alloc, &view, &self.node)? {
+            _ => match event::event_step(alloc, id, &self.node)? {
                 Some(node) => Ok(Events { node }),
                 None => Err(EventFault::ClockFull),
             },

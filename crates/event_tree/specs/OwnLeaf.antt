@@ -1,0 +1,53 @@
+-- Working definitions: an id that owns one part alone, at which the tree has a leaf.
+use Rattle.std.specs.Prelude.{◌≡◌, ◌≤◌, ◌+◌, ℕ, Bool, true, false, [], ◌∷◌}
+use Rattle.id_tree.specs.IdTree.{IdTree}
+use Rattle.id_tree.specs.Points.{Point}
+use Rattle.id_tree.specs.OneWay.{id_of_way}
+use Rattle.event_tree.specs.EventTree.{EventTree, Leaf, Node}
+use Rattle.event_tree.specs.Halves.{root, left, right}
+use Rattle.event_tree.specs.Size.{size}
+use Rattle.event_tree.specs.Beside.{half_of, part_at, base_at}
+use Rattle.event_tree.specs.declared.own_leaf.OwnLeaf.{OwnLeaf}
+use Rattle.event_tree.specs.declared.own_leaf.Below.{Below}
+
+-- the half beside the one that a turn leads to, and how many entries stand before that one
+abbrev pub other_of : Bool → EventTree → EventTree
+other_of false e = right e
+other_of true e = left e
+
+abbrev pub before : Bool → EventTree → ℕ
+before false e = 1
+before true e = size (left e) + 1
+
+-- where the entry of the part at the end of a way stands
+abbrev pub place_at : Point → EventTree → ℕ
+place_at [] e = 0
+place_at (turn ∷ p) e = before turn e + place_at p (half_of turn e)
+
+-- The way goes by nodes, and at its end stands a leaf that is at or above k: of a way with turns the root of the half beside it.
+abbrev pub EndsAtLeaf : ℕ → Point → EventTree → Type 0
+EndsAtLeaf k [] (Leaf n) = k ≤ n
+EndsAtLeaf k [] (Node n a b) = ⊥
+EndsAtLeaf k (turn ∷ p) (Leaf n) = ⊥
+EndsAtLeaf k (turn ∷ p) (Node n a b) = EndsAtLeaf (root (other_of turn (Node n a b))) p (half_of turn (Node n a b))
+
+-- the tree is a node, and this is the half that a turn leads to
+pub record IsBelow (turn : Bool) (e : EventTree) (b : Below) : Type 0 where
+  pub base : b.base ≡ root e
+  pub before_is : b.before ≡ before turn e
+  pub beside : b.beside ≡ root (other_of turn e)
+  pub half : b.half ≡ half_of turn e
+  pub node : e ≡ Node (root e) (left e) (right e)
+
+-- this is the leaf at the end of the way
+pub record IsEndOf (p : Point) (e : EventTree) (leaf : OwnLeaf) : Type 0 where
+  pub ends : EndsAtLeaf 0 p e
+  pub at_is : leaf.at ≡ place_at p e
+  pub base_is : leaf.base ≡ base_at p 0 e
+  pub own_is : leaf.own ≡ root (part_at p e)
+
+-- the id owns this leaf, and nothing else
+pub record IsOwnLeaf (i : IdTree) (e : EventTree) (leaf : OwnLeaf) : Type 0 where
+  pub way : Point
+  pub alone : i ≡ id_of_way way
+  pub end_of : IsEndOf way e leaf

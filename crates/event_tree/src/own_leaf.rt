@@ -1,0 +1,127 @@
+//! The leaf that an id owns alone, where it owns one part, and the tree has a leaf there. An event then raises that leaf, and all other
+//! entries stay as they are.
+
+ghost use Rattle.std.specs.Prelude.{◌≡◌, ◌≢◌, ◌<◌, ◌≤◌, ◌+◌, ◌^◌, IfOk, IfSome, MatchOption, length};
+ghost use Rattle.std.proofs.Common.{set};
+ghost use Rattle.event_tree.specs.NormalForm.{greatest};
+ghost use Rattle.event_tree.specs.Entries.{entry, preorder};
+ghost use Rattle.event_tree.specs.Event.{grow};
+ghost use Rattle.event_tree.specs.OwnLeaf.{IsBelow, IsOwnLeaf, IsEndOf};
+
+use crate::entries::{self, Entry};
+use crate::node::Node;
+use crate::part::{EventPart, EventView};
+use id_tree::{Id, Way};
+use std::alloc::{AllocError, Global};
+
+/// The leaf at the end of a way: where its entry stands, the sum of the bases above it, and its value above that.
+#[derive(Clone, Copy)]
+pub struct OwnLeaf {
+    at: usize,
+    base: u32,
+    own: u32,
+}
+
+/// The half that a turn leads to: the base of its node, how many entries stand before it, the root of the half beside it, and itself.
+#[derive(Drop)]
+pub struct Below<'a> {
+    base: u32,
+    before: usize,
+    beside: u32,
+    half: EventView<'a>,
+}
+
+// The half that a turn leads to, where the part is a node.
+#[inline(always)]
+fn go_down<'a>(part: &EventView<'a>, turn: bool) -> Option<Below<'a>>
+    ensures { IfSome result (λ below. IsBelow turn part.now below) }
+{
+    match part.part() {
+        EventPart::Leaf(_) => None,
+        EventPart::Node(base, a, b) => Some(if turn {
+            Below {
+                base,
+                before: a.entries().len() + 1,
+                beside: a.root(),
+                half: b,
+            }
+        } else {
+            Below {
+                base,
+                before: 1,
+                beside: b.root(),
+                half: a,
+            }
+        }),
+    }
+}
+
+// The leaf at the end of a way, if one stands there that is at or above the half beside it.
+fn end_of(way: Way, e: EventView) -> Option<OwnLeaf>
+    requires { greatest e < 2 ^ 32 }
+    ensures { IfSome result (λ leaf. IsEndOf way.entry e.entry leaf) }
+{
+    e.counted();
+    let mut way = way;
+    let mut part = e;
+    let mut at: usize = 0;
+    let mut base: u32 = 0;
+    let mut beside: u32 = 0;
+    while let Some((turn, behind)) = way.turn() {
+        let Some(next) = go_down(&part, turn) else {
+            return None;
+        };
+        at += next.before;
+        base += next.base;
+        beside = next.beside;
+        part = next.half;
+        way = behind;
+    }
+    match part.leaf() {
+        Some(own) => if beside <= own {
+            Some(OwnLeaf { at, base, own })
+        } else {
+            None
+        },
+        None => None,
+    }
+}
+
+// The leaf that the id owns alone, if it does, and if filling leaves the tree as it is.
+pub fn own_leaf(id: &Id, e: EventView) -> Option<OwnLeaf>
+    requires { greatest e < 2 ^ 32 }
+    ensures { IfSome result (λ leaf. IsOwnLeaf id.now e.entry leaf) }
+{
+    match id.only_way() {
+        Some(way) => end_of(way, e),
+        None => None,
+    }
+}
+
+// Writes the leaf, one more than it was.
+#[inline(always)]
+fn put_raised(out: &mut [Entry], leaf: OwnLeaf)
+    requires within { leaf.at < length out.old }
+    requires small { leaf.own + 1 < 2 ^ 32 }
+    ensures { out.new ≡ set out.old leaf.at (entry (leaf.own + 1) 1) }
+{
+    out[leaf.at] = Entry {
+        value: leaf.own + 1,
+        size: 1,
+    };
+}
+
+// The tree grown at this leaf, or `None` where its value would pass the limit.
+pub fn raised(alloc: Global, e: &Node, leaf: OwnLeaf, id: &Id) -> Result<Option<Node>, AllocError>
+    requires own { IsOwnLeaf id.now e.now leaf }
+    requires fits { greatest e.now < 2 ^ 32 }
+    ensures { IfOk result (λ o. MatchOption o (2 ^ 32 ≤ greatest (grow id.now e.now)) (λ node. (node ≡ grow id.now e.now) × (greatest (grow id.now e.now) < 2 ^ 32))) }
+{
+    let _id = id;
+    if leaf.base + leaf.own == u32::MAX {
+        return Ok(None);
+    }
+    let mut out = entries::copied(alloc, e.view().entries())?;
+    put_raised(out.as_mut_slice(), leaf);
+    Ok(Some(Node::of(out)))
+}

@@ -1,6 +1,6 @@
 //! The entries that a tree is kept as: its nodes and leaves in preorder, each with its value and the size of its part.
 
-ghost use Rattle.std.specs.Prelude.{◌≡◌, ◌↔◌, ◌≤◌, ◌<◌, ◌++◌, ◌∷◌, [], IsTrue, IsOk, IfOk, OnOk, length, slice_index_or};
+ghost use Rattle.std.specs.Prelude.{◌≡◌, ◌↔◌, ◌≤◌, ◌<◌, ◌++◌, ◌∷◌, [], IsTrue, IsOk, IfOk, OnOk, length, replicate, slice_index_or};
 ghost use Rattle.event_tree.specs.EventTree.{Leaf};
 ghost use Rattle.event_tree.specs.Entries.{blank, preorder};
 
@@ -40,6 +40,18 @@ pub fn with_room(alloc: Global, room: usize) -> Result<Entries, AllocError>
         return Ok(SmallVec::new(alloc));
     }
     let block = Vec::with_capacity(alloc, room)?;
+    Ok(SmallVec::from_vec(block))
+}
+
+// This entry, so many times.
+pub fn filled(alloc: Global, count: usize, entry: Entry) -> Result<Entries, AllocError>
+    ensures { IfOk result (λ entries. entries.items ≡ replicate count entry) }
+{
+    if count <= INLINE {
+        return Ok(SmallVec::from_buf_and_len(alloc, [entry; INLINE], count));
+    }
+    let mut block = Vec::with_capacity(alloc, count)?;
+    block.resize(count, entry)?;
     Ok(SmallVec::from_vec(block))
 }
 

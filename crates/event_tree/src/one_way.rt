@@ -15,12 +15,11 @@ ghost use Rattle.event_tree.specs.Walks as walks;
 ghost use Rattle.event_tree.specs.Beside.{half_of, part_at, base_at, rooted, beside, size_beside, leaves};
 ghost use Rattle.event_tree.specs.Beside as besides;
 
-use crate::entries::{Entries, Entry, INLINE};
+use crate::entries::{self, Entry};
 use crate::node::Node;
 use crate::part::{EventPart, EventView};
 use crate::written::put_all;
 use id_tree::Way;
-use smallvec::SmallVec;
 use std::alloc::{AllocError, Global};
 
 // The base, and the half that a turn leads to.
@@ -73,19 +72,6 @@ fn whole_size(id: usize, part: usize) -> Result<u32, AllocError>
         return Err(AllocError);
     }
     Ok((id - 1 + part) as u32)
-}
-
-// So many leaves `k`.
-fn leaves_of(alloc: Global, count: usize, k: u32) -> Result<Entries, AllocError>
-    ensures { IfOk result (λ entries. entries.items ≡ leaves count k) }
-{
-    let leaf = Entry { value: k, size: 1 };
-    if count <= INLINE {
-        return Ok(SmallVec::from_buf_and_len(alloc, [leaf; INLINE], count));
-    }
-    let mut block = Vec::with_capacity(alloc, count)?;
-    block.resize(count, leaf)?;
-    Ok(SmallVec::from_vec(block))
 }
 
 // Writes an entry.
@@ -149,7 +135,11 @@ pub fn restricted(alloc: Global, size: usize, way: Way, e: EventView) -> Result<
     }
     let m = x + part.root();
     let size = whole_size(size, part.entries().len())?;
-    let mut out = leaves_of(alloc, size as usize, u32::MAX - m)?;
+    let leaf = Entry {
+        value: u32::MAX - m,
+        size: 1,
+    };
+    let mut out = entries::filled(alloc, size as usize, leaf)?;
     write_down(out.as_mut_slice(), way, m, size, &part);
     Ok(Node::of(out))
 }

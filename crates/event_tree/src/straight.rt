@@ -9,9 +9,8 @@ ghost use Rattle.event_tree.specs.Entries.{blank};
 ghost use Rattle.event_tree.specs.Taking.{IsBegun, IsLeafTaken, IsClosed, HasTreeRead, AreClosed, IsWhole};
 ghost use Rattle.event_tree.specs.Taking as taking;
 
-use crate::entries::{Entries, Entry, INLINE};
+use crate::entries::{Entry, filled};
 use crate::node::Node;
-use smallvec::SmallVec;
 use std::alloc::Global;
 
 /// Where the halves that are read (`Around`) come to this number, 40 nodes are open, and none may be begun in them.
@@ -281,20 +280,6 @@ fn least_length(count: usize) -> usize {
     count.saturating_mul(3).saturating_sub(2)
 }
 
-// So many entries, to be written.
-fn blank_entries(alloc: Global, count: usize) -> Option<Entries> {
-    if count <= INLINE {
-        return Some(SmallVec::from_buf_and_len(alloc, [Entry::default(); INLINE], count));
-    }
-    let Ok(mut entries) = Vec::with_capacity(alloc, count) else {
-        return None;
-    };
-    let Ok(()) = entries.resize(count, Entry::default()) else {
-        return None;
-    };
-    Some(SmallVec::from_vec(entries))
-}
-
 // The leaf that the whole text spells. It takes no blank entries.
 #[inline(always)]
 fn read_leaf(alloc: Global, text: &[u8]) -> Option<Node>
@@ -316,7 +301,9 @@ fn read_node(alloc: Global, text: &[u8]) -> Option<Node>
     if text.len() < least_length(count) {
         return None;
     }
-    let mut entries = blank_entries(alloc, count)?;
+    let Ok(mut entries) = filled(alloc, count, Entry::default()) else {
+        return None;
+    };
     if take_all(text, entries.as_mut_slice()) {
         Some(Node::of(entries))
     } else {

@@ -1,7 +1,0 @@
-use Rattle.std.proofs.Common.{◌∙◌}
-use Rattle.std.proofs.lemmas.List.{take-replicate}
-use Rattle.event_tree.specs.Entries.{entry}
-use Rattle.event_tree.proofs.one_way.leaves_of.Goals as goal
-
-pub returns-then-count-le-INLINE : goal.returns-then-count-le-INLINE
-returns-then-count-le-INLINE c = c.from_buf_and_len.ensures.items ∙ take-replicate c.args.count 8 (entry c.args.k 1) c.if-count-le-INLINE.true

@@ -1,11 +1,12 @@
 -- Going over one step more of a history, for tables of what a cut keeps of it.
 use Rattle.std.proofs.Common.{◌≡◌, ◌≢◌, ℕ, ◌+◌, ◌≤◌, ◌<◌, Bool, true, false, Option, Some, None, List, [], ◌∷◌, ◌++◌, length, get_or, take, drop, refl, sym, ◌∙◌, ap, subst, inl, inr, arith}
 use Rattle.std.specs.Prelude.{reverse, not, nat_eq, nat_le}
-use Rattle.std.specs.Option.{is_some, option_map_or}
+use Rattle.std.specs.Option.{is_some, option_map, option_map_or}
 use Rattle.std.specs.Str.{bytes_eq}
 use Rattle.std.proofs.lemmas.Bool.{cases_Bool, true≢false, and_from}
 use Rattle.std.proofs.lemmas.List.{reverse-append, take-append-drop}
 use Rattle.indexmap.specs.IndexMap.{get}
+use Rattle.event_tree.specs.EventTree.{EventTree}
 use Rattle.report_line.specs.declared.step.Deed.{Deed}
 use Rattle.report_line.specs.declared.step.Deed.TheVariants.{Work, Check, Present, Send, Receive, Fork, Retire, Absorb}
 use Rattle.report_line.specs.declared.step.Step.{Step as Taken}
@@ -23,7 +24,7 @@ use Rattle.driver.specs.declared.fault.StepFault.{StepFault}
 use Rattle.driver.specs.declared.mark.Mark.{Mark}
 use Rattle.driver.specs.declared.tables.Tables.{Tables}
 use Rattle.driver.specs.Made.{Made}
-use Rattle.driver.specs.Tables.{AreSound, history_in, shown, carried, kept_of_actor, kept_of_other, kept_of_message}
+use Rattle.driver.specs.Tables.{AreSound, history_in, shown, events_at, carried, kept_of_actor, kept_of_other}
 use Rattle.driver.specs.Making.{IsNotAlive, IsSame, IsReady, HasLineOf, Adds}
 use Rattle.driver.specs.Verdicts.{HasRetired}
 use Rattle.driver.specs.Marks.{Marks, last_kept, reaches, reaches_at, reached, cut_by}
@@ -93,7 +94,6 @@ is_ready root h s n made lawful count remade line =
       changes = record {
         actor = remade.actor ∙ (ap (kept_of_actor s.deed s.stamp) count ∙ ap (λ (x : Taken). kept_of_actor x.deed x.stamp (reporting_steps x.process h)) (sym remade.step));
         other = remade.other ∙ ap (λ (x : Taken). kept_of_other x.deed x.stamp) (sym remade.step);
-        message = remade.message ∙ ap (λ (x : Taken). kept_of_message x.deed x.stamp) (sym remade.step);
       };
       line = subst (HasLineOf root h) (sym remade.step) line;
     }
@@ -108,6 +108,10 @@ ready_still old new made same ready =
 carried_some : (o : Option Event) → is_some (carried o) ≡ is_some o
 carried_some None = refl
 carried_some (Some e) = refl
+
+kept_some : (f : ℕ → Option EventTree) (o : Option ℕ) → is_some (option_map f o) ≡ is_some o
+kept_some f None = refl
+kept_some f (Some i) = refl
 
 -- who waits by the tables retired
 waiting_retired : (now : Status) (n : ℕ) → is_waiting (shown now n) ≡ true → (e : Event) × (q : Name) × (now ≡ Retired e q)
@@ -131,10 +135,11 @@ module _ (root : Name) (epoch : ℕ) (marks : Marks) (h : History) (s : Taken) (
 
   sent_by_tables : (m : Message) (x : Event) → sending h m ≡ Some x → is_some (get bytes_eq t.messages m) ≡ cut_by marks x
   sent_by_tables m x is =
-      ap is_some (so_far.sound.messages m)
+      sym (kept_some (events_at t.steps.items) (get bytes_eq t.messages m))
+      ∙ (ap is_some (so_far.sound.messages m)
       ∙ (carried_some (sending (history_in t) m)
       ∙ (ap (λ (g : History). is_some (sending g m)) so_far.history
-      ∙ sent_is_kept root h (cut_by marks) m x before.lawful so_far.closed is))
+      ∙ sent_is_kept root h (cut_by marks) m x before.lawful so_far.closed is)))
 
   known_by_tables : (r : Name) → is_waiting (get bytes_eq t.known r) ≡ is_waiting (shown (status root (kept (cut_by marks) h) r) (reporting_steps r (history_in t)))
   known_by_tables r =

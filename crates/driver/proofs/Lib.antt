@@ -4,6 +4,7 @@ pub mod Made
 pub mod Lined
 pub mod Stepped
 pub mod Folds
+pub mod Places
 pub mod Sound
 pub mod Closing
 pub mod ElementEvents

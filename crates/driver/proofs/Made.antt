@@ -34,7 +34,7 @@ counts : (root : Name) (h : History) (p : Name) (a : Alive) (t : Stamp) (r : Nex
 counts root h p a t r alive is = is ∙ ap (λ (n : ℕ). report_after n t) alive.reports
 
 pub makes_work : (root : Name) (h : History) (p : Name) (a : Alive) (t : Stamp) (made : Made) → IsAlive root h p a → IsEventMade a.stamp.now t
-    → made ≡ silently p deeds.Work t a.reports None → Makes root h p Work made
+    → made ≡ silently p deeds.Work t a.reports → Makes root h p Work made
 makes_work root h p a t made alive event is = subst (λ (m : Made). Makes root h p Work m) (sym is)
     (let w = from_last a.stamp.now t alive.last alive.stamp event in record {
       process = refl;
@@ -43,7 +43,7 @@ makes_work root h p a t made alive event is = subst (λ (m : Made). Makes root h
       stamped = (refl, w.event);
       allowed = own_work alive.last p deeds.Work t w;
       verdict = passed root h p Work alive.last alive.lives (λ no. no) (λ no. no) (λ no. no) (λ no. no) (λ no. no) w.fits (λ no. no);
-      changes = record { actor = ap (λ (n : ℕ). Lives t n) alive.reports; other = refl; message = refl; report = refl };
+      changes = record { actor = ap (λ (n : ℕ). Lives t n) alive.reports; other = refl; report = refl };
     })
 
 pub makes_check : (root : Name) (h : History) (p : Name) (a : Alive) (t : Stamp) (c : NextReport) (made : Made) → IsAlive root h p a → IsEventMade a.stamp.now t
@@ -57,7 +57,7 @@ makes_check root h p a t c made alive event count is = subst (λ (m : Made). Mak
       stamped = (refl, w.event);
       allowed = own_work alive.last p deeds.Check t w;
       verdict = passed root h p Check alive.last alive.lives (λ no. no) (λ no. no) (λ no. no) (λ no. no) (λ no. no) w.fits (λ no. no);
-      changes = record { actor = refl; other = refl; message = refl; report = refl };
+      changes = record { actor = refl; other = refl; report = refl };
     })
 
 pub makes_present : (root : Name) (h : History) (p : Name) (a : Alive) (t : Stamp) (c : NextReport) (made : Made) → IsAlive root h p a → IsEventMade a.stamp.now t
@@ -71,16 +71,13 @@ makes_present root h p a t c made alive event count is = subst (λ (m : Made). M
       stamped = (refl, w.event);
       allowed = own_work alive.last p deeds.Present t w;
       verdict = passed root h p Present alive.last alive.lives (λ no. no) (λ no. no) (λ no. no) (λ no. no) (λ no. no) w.fits (λ no. no);
-      changes = record { actor = refl; other = refl; message = refl; report = refl };
+      changes = record { actor = refl; other = refl; report = refl };
     })
 
-pub makes_send : (root : Name) (h : History) (p m x y : Name) (a : Alive) (t : Stamp) (events : EventTree) (made : Made) → IsAlive root h p a → IsEventMade a.stamp.now t
-    → sending h m ≡ None → x ≡ m → y ≡ m → events ≡ t.events
-    → made ≡ silently p (deeds.Send y) t a.reports (Some (record { name = x; events = events })) → Makes root h p (Send m) made
-makes_send root h p m x y a t events made alive event free is_x is_y is_events is = subst (λ (made' : Made). Makes root h p (Send m) made')
-    (sym (is ∙ (ap (λ (z : Name). silently p (deeds.Send z) t a.reports (Some (record { name = x; events = events }))) is_y
-    ∙ (ap (λ (z : Name). silently p (deeds.Send m) t a.reports (Some (record { name = z; events = events }))) is_x
-    ∙ ap (λ (e : EventTree). silently p (deeds.Send m) t a.reports (Some (record { name = m; events = e }))) is_events))))
+pub makes_send : (root : Name) (h : History) (p m y : Name) (a : Alive) (t : Stamp) (made : Made) → IsAlive root h p a → IsEventMade a.stamp.now t
+    → sending h m ≡ None → y ≡ m → made ≡ silently p (deeds.Send y) t a.reports → Makes root h p (Send m) made
+makes_send root h p m y a t made alive event free is_y is = subst (λ (made' : Made). Makes root h p (Send m) made')
+    (sym (is ∙ ap (λ (z : Name). silently p (deeds.Send z) t a.reports) is_y))
     (let w = from_last a.stamp.now t alive.last alive.stamp event in record {
       process = refl;
       before = alive.last;
@@ -88,14 +85,14 @@ makes_send root h p m x y a t events made alive event free is_x is_y is_events i
       stamped = (refl, w.event);
       allowed = (own_work alive.last p (deeds.Send m) t w, free);
       verdict = passed root h p (Send m) alive.last alive.lives (λ no. no) (λ no. no) (λ taken. taken free) (λ no. no) (λ no. no) w.fits (λ no. no);
-      changes = record { actor = ap (λ (n : ℕ). Lives t n) alive.reports; other = refl; message = refl; report = refl };
+      changes = record { actor = ap (λ (n : ℕ). Lives t n) alive.reports; other = refl; report = refl };
     })
 
 pub makes_receive : (root : Name) (h : History) (p m y : Name) (a : Alive) (t : Stamp) (came : EventTree) (sent : Event) (made : Made) → IsAlive root h p a
     → sending h m ≡ Some sent → came ≡ sent.values → IsReceiveMade a.stamp.now came t → y ≡ m
-    → made ≡ silently p (deeds.Receive y) t a.reports None → Makes root h p (Receive m) made
+    → made ≡ silently p (deeds.Receive y) t a.reports → Makes root h p (Receive m) made
 makes_receive root h p m y a t came sent made alive is_sent is_came receive is_y is = subst (λ (made' : Made). Makes root h p (Receive m) made')
-    (sym (is ∙ ap (λ (z : Name). silently p (deeds.Receive z) t a.reports None) is_y))
+    (sym (is ∙ ap (λ (z : Name). silently p (deeds.Receive z) t a.reports) is_y))
     (let w : IsReceiveMade (stamp_of alive.last) sent.values t =
     subst (λ (s : Stamp). IsReceiveMade s sent.values t) alive.stamp (subst (λ (e : EventTree). IsReceiveMade a.stamp.now e t) is_came receive) in record {
       process = refl;
@@ -111,7 +108,7 @@ makes_receive root h p m y a t came sent made alive is_sent is_came receive is_y
       };
       verdict = passed root h p (Receive m) alive.last alive.lives (λ no. no) (λ no. no) (λ no. no) (λ none. none_sent sent (sym is_sent ∙ none)) (λ no. no)
           (λ full. w.fits (full.1, subst (λ (e : Event). IsNormalJoin alive.last.values e.values full.1) (same_sent full.0 sent (sym full.2 ∙ is_sent)) full.3, full.4)) (λ no. no);
-      changes = record { actor = ap (λ (n : ℕ). Lives t n) alive.reports; other = refl; message = refl; report = refl };
+      changes = record { actor = ap (λ (n : ℕ). Lives t n) alive.reports; other = refl; report = refl };
     })
   where
     none_sent : (e : Event) → Some e ≢ None
@@ -151,7 +148,7 @@ makes_fork root h p c x y a t begun parts made alive unborn fork parted is_x is_
         together = w.split.together;
       };
       verdict = passed root h p (Fork c) alive.last alive.lives (λ no. no) (λ no. no) (λ taken. taken unborn) (λ no. no) (λ no. no) w.fits w.shallow;
-      changes = record { actor = refl; other = refl; message = refl; report = refl };
+      changes = record { actor = refl; other = refl; report = refl };
     })
   where
     begun_is : begun ≡ record { id = begun.id; events = t.events }
@@ -180,7 +177,7 @@ makes_retire root h p q x y z a t c made alive event born other count is_x is_y 
       stamped = (refl, w.event);
       allowed = (own_work alive.last p (deeds.Retire q) t w, other);
       verdict = passed root h p (Retire q) alive.last alive.lives born other (λ no. no) (λ no. no) (λ no. no) w.fits (λ no. no);
-      changes = record { actor = refl; other = refl; message = refl; report = refl };
+      changes = record { actor = refl; other = refl; report = refl };
     })
   where
     same : retiring p t c x y z ≡ retiring p t (report_after (reporting_steps p h) t) q q q
@@ -211,7 +208,7 @@ makes_absorb root h p r x y z a retired t e c made alive waits is_retired absorb
         together = w.absorb.together;
       };
       verdict = passed root h p (Absorb r) alive.last alive.lives (λ no. no) (λ no. no) (λ no. no) (λ no. no) (λ none. none e waits) w.fits (λ no. no);
-      changes = record { actor = refl; other = refl; message = refl; report = refl };
+      changes = record { actor = refl; other = refl; report = refl };
     })
   where
     same : absorbing p t c x y z ≡ absorbing p t (report_after (reporting_steps p h) t) r r r

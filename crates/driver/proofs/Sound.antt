@@ -1,6 +1,7 @@
 -- What is kept stays in step with the history.
-use Rattle.std.proofs.Common.{◌≡◌, ◌≢◌, ℕ, suc, ◌+◌, Bool, true, false, Option, Some, None, List, [], ◌∷◌, ◌++◌, All, refl, sym, ◌∙◌, ap, subst, append-nil, inl, inr, arith}
+use Rattle.std.proofs.Common.{◌≡◌, ◌≢◌, ℕ, suc, ◌+◌, Bool, true, false, Option, Some, None, List, [], ◌∷◌, ◌++◌, length, All, refl, sym, ◌∙◌, ap, subst, append-nil, inl, inr, arith}
 use Rattle.std.specs.Prelude.{if◌then◌else◌, ◌&&◌, reverse, IsTrue}
+use Rattle.std.specs.Option.{option_map}
 use Rattle.std.specs.List.{cons_option}
 use Rattle.std.specs.Str.{bytes_eq}
 use Rattle.std.proofs.lemmas.Bool.{cases_Bool, cond-true, cond-false, true≢false}
@@ -24,14 +25,14 @@ use Rattle.histories.proofs.Bytes.{bytes_same, bytes_other, bytes_are}
 use Rattle.histories.proofs.Status.{status_acts, status_others}
 use Rattle.histories.proofs.Reported.{unborn_reports}
 use Rattle.histories.proofs.Steps.{fork_of}
+use Rattle.driver.proofs.Places.{events_stay, events_here}
 use Rattle.driver.specs.declared.known.Known.{Known}
 use Rattle.driver.specs.declared.known.Known.TheVariants.{Lives, Gone}
 use Rattle.driver.specs.declared.tables.Tables.{Tables}
 use Rattle.driver.specs.declared.tables.Other.{Other}
-use Rattle.driver.specs.declared.tables.Sent.{Sent}
 use Rattle.driver.specs.Made.{Made}
 use Rattle.driver.specs.Making.{IsReady, HasLineOf, Adds}
-use Rattle.driver.specs.Tables.{AreSound, history_in, shown, carried, kept_of_actor, kept_of_other, kept_of_message, noted_other, noted_message}
+use Rattle.driver.specs.Tables.{AreSound, history_in, events_at, shown, carried, kept_of_actor, kept_of_other, noted_other, noted_message}
 
 -- the stamp 1;0
 abbrev pub first_stamp : Stamp
@@ -118,25 +119,28 @@ known_next root h s p kept child is_kept =
     ]
 
 -- a message
-sent_shown : (b : Bool) (e : Event) (before : Option Event) → (if b then Some e.values else carried before) ≡ carried (if b then Some e else before)
-sent_shown true e before = refl
-sent_shown false e before = refl
+sent_shown : (stands : ℕ → Option EventTree) (b : Bool) (place : ℕ) (kept : Option ℕ) (e : Event) (before : Option Event)
+    → stands place ≡ Some e.values → option_map stands kept ≡ carried before → option_map stands (if b then Some place else kept) ≡ carried (if b then Some e else before)
+sent_shown stands true place kept e before here is_kept = ap Some here
+sent_shown stands false place kept e before here is_kept = is_kept
 
-message_shown : (h : History) (s : Taken) (m : Name) (a : Deed) (before : Option Event)
-    → noted_message (kept_of_message a s.stamp) m (carried before) ≡ carried (if sends a m then Some (event_of h s) else before)
-message_shown h s m Work before = refl
-message_shown h s m Check before = refl
-message_shown h s m Present before = refl
-message_shown h s m (Send n) before = sent_shown (bytes_eq n m) (event_of h s) before
-message_shown h s m (Receive n) before = refl
-message_shown h s m (Fork c i) before = refl
-message_shown h s m (Retire q) before = refl
-message_shown h s m (Absorb r) before = refl
+message_shown : (stands : ℕ → Option EventTree) (h : History) (s : Taken) (m : Name) (place : ℕ) (kept : Option ℕ) (before : Option Event) (a : Deed)
+    → stands place ≡ Some s.stamp.events → option_map stands kept ≡ carried before
+    → option_map stands (noted_message a place m kept) ≡ carried (if sends a m then Some (event_of h s) else before)
+message_shown stands h s m place kept before Work here is_kept = is_kept
+message_shown stands h s m place kept before Check here is_kept = is_kept
+message_shown stands h s m place kept before Present here is_kept = is_kept
+message_shown stands h s m place kept before (Send n) here is_kept = sent_shown stands (bytes_eq n m) place kept (event_of h s) before here is_kept
+message_shown stands h s m place kept before (Receive n) here is_kept = is_kept
+message_shown stands h s m place kept before (Fork c i) here is_kept = is_kept
+message_shown stands h s m place kept before (Retire q) here is_kept = is_kept
+message_shown stands h s m place kept before (Absorb r) here is_kept = is_kept
 
-pub messages_next : (h : History) (s : Taken) (m : Name) (kept : Option EventTree) → kept ≡ carried (sending h m)
-    → noted_message (kept_of_message s.deed s.stamp) m kept ≡ carried (sending (s ∷ h) m)
+pub messages_next : (steps : List Taken) (h : History) (s : Taken) (m : Name) (kept : Option ℕ) → option_map (events_at steps) kept ≡ carried (sending h m)
+    → option_map (events_at (steps ++ s ∷ [])) (noted_message s.deed (length steps) m kept) ≡ carried (sending (s ∷ h) m)
 unfolding sending
-messages_next h s m kept is_kept = ap (noted_message (kept_of_message s.deed s.stamp) m) is_kept ∙ message_shown h s m s.deed (sending h m)
+messages_next steps h s m kept is_kept =
+    message_shown (events_at (steps ++ s ∷ [])) h s m (length steps) kept (sending h m) s.deed (events_here steps s) (events_stay steps s kept (sending h m) is_kept)
 
 -- the child of an allowed fork is new
 pub child_is_new : (root : Name) (h : History) (b : Event) (s : Taken) → IsAllowed root h b s s.deed → (c : Name) (i : IdTree) → s.deed ≡ Fork c i → status root h c ≡ Unborn
@@ -162,7 +166,7 @@ first_line root is = All-push HasLine [] (Begin root) (All-nil HasLine) (refl, i
 record Holds (t : Tables) (root : Name) (h : History) : Type 0 where
   pub lawful : IsLawful root h
   pub known : (p : Name) → get bytes_eq t.known p ≡ shown (status root h p) (reporting_steps p h)
-  pub messages : (m : Name) → get bytes_eq t.messages m ≡ carried (sending h m)
+  pub messages : (m : Name) → option_map (events_at t.steps.items) (get bytes_eq t.messages m) ≡ carried (sending h m)
   pub lines : All HasLine (handed_over root h)
 
 sound_of : (t : Tables) (root : Name) (h : History) → t.root ≡ root → history_in t ≡ h → Holds t root h → AreSound t
@@ -170,13 +174,13 @@ sound_of t root h is_root is_history w =
     let there = subst (λ (r : Name). Holds t r (history_in t)) (sym is_root) (subst (λ (g : History). Holds t root g) (sym is_history) w) in
     record { lawful = there.lawful; known = there.known; messages = there.messages; lines = there.lines }
 
-pub adds : (old new : Tables) (made : Made) (name : Name) (between : Name → Option Known) → AreSound old → IsReady old.root (history_in old) made
+pub adds : (old new : Tables) (made : Made) (name : Name) (place : ℕ) (between : Name → Option Known) → AreSound old → IsReady old.root (history_in old) made
     → ((q : Name) → between q ≡ noted_other made.other q (get bytes_eq old.known q))
     → name ≡ made.step.process
     → ((q : Name) → get bytes_eq new.known q ≡ (if bytes_eq name q then Some made.after else between q))
-    → ((q : Name) → get bytes_eq new.messages q ≡ noted_message made.message q (get bytes_eq old.messages q))
+    → place ≡ length old.steps.items → ((m : Name) → get bytes_eq new.messages m ≡ noted_message made.step.deed place m (get bytes_eq old.messages m))
     → new.steps.items ≡ old.steps.items ++ made.step ∷ [] → new.root ≡ old.root → new.epoch ≡ old.epoch → Adds old made.step new
-adds old new made name between sound ready other is_name actor message items root epoch =
+adds old new made name place between sound ready other is_name actor is_place message items root epoch =
     record { root = root; epoch = epoch; history = history; sound = sound_of new old.root (s ∷ h) root history after }
   where
     s : Taken
@@ -197,11 +201,12 @@ adds old new made name between sound ready other is_name actor message items roo
         (other p ∙ ap (λ (o : Option Other). noted_other o p (get bytes_eq old.known p)) ready.changes.other)
         ∙ known_next old.root h s p (get bytes_eq old.known p) (child_is_new old.root h ready.before s ready.allowed) (sound.known p))))
 
-    messages : (m : Name) → get bytes_eq new.messages m ≡ carried (sending (s ∷ h) m)
+    messages : (m : Name) → option_map (events_at new.steps.items) (get bytes_eq new.messages m) ≡ carried (sending (s ∷ h) m)
     messages m =
-        message m
-        ∙ (ap (λ (o : Option Sent). noted_message o m (get bytes_eq old.messages m)) ready.changes.message
-        ∙ messages_next h s m (get bytes_eq old.messages m) (sound.messages m))
+        ap (option_map (events_at new.steps.items)) (message m)
+        ∙ (ap (λ (n : ℕ). option_map (events_at new.steps.items) (noted_message s.deed n m (get bytes_eq old.messages m))) is_place
+        ∙ (ap (λ (l : List Taken). option_map (events_at l) (noted_message s.deed (length old.steps.items) m (get bytes_eq old.messages m))) items
+        ∙ messages_next old.steps.items h s m (get bytes_eq old.messages m) (sound.messages m)))
 
     after : Holds new old.root (s ∷ h)
     after = record { lawful = next sound.lawful ready.living ready.allowed; known = known; messages = messages; lines = lines_next old.root h s sound.lines ready.line }
@@ -234,6 +239,6 @@ begins t first name before is_named items is_first is_name none known messages =
           ∙ (ap (λ (o : Option Known). if bytes_eq name p then Some (Lives first 0) else o) (none p)
           ∙ (ap (λ (n : Name). if bytes_eq n p then Some (Lives first 0) else None) is_name
           ∙ root_shown t.root p first is_first));
-      messages = λ m. messages m ∙ sym (none_sent m);
+      messages = λ m. ap (option_map (events_at t.steps.items)) (messages m) ∙ sym (none_sent m);
       lines = first_line t.root is_named;
     })

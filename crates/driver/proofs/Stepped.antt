@@ -11,7 +11,6 @@ use Rattle.driver.specs.declared.known.Known.TheVariants.{Lives}
 use Rattle.driver.specs.declared.step.Step.{Step}
 use Rattle.driver.specs.declared.step.Act.{Act}
 use Rattle.driver.specs.declared.tables.Tables.{Tables}
-use Rattle.driver.specs.declared.tables.Sent.{Sent}
 use Rattle.driver.specs.declared.tables.Other.{Other}
 use Rattle.driver.specs.Made.{Made, step_of, numbered, silently, openly}
 use Rattle.driver.specs.Tables.{AreSound, history_in}
@@ -28,24 +27,24 @@ same_history old new same = rw same.steps refl
 
 -- the report has no part in what is added
 unreported : (root : Name) (h : History) (made : Made) → IsReady root h made
-    → IsReady root h (record { step = made.step; after = made.after; other = made.other; message = made.message; report = None })
+    → IsReady root h (record { step = made.step; after = made.after; other = made.other; report = None })
 unreported root h made ready = record {
   before = ready.before;
   living = ready.living;
   allowed = ready.allowed;
-  changes = record { actor = ready.changes.actor; other = ready.changes.other; message = ready.changes.message };
+  changes = record { actor = ready.changes.actor; other = ready.changes.other };
   line = ready.line;
 }
 
-pub silently_ready : (old middle : Tables) (p x : Name) (act : Act) (d : Deed) (t k : Stamp) (n : ℕ) (sent : Option Sent) → Makes old.root (history_in old) p act (silently p d t n sent)
+pub silently_ready : (old middle : Tables) (p x : Name) (act : Act) (d : Deed) (t k : Stamp) (n : ℕ) → Makes old.root (history_in old) p act (silently p d t n)
     → IsSame old middle → x ≡ p → k ≡ t
-    → IsReady middle.root (history_in middle) (record { step = step_of x d t; after = Lives k n; other = None; message = sent; report = None })
-silently_ready old middle p x act d t k n sent makes same is_x is_k =
-    rw (is_x, is_k) (ready_still old middle (silently p d t n sent) same (ready_made old.root (history_in old) p act (silently p d t n sent) makes (λ r none. absurd cc)))
+    → IsReady middle.root (history_in middle) (record { step = step_of x d t; after = Lives k n; other = None; report = None })
+silently_ready old middle p x act d t k n makes same is_x is_k =
+    rw (is_x, is_k) (ready_still old middle (silently p d t n) same (ready_made old.root (history_in old) p act (silently p d t n) makes (λ r none. absurd cc)))
 
 pub openly_ready : (old middle : Tables) (p x y : Name) (act : Act) (d : Deed) (t : Stamp) (after : Known) (other : Option Other) (n : ℕ) (reported : Stamp) (a : Action)
     → Makes old.root (history_in old) p act (openly p d t after other n reported a) → HasLineIfCounted (numbered y n reported a) → IsSame old middle → x ≡ p → y ≡ p
-    → IsReady middle.root (history_in middle) (record { step = step_of x d t; after = after; other = other; message = None; report = None })
+    → IsReady middle.root (history_in middle) (record { step = step_of x d t; after = after; other = other; report = None })
 openly_ready old middle p x y act d t after other n reported a makes line same is_x is_y =
     rw is_x (unreported middle.root (history_in middle) (openly p d t after other n reported a)
     (ready_still old middle (openly p d t after other n reported a) same
@@ -83,11 +82,11 @@ step_taken old middle new asked made given makes same added is =
       unchanged = tt;
     }
 
-pub silently_taken : (old middle new : Tables) (asked : Step) (x : Name) (d : Deed) (t : Stamp) (n : ℕ) (sent : Option Sent)
-    → Makes old.root (history_in old) asked.process asked.act (silently asked.process d t n sent) → IsSame old middle → x ≡ asked.process → Adds middle (step_of x d t) new
+pub silently_taken : (old middle new : Tables) (asked : Step) (x : Name) (d : Deed) (t : Stamp) (n : ℕ)
+    → Makes old.root (history_in old) asked.process asked.act (silently asked.process d t n) → IsSame old middle → x ≡ asked.process → Adds middle (step_of x d t) new
     → IsStepTaken old asked new (Ok None)
-silently_taken old middle new asked x d t n sent makes same is_x added =
-    step_taken old middle new asked (silently asked.process d t n sent) None makes same (subst (λ (z : Name). Adds middle (step_of z d t) new) is_x added) refl
+silently_taken old middle new asked x d t n makes same is_x added =
+    step_taken old middle new asked (silently asked.process d t n) None makes same (subst (λ (z : Name). Adds middle (step_of z d t) new) is_x added) refl
 
 pub openly_taken : (old middle new : Tables) (asked : Step) (x y : Name) (d : Deed) (t : Stamp) (after : Known) (other : Option Other) (n : ℕ) (reported : Stamp) (a : Action)
     → Makes old.root (history_in old) asked.process asked.act (openly asked.process d t after other n reported a) → IsSame old middle → x ≡ asked.process → y ≡ asked.process

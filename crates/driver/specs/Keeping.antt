@@ -14,7 +14,7 @@ use Rattle.driver.specs.declared.known.Known.TheVariants.{Lives, Waits}
 use Rattle.driver.specs.declared.tables.Tables.{Tables}
 use Rattle.driver.specs.Made.{Made}
 use Rattle.driver.specs.Marks.{Marks, reached}
-use Rattle.driver.specs.Tables.{AreSound, history_in, kept_of_actor, kept_of_other, kept_of_message}
+use Rattle.driver.specs.Tables.{AreSound, history_in, kept_of_actor, kept_of_other}
 
 -- what is kept of a process after its deed, with so many reports then
 abbrev pub after_by : Deed → Stamp → ℕ → Known
@@ -26,7 +26,6 @@ pub record IsRemade (s : Taken) (n : ℕ) (made : Made) : Type 0 where
   pub step : made.step ≡ s
   pub actor : made.after ≡ kept_of_actor s.deed s.stamp n
   pub other : made.other ≡ kept_of_other s.deed s.stamp
-  pub message : made.message ≡ kept_of_message s.deed s.stamp
 
 -- a retirement of the process waits
 abbrev pub is_waiting : Option Known → Bool

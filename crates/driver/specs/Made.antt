@@ -9,16 +9,14 @@ use Rattle.report_line.specs.declared.step.Deed.{Deed}
 use Rattle.report_line.specs.declared.step.Step.{Step as Taken}
 use Rattle.driver.specs.declared.known.Known.{Known}
 use Rattle.driver.specs.declared.known.Known.TheVariants.{Lives}
-use Rattle.driver.specs.declared.tables.Sent.{Sent}
 use Rattle.driver.specs.declared.tables.Other.{Other}
 use Rattle.driver.specs.declared.tables.Remade.{Remade}
 
--- a step, how its process stands then, another process that it changes, its message, and its report
+-- a step, how its process stands then, another process that it changes, and its report
 pub record Made : Type 0 where
   pub step : Taken
   pub after : Known
   pub other : Option Other
-  pub message : Option Sent
   pub report : Option Report
 
 -- the step of a deed, with this stamp after it
@@ -30,12 +28,12 @@ abbrev pub numbered : Name → ℕ → Stamp → Action → Report
 numbered p n s a = Numbered (record { process = p; number = n; stamp = s; action = a })
 
 -- a step that is not reported, and one that is
-abbrev pub silently : Name → Deed → Stamp → ℕ → Option Sent → Made
-silently p d t n sent = record { step = step_of p d t; after = Lives t n; other = None; message = sent; report = None }
+abbrev pub silently : Name → Deed → Stamp → ℕ → Made
+silently p d t n = record { step = step_of p d t; after = Lives t n; other = None; report = None }
 
 abbrev pub openly : Name → Deed → Stamp → Known → Option Other → ℕ → Stamp → Action → Made
-openly p d t after other n reported a = record { step = step_of p d t; after = after; other = other; message = None; report = Some (numbered p n reported a) }
+openly p d t after other n reported a = record { step = step_of p d t; after = after; other = other; report = Some (numbered p n reported a) }
 
 -- one that is made once more, which is not reported again
 abbrev pub again : Remade → Made
-again r = record { step = r.step; after = r.after; other = r.other; message = r.message; report = None }
+again r = record { step = r.step; after = r.after; other = r.other; report = None }

@@ -91,9 +91,8 @@ fn keep(alloc: Global, tables: &mut Tables, step: &Taken) -> Result<(), StepFaul
         step: kept,
         after,
         other,
-        message,
     } = made;
-    add(tables, kept, after, other, message);
+    add(tables, kept, after, other);
     Ok(())
 }
 

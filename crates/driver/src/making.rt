@@ -11,7 +11,7 @@ use crate::fault::StepFault;
 use crate::known::Known;
 use crate::noting::{take_openly, take_silently};
 use crate::step::{Act, Step};
-use crate::tables::{Other, Sent, Tables};
+use crate::tables::{Other, Tables};
 use event_tree::Events;
 use id_tree::Id;
 use report_line::{Action, Deed, Name, Report, Shared};
@@ -87,7 +87,10 @@ fn message<'a>(tables: &'a Tables, name: &Name) -> Option<&'a Events>
     requires { AreSound tables.now }
     ensures { MessageTold (history_in tables.now) name.now result }
 {
-    tables.messages.get(name)
+    match tables.messages.get(name) {
+        None => None,
+        Some(place) => Some(&tables.steps[*place].stamp.events),
+    }
 }
 
 // The stamp of a retirement into the process that waits, if one does.
@@ -322,7 +325,7 @@ pub(crate) fn work(
     let alive = living(tables, &asked.process)?;
     let reports = alive.reports;
     let stamp = event(alloc, alive.stamp)?;
-    take_silently(alloc, tables, asked, Deed::Work, stamp, reports, None)
+    take_silently(alloc, tables, asked, Deed::Work, stamp, reports)
 }
 
 pub(crate) fn check(
@@ -397,18 +400,10 @@ pub(crate) fn send(
     };
     let reports = alive.reports;
     let stamp = event(alloc, alive.stamp)?;
-    let Ok(events) = stamp.events.copy(alloc) else {
-        drop(stamp);
-        return Err(StepFault::Memory);
-    };
-    let sent = Sent {
-        name: name.copy(),
-        events,
-    };
     let deed = Deed::Send {
         message: name.copy(),
     };
-    take_silently(alloc, tables, asked, deed, stamp, reports, Some(sent))
+    take_silently(alloc, tables, asked, deed, stamp, reports)
 }
 
 pub(crate) fn receive(
@@ -430,7 +425,7 @@ pub(crate) fn receive(
     let deed = Deed::Receive {
         message: name.copy(),
     };
-    take_silently(alloc, tables, asked, deed, stamp, reports, None)
+    take_silently(alloc, tables, asked, deed, stamp, reports)
 }
 
 pub(crate) fn fork(

@@ -2,14 +2,14 @@
 
 ghost use Rattle.std.specs.Prelude.{◌≡◌, ◌+◌, ◌<◌, ◌^◌, true, IfOk, IfErr, OnOk, if◌then◌else◌};
 ghost use Rattle.report_line.specs.StepReports.{is_reported};
-ghost use Rattle.driver.specs.Tables.{kept_of_other, kept_of_message};
+ghost use Rattle.driver.specs.Tables.{kept_of_other};
 ghost use Rattle.driver.specs.Keeping.{after_by, IsRemade};
 ghost use Rattle.driver.specs.Made.{again};
 
 use crate::fault::StepFault;
 use crate::known::Known;
 use crate::making::{next_number, twice};
-use crate::tables::{Other, Remade, Sent};
+use crate::tables::{Other, Remade};
 use report_line::{Deed, Name, Step as Taken};
 use stamp::Stamp;
 use std::alloc::{AllocError, Global};
@@ -108,27 +108,6 @@ fn other_of(alloc: Global, step: &Taken) -> Result<Option<Other>, AllocError>
     }
 }
 
-fn message_of(alloc: Global, step: &Taken) -> Result<Option<Sent>, AllocError>
-    ensures { IfOk result (λ m. m ≡ kept_of_message step.now.deed step.now.stamp) }
-{
-    match &step.deed {
-        Deed::Work => Ok(None),
-        Deed::Check => Ok(None),
-        Deed::Present => Ok(None),
-        Deed::Send { message } => {
-            let events = step.stamp.events.copy(alloc)?;
-            Ok(Some(Sent {
-                name: message.copy(),
-                events,
-            }))
-        }
-        Deed::Receive { .. } => Ok(None),
-        Deed::Fork { .. } => Ok(None),
-        Deed::Retire { .. } => Ok(None),
-        Deed::Absorb { .. } => Ok(None),
-    }
-}
-
 // The step, with what it changes where its process made so many reports before.
 pub(crate) fn remade(alloc: Global, step: &Taken, reports: u32) -> Result<Remade, StepFault>
     ensures ok { IfOk result (λ r. IsRemade step.now reports (again r)) }
@@ -151,13 +130,6 @@ pub(crate) fn remade(alloc: Global, step: &Taken, reports: u32) -> Result<Remade
         drop(deed);
         return Err(StepFault::Memory);
     };
-    let Ok(message) = message_of(alloc, step) else {
-        drop(stamp);
-        drop(own);
-        drop(deed);
-        drop(other);
-        return Err(StepFault::Memory);
-    };
     Ok(Remade {
         after: after_of(&step.deed, own, reports),
         step: Taken {
@@ -166,6 +138,5 @@ pub(crate) fn remade(alloc: Global, step: &Taken, reports: u32) -> Result<Remade
             stamp,
         },
         other,
-        message,
     })
 }

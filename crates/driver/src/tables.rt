@@ -1,18 +1,18 @@
 //! What a world keeps.
 
 use crate::known::Known;
-use event_tree::Events;
 use indexmap::IndexMap;
 use report_line::{Name, Step as Taken};
 
-/// The root, how many settlements there were, the steps, the oldest first, and what they say of each name.
+/// The root, how many settlements there were, the steps, the oldest first, and what they say of each name: how a process
+/// stands, and which step sent a message, by its place.
 #[derive(Drop)]
 pub(crate) struct Tables {
     pub(crate) root: Name,
     pub(crate) epoch: u32,
     pub(crate) steps: Vec<Taken>,
     pub(crate) known: IndexMap<Name, Known>,
-    pub(crate) messages: IndexMap<Name, Events>,
+    pub(crate) messages: IndexMap<Name, usize>,
 }
 
 /// A process beside the acting one that a step changes.
@@ -22,18 +22,10 @@ pub(crate) struct Other {
     pub(crate) known: Known,
 }
 
-/// A message.
-#[derive(Drop)]
-pub(crate) struct Sent {
-    pub(crate) name: Name,
-    pub(crate) events: Events,
-}
-
 /// A step that is made once more, with what it changes.
 #[derive(Drop)]
 pub(crate) struct Remade {
     pub(crate) step: Taken,
     pub(crate) after: Known,
     pub(crate) other: Option<Other>,
-    pub(crate) message: Option<Sent>,
 }

@@ -1,6 +1,6 @@
 -- Going over one step more of a history, for tables of what a cut keeps of it.
 use Rattle.std.proofs.Common.{◌≡◌, ◌≢◌, ℕ, ◌+◌, ◌≤◌, ◌<◌, Bool, true, false, Option, Some, None, List, [], ◌∷◌, ◌++◌, length, get_or, take, drop, refl, sym, ◌∙◌, ap, subst, inl, inr, arith}
-use Rattle.std.specs.Prelude.{reverse, not, nat_eq, nat_le}
+use Rattle.std.specs.Prelude.{reverse, not, nat_eq, nat_le, slice_get}
 use Rattle.std.specs.Option.{is_some, option_map, option_map_or}
 use Rattle.std.specs.Str.{bytes_eq}
 use Rattle.std.proofs.lemmas.Bool.{cases_Bool, true≢false, and_from}
@@ -21,16 +21,19 @@ use Rattle.settled_histories.proofs.Follows.{kept_taken, kept_left, follows, clo
 use Rattle.settled_histories.proofs.Keeping.{kept_is_lawful}
 use Rattle.settled_lists.proofs.Folding.{within, is_within}
 use Rattle.driver.specs.declared.fault.StepFault.{StepFault}
+use Rattle.driver.specs.declared.known.Known.{Known}
+use Rattle.driver.specs.declared.known.Known.TheVariants.{Born, Lives, Waits, Gone as Away}
 use Rattle.driver.specs.declared.mark.Mark.{Mark}
 use Rattle.driver.specs.declared.tables.Tables.{Tables}
 use Rattle.driver.specs.Made.{Made}
-use Rattle.driver.specs.Tables.{AreSound, history_in, shown, events_at, carried, kept_of_actor, kept_of_other}
+use Rattle.driver.specs.Tables.{AreSound, history_in, Standing, LivesWith, WaitsWith, standing, shown, events_at, carried, reports_after, kept_of_other}
 use Rattle.driver.specs.Making.{IsNotAlive, IsSame, IsReady, HasLineOf, Adds}
 use Rattle.driver.specs.Verdicts.{HasRetired}
 use Rattle.driver.specs.Marks.{Marks, last_kept, reaches, reaches_at, reached, cut_by}
 use Rattle.driver.specs.Keeping.{AreKept, IsRemade, is_waiting, is_due, bears}
 use Rattle.report_line.proofs.Cutting.{and_both}
 use Rattle.driver.proofs.Born.{absorption_of}
+use Rattle.driver.proofs.Places.{not_shown}
 use Rattle.driver.proofs.OneMore.{behind_more, behind_count}
 use Rattle.driver.proofs.Closing.{IsInOrder, IsClosedAt, closed_next, closed_at, sent_is_kept, was_retired}
 
@@ -92,7 +95,7 @@ is_ready root h s n made lawful count remade line =
       living = ap (λ (x : Taken). status root h x.process) remade.step ∙ w.living;
       allowed = subst (λ (x : Taken). IsAllowed root h w.before x x.deed) (sym remade.step) w.allowed;
       changes = record {
-        actor = remade.actor ∙ (ap (kept_of_actor s.deed s.stamp) count ∙ ap (λ (x : Taken). kept_of_actor x.deed x.stamp (reporting_steps x.process h)) (sym remade.step));
+        reports = remade.reports ∙ (ap (reports_after s.deed) count ∙ ap (λ (x : Taken). reports_after x.deed (reporting_steps x.process h)) (sym remade.step));
         other = remade.other ∙ ap (λ (x : Taken). kept_of_other x.deed x.stamp) (sym remade.step);
       };
       line = subst (HasLineOf root h) (sym remade.step) line;
@@ -113,8 +116,28 @@ kept_some : (f : ℕ → Option EventTree) (o : Option ℕ) → is_some (option_
 kept_some f None = refl
 kept_some f (Some i) = refl
 
--- who waits by the tables retired
-waiting_retired : (now : Status) (n : ℕ) → is_waiting (shown now n) ≡ true → (e : Event) × (q : Name) × (now ≡ Retired e q)
+-- who waits by how it stands
+abbrev shown_waiting : Option (Option Standing) → Bool
+shown_waiting (Some (Some (WaitsWith s q))) = true
+shown_waiting _ = false
+
+waits_as_shown : (steps : List Taken) (o : Option Known) (now : Status) (n : ℕ) → option_map (standing steps) o ≡ shown now n → is_waiting o ≡ shown_waiting (shown now n)
+waits_as_shown steps None now n is = ap shown_waiting is
+waits_as_shown steps (Some (Born s)) now n is = ap shown_waiting is
+waits_as_shown steps (Some (Lives i m)) now n is = sym (by_step (slice_get steps i)) ∙ ap shown_waiting is
+  where
+    by_step : (o : Option Taken) → shown_waiting (Some (option_map (λ x. LivesWith x.stamp m) o)) ≡ false
+    by_step None = refl
+    by_step (Some x) = refl
+waits_as_shown steps (Some (Waits i q)) now n is = by_step (slice_get steps i) is
+  where
+    by_step : (o : Option Taken) → Some (option_map (λ x. WaitsWith x.stamp q) o) ≡ shown now n → true ≡ shown_waiting (shown now n)
+    by_step None none = absurd (not_shown now n none)
+    by_step (Some x) some = ap shown_waiting some
+waits_as_shown steps (Some Away) now n is = ap shown_waiting is
+
+-- who waits retired
+waiting_retired : (now : Status) (n : ℕ) → shown_waiting (shown now n) ≡ true → (e : Event) × (q : Name) × (now ≡ Retired e q)
 waiting_retired Unborn n is = absurd (true≢false (sym is))
 waiting_retired (Living e) n is = absurd (true≢false (sym is))
 waiting_retired (Retired e q) n is = (e, q, refl)
@@ -141,18 +164,18 @@ module _ (root : Name) (epoch : ℕ) (marks : Marks) (h : History) (s : Taken) (
       ∙ (ap (λ (g : History). is_some (sending g m)) so_far.history
       ∙ sent_is_kept root h (cut_by marks) m x before.lawful so_far.closed is)))
 
-  known_by_tables : (r : Name) → is_waiting (get bytes_eq t.known r) ≡ is_waiting (shown (status root (kept (cut_by marks) h) r) (reporting_steps r (history_in t)))
+  known_by_tables : (r : Name) → is_waiting (get bytes_eq t.known r) ≡ shown_waiting (shown (status root (kept (cut_by marks) h) r) (reporting_steps r (history_in t)))
   known_by_tables r =
-      ap is_waiting (so_far.sound.known r)
-      ∙ (ap (λ (p : Name). is_waiting (shown (status p (history_in t) r) (reporting_steps r (history_in t)))) so_far.same_root
-      ∙ ap (λ (g : History). is_waiting (shown (status root g r) (reporting_steps r (history_in t)))) so_far.history)
+      waits_as_shown t.steps.items (get bytes_eq t.known r) (status t.root (history_in t) r) (reporting_steps r (history_in t)) (so_far.sound.known r)
+      ∙ (ap (λ (p : Name). shown_waiting (shown (status p (history_in t) r) (reporting_steps r (history_in t)))) so_far.same_root
+      ∙ ap (λ (g : History). shown_waiting (shown (status root g r) (reporting_steps r (history_in t)))) so_far.history)
 
   waits_by_tables : (r : Name) (x : Event) (q : Name) → status root h r ≡ Retired x q → is_waiting (get bytes_eq t.known r) ≡ cut_by marks x
   waits_by_tables r x q is =
       elim (cases_Bool (cut_by marks x)) [
         | inl inside ↦
             (let there = (follows root (cut_by marks) h so_far.closed).retired r x q is inside in
-            known_by_tables r ∙ (ap (λ (now : Status). is_waiting (shown now (reporting_steps r (history_in t)))) there.1 ∙ sym inside))
+            known_by_tables r ∙ (ap (λ (now : Status). shown_waiting (shown now (reporting_steps r (history_in t)))) there.1 ∙ sym inside))
         | inr out ↦
             elim (cases_Bool (is_waiting (get bytes_eq t.known r))) [
               | inr not ↦ not ∙ sym out

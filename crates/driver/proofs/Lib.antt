@@ -5,6 +5,7 @@ pub mod Lined
 pub mod Stepped
 pub mod Folds
 pub mod Places
+pub mod Retirements
 pub mod Sound
 pub mod Closing
 pub mod ElementEvents

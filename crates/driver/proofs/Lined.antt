@@ -52,7 +52,7 @@ ready_made root h p act made makes lines = record {
   before = makes.before;
   living = ap (status root h) makes.process ∙ makes.living;
   allowed = makes.allowed;
-  changes = record { actor = makes.changes.actor; other = makes.changes.other };
+  changes = record { reports = makes.changes.reports; other = makes.changes.other };
   line = λ r is. counted_line root h made.step made.step.deed r is (lines r (makes.changes.report ∙ is));
 }
 

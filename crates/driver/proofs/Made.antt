@@ -13,7 +13,7 @@ use Rattle.report_line.specs.Lawful.{IsOwnWork}
 use Rattle.report_line.specs.StepReports.{reporting_steps, id_of}
 use Rattle.histories.proofs.Status.{root_born}
 use Rattle.driver.specs.declared.step.Act.TheVariants.{Work, Check, Present, Send, Receive, Fork, Retire, Absorb}
-use Rattle.driver.specs.declared.known.Known.TheVariants.{Lives, Waits, Gone}
+use Rattle.driver.specs.declared.known.Known.TheVariants.{Born, Gone}
 use Rattle.driver.specs.Made.{Made, step_of, silently, openly}
 use Rattle.driver.specs.declared.making.Alive.{Alive}
 use Rattle.driver.specs.declared.making.NextReport.{NextReport}
@@ -43,13 +43,13 @@ makes_work root h p a t made alive event is = subst (λ (m : Made). Makes root h
       stamped = (refl, w.event);
       allowed = own_work alive.last p deeds.Work t w;
       verdict = passed root h p Work alive.last alive.lives (λ no. no) (λ no. no) (λ no. no) (λ no. no) (λ no. no) w.fits (λ no. no);
-      changes = record { actor = ap (λ (n : ℕ). Lives t n) alive.reports; other = refl; report = refl };
+      changes = record { reports = alive.reports; other = refl; report = refl };
     })
 
 pub makes_check : (root : Name) (h : History) (p : Name) (a : Alive) (t : Stamp) (c : NextReport) (made : Made) → IsAlive root h p a → IsEventMade a.stamp.now t
-    → c ≡ report_after a.reports t → made ≡ openly p deeds.Check t (Lives c.kept c.number) None c.number c.reported acts.Check → Makes root h p Check made
+    → c ≡ report_after a.reports t → made ≡ openly p deeds.Check t None c.number c.reported acts.Check → Makes root h p Check made
 makes_check root h p a t c made alive event count is = subst (λ (m : Made). Makes root h p Check m)
-    (sym (is ∙ ap (λ (x : NextReport). openly p deeds.Check t (Lives x.kept x.number) None x.number x.reported acts.Check) (counts root h p a t c alive count)))
+    (sym (is ∙ ap (λ (x : NextReport). openly p deeds.Check t None x.number x.reported acts.Check) (counts root h p a t c alive count)))
     (let w = from_last a.stamp.now t alive.last alive.stamp event in record {
       process = refl;
       before = alive.last;
@@ -57,13 +57,13 @@ makes_check root h p a t c made alive event count is = subst (λ (m : Made). Mak
       stamped = (refl, w.event);
       allowed = own_work alive.last p deeds.Check t w;
       verdict = passed root h p Check alive.last alive.lives (λ no. no) (λ no. no) (λ no. no) (λ no. no) (λ no. no) w.fits (λ no. no);
-      changes = record { actor = refl; other = refl; report = refl };
+      changes = record { reports = refl; other = refl; report = refl };
     })
 
 pub makes_present : (root : Name) (h : History) (p : Name) (a : Alive) (t : Stamp) (c : NextReport) (made : Made) → IsAlive root h p a → IsEventMade a.stamp.now t
-    → c ≡ report_after a.reports t → made ≡ openly p deeds.Present t (Lives c.kept c.number) None c.number c.reported acts.Present → Makes root h p Present made
+    → c ≡ report_after a.reports t → made ≡ openly p deeds.Present t None c.number c.reported acts.Present → Makes root h p Present made
 makes_present root h p a t c made alive event count is = subst (λ (m : Made). Makes root h p Present m)
-    (sym (is ∙ ap (λ (x : NextReport). openly p deeds.Present t (Lives x.kept x.number) None x.number x.reported acts.Present) (counts root h p a t c alive count)))
+    (sym (is ∙ ap (λ (x : NextReport). openly p deeds.Present t None x.number x.reported acts.Present) (counts root h p a t c alive count)))
     (let w = from_last a.stamp.now t alive.last alive.stamp event in record {
       process = refl;
       before = alive.last;
@@ -71,7 +71,7 @@ makes_present root h p a t c made alive event count is = subst (λ (m : Made). M
       stamped = (refl, w.event);
       allowed = own_work alive.last p deeds.Present t w;
       verdict = passed root h p Present alive.last alive.lives (λ no. no) (λ no. no) (λ no. no) (λ no. no) (λ no. no) w.fits (λ no. no);
-      changes = record { actor = refl; other = refl; report = refl };
+      changes = record { reports = refl; other = refl; report = refl };
     })
 
 pub makes_send : (root : Name) (h : History) (p m y : Name) (a : Alive) (t : Stamp) (made : Made) → IsAlive root h p a → IsEventMade a.stamp.now t
@@ -85,7 +85,7 @@ makes_send root h p m y a t made alive event free is_y is = subst (λ (made' : M
       stamped = (refl, w.event);
       allowed = (own_work alive.last p (deeds.Send m) t w, free);
       verdict = passed root h p (Send m) alive.last alive.lives (λ no. no) (λ no. no) (λ taken. taken free) (λ no. no) (λ no. no) w.fits (λ no. no);
-      changes = record { actor = ap (λ (n : ℕ). Lives t n) alive.reports; other = refl; report = refl };
+      changes = record { reports = alive.reports; other = refl; report = refl };
     })
 
 pub makes_receive : (root : Name) (h : History) (p m y : Name) (a : Alive) (t : Stamp) (came : EventTree) (sent : Event) (made : Made) → IsAlive root h p a
@@ -108,7 +108,7 @@ makes_receive root h p m y a t came sent made alive is_sent is_came receive is_y
       };
       verdict = passed root h p (Receive m) alive.last alive.lives (λ no. no) (λ no. no) (λ no. no) (λ none. none_sent sent (sym is_sent ∙ none)) (λ no. no)
           (λ full. w.fits (full.1, subst (λ (e : Event). IsNormalJoin alive.last.values e.values full.1) (same_sent full.0 sent (sym full.2 ∙ is_sent)) full.3, full.4)) (λ no. no);
-      changes = record { actor = ap (λ (n : ℕ). Lives t n) alive.reports; other = refl; report = refl };
+      changes = record { reports = alive.reports; other = refl; report = refl };
     })
   where
     none_sent : (e : Event) → Some e ≢ None
@@ -119,13 +119,13 @@ makes_receive root h p m y a t came sent made alive is_sent is_came receive is_y
 
 -- the step of a fork, of a retirement and of an absorption, of the parts that are made for it
 abbrev pub forking : Name → Stamp → ForkParts → Name → Name → Stamp → Made
-forking p t v y x b = openly p (deeds.Fork y v.given) t (Lives v.kept v.number) (Some (record { name = x; known = Lives b 0 })) v.number v.reported v.action
+forking p t v y x b = openly p (deeds.Fork y v.given) t (Some (record { name = x; known = Born b })) v.number v.reported v.action
 
-abbrev pub retiring : Name → Stamp → NextReport → Name → Name → Name → Made
-retiring p t v x y z = openly p (deeds.Retire x) t (Waits v.kept y) None v.number v.reported (acts.Retire z)
+abbrev pub retiring : Name → Stamp → NextReport → Name → Name → Made
+retiring p t v x z = openly p (deeds.Retire x) t None v.number v.reported (acts.Retire z)
 
 abbrev pub absorbing : Name → Stamp → NextReport → Name → Name → Name → Made
-absorbing p t v x y z = openly p (deeds.Absorb x) t (Lives v.kept v.number) (Some (record { name = y; known = Gone })) v.number v.reported (acts.Absorb z)
+absorbing p t v x y z = openly p (deeds.Absorb x) t (Some (record { name = y; known = Gone })) v.number v.reported (acts.Absorb z)
 
 pub makes_fork : (root : Name) (h : History) (p c x y : Name) (a : Alive) (t begun : Stamp) (parts : ForkParts) (made : Made)
     → IsAlive root h p a → status root h c ≡ Unborn → IsForkMade a.stamp.now t begun → parts ≡ parts_after a.reports a.stamp.now.id t c begun.id → x ≡ c → y ≡ c
@@ -148,7 +148,7 @@ makes_fork root h p c x y a t begun parts made alive unborn fork parted is_x is_
         together = w.split.together;
       };
       verdict = passed root h p (Fork c) alive.last alive.lives (λ no. no) (λ no. no) (λ taken. taken unborn) (λ no. no) (λ no. no) w.fits w.shallow;
-      changes = record { actor = refl; other = refl; report = refl };
+      changes = record { reports = refl; other = refl; report = refl };
     })
   where
     begun_is : begun ≡ record { id = begun.id; events = t.events }
@@ -165,10 +165,10 @@ makes_fork root h p c x y a t begun parts made alive unborn fork parted is_x is_
         ∙ (ap (λ (v : Name). forking p t (parts_after (reporting_steps p h) (id_of (status root h p)) t c begun.id) c v begun) is_x
         ∙ ap (λ (v : Stamp). forking p t (parts_after (reporting_steps p h) (id_of (status root h p)) t c begun.id) c c v) begun_is))
 
-pub makes_retire : (root : Name) (h : History) (p q x y z : Name) (a : Alive) (t : Stamp) (c : NextReport) (made : Made)
-    → IsAlive root h p a → IsEventMade a.stamp.now t → status root h q ≢ Unborn → q ≢ p → c ≡ report_after a.reports t → x ≡ q → y ≡ q → z ≡ q
-    → made ≡ retiring p t c x y z → Makes root h p (Retire q) made
-makes_retire root h p q x y z a t c made alive event born other count is_x is_y is_z is =
+pub makes_retire : (root : Name) (h : History) (p q x z : Name) (a : Alive) (t : Stamp) (c : NextReport) (made : Made)
+    → IsAlive root h p a → IsEventMade a.stamp.now t → status root h q ≢ Unborn → q ≢ p → c ≡ report_after a.reports t → x ≡ q → z ≡ q
+    → made ≡ retiring p t c x z → Makes root h p (Retire q) made
+makes_retire root h p q x z a t c made alive event born other count is_x is_z is =
     subst (λ (made' : Made). Makes root h p (Retire q) made') (sym (is ∙ same))
     (let w = from_last a.stamp.now t alive.last alive.stamp event in record {
       process = refl;
@@ -177,15 +177,14 @@ makes_retire root h p q x y z a t c made alive event born other count is_x is_y 
       stamped = (refl, w.event);
       allowed = (own_work alive.last p (deeds.Retire q) t w, other);
       verdict = passed root h p (Retire q) alive.last alive.lives born other (λ no. no) (λ no. no) (λ no. no) w.fits (λ no. no);
-      changes = record { actor = refl; other = refl; report = refl };
+      changes = record { reports = refl; other = refl; report = refl };
     })
   where
-    same : retiring p t c x y z ≡ retiring p t (report_after (reporting_steps p h) t) q q q
+    same : retiring p t c x z ≡ retiring p t (report_after (reporting_steps p h) t) q q
     same =
-        ap (λ (v : NextReport). retiring p t v x y z) (counts root h p a t c alive count)
-        ∙ (ap (λ (v : Name). retiring p t (report_after (reporting_steps p h) t) v y z) is_x
-        ∙ (ap (λ (v : Name). retiring p t (report_after (reporting_steps p h) t) q v z) is_y
-        ∙ ap (λ (v : Name). retiring p t (report_after (reporting_steps p h) t) q q v) is_z))
+        ap (λ (v : NextReport). retiring p t v x z) (counts root h p a t c alive count)
+        ∙ (ap (λ (v : Name). retiring p t (report_after (reporting_steps p h) t) v z) is_x
+        ∙ ap (λ (v : Name). retiring p t (report_after (reporting_steps p h) t) q v) is_z)
 
 pub makes_absorb : (root : Name) (h : History) (p r x y z : Name) (a : Alive) (retired t : Stamp) (e : Event) (c : NextReport) (made : Made)
     → IsAlive root h p a → status root h r ≡ Retired e p → retired ≡ stamp_of e → IsAbsorbMade a.stamp.now retired t → c ≡ report_after a.reports t → x ≡ r → y ≡ r → z ≡ r
@@ -208,7 +207,7 @@ makes_absorb root h p r x y z a retired t e c made alive waits is_retired absorb
         together = w.absorb.together;
       };
       verdict = passed root h p (Absorb r) alive.last alive.lives (λ no. no) (λ no. no) (λ no. no) (λ no. no) (λ none. none e waits) w.fits (λ no. no);
-      changes = record { actor = refl; other = refl; report = refl };
+      changes = record { reports = refl; other = refl; report = refl };
     })
   where
     same : absorbing p t c x y z ≡ absorbing p t (report_after (reporting_steps p h) t) r r r

@@ -1,6 +1,6 @@
 -- What is kept stays in step with the history.
 use Rattle.std.proofs.Common.{◌≡◌, ◌≢◌, ℕ, suc, ◌+◌, Bool, true, false, Option, Some, None, List, [], ◌∷◌, ◌++◌, length, All, refl, sym, ◌∙◌, ap, subst, append-nil, inl, inr, arith}
-use Rattle.std.specs.Prelude.{if◌then◌else◌, ◌&&◌, reverse, IsTrue}
+use Rattle.std.specs.Prelude.{if◌then◌else◌, ◌&&◌, reverse, slice_get, IsTrue}
 use Rattle.std.specs.Option.{option_map}
 use Rattle.std.specs.List.{cons_option}
 use Rattle.std.specs.Str.{bytes_eq}
@@ -25,14 +25,14 @@ use Rattle.histories.proofs.Bytes.{bytes_same, bytes_other, bytes_are}
 use Rattle.histories.proofs.Status.{status_acts, status_others}
 use Rattle.histories.proofs.Reported.{unborn_reports}
 use Rattle.histories.proofs.Steps.{fork_of}
-use Rattle.driver.proofs.Places.{events_stay, events_here}
+use Rattle.driver.proofs.Places.{here, events_stay, events_here, standing_stays}
 use Rattle.driver.specs.declared.known.Known.{Known}
-use Rattle.driver.specs.declared.known.Known.TheVariants.{Lives, Gone}
+use Rattle.driver.specs.declared.known.Known.TheVariants.{Born, Gone}
 use Rattle.driver.specs.declared.tables.Tables.{Tables}
 use Rattle.driver.specs.declared.tables.Other.{Other}
 use Rattle.driver.specs.Made.{Made}
 use Rattle.driver.specs.Making.{IsReady, HasLineOf, Adds}
-use Rattle.driver.specs.Tables.{AreSound, history_in, events_at, shown, carried, kept_of_actor, kept_of_other, noted_other, noted_message}
+use Rattle.driver.specs.Tables.{AreSound, history_in, LivesWith, WaitsWith, standing, events_at, shown, carried, reports_after, kept_of_actor, kept_of_other, noted_other, noted_message}
 
 -- the stamp 1;0
 abbrev pub first_stamp : Stamp
@@ -47,18 +47,25 @@ flipped p q =
     ]
 
 -- the actor
-more : (s : Stamp) (n : ℕ) → Some (Lives s (n + 1)) ≡ Some (Lives s (suc n))
-more s n = (let up : n + 1 ≡ suc n = omega arith in ap (λ (k : ℕ). Some (Lives s k)) up)
+more : (d : Deed) (n : ℕ) → reports_after d n ≡ (if is_reported d then suc n else n)
+more d n = (let up : n + 1 ≡ suc n = omega arith in ap (λ (k : ℕ). if is_reported d then k else n) up)
 
-actor_shown : (h : History) (s : Taken) (a : Deed) (n : ℕ) → Some (kept_of_actor a s.stamp n) ≡ shown (status_of_actor a (event_of h s)) (if is_reported a then suc n else n)
-actor_shown h s Work n = refl
-actor_shown h s Check n = more s.stamp n
-actor_shown h s Present n = more s.stamp n
-actor_shown h s (Send m) n = refl
-actor_shown h s (Receive m) n = refl
-actor_shown h s (Fork c i) n = more s.stamp n
-actor_shown h s (Retire q) n = refl
-actor_shown h s (Absorb r) n = more s.stamp n
+actor_shown : (steps : List Taken) (place : ℕ) (h : History) (s : Taken) (a : Deed) (n : ℕ) → slice_get steps place ≡ Some s
+    → Some (standing steps (kept_of_actor a place n)) ≡ shown (status_of_actor a (event_of h s)) n
+actor_shown steps place h s a n at = by_deed a
+  where
+    lives : Some (option_map (λ x. LivesWith x.stamp n) (slice_get steps place)) ≡ Some (Some (LivesWith s.stamp n))
+    lives = ap (λ (o : Option Taken). Some (option_map (λ x. LivesWith x.stamp n) o)) at
+
+    by_deed : (d : Deed) → Some (standing steps (kept_of_actor d place n)) ≡ shown (status_of_actor d (event_of h s)) n
+    by_deed Work = lives
+    by_deed Check = lives
+    by_deed Present = lives
+    by_deed (Send m) = lives
+    by_deed (Receive m) = lives
+    by_deed (Fork c i) = lives
+    by_deed (Retire q) = ap (λ (o : Option Taken). Some (option_map (λ x. WaitsWith x.stamp q) o)) at
+    by_deed (Absorb r) = lives
 
 counted : (a b : Bool) (n : ℕ) → a ≡ true → (if a && b then suc n else n) ≡ (if b then suc n else n)
 counted true b n is = refl
@@ -69,53 +76,57 @@ uncounted true b n is = absurd (cc)
 uncounted false b n is = refl
 
 -- another process: a child begins without reports
-other_shown : (root : Name) (h : History) (s : Taken) (p : Name) (a : Deed) → ((c : Name) (i : IdTree) → a ≡ Fork c i → status root h c ≡ Unborn)
-    → noted_other (kept_of_other a s.stamp) p (shown (status root h p) (reporting_steps p h)) ≡ shown (status_of_other h s a p (status root h p)) (reporting_steps p h)
-other_shown root h s p Work child = refl
-other_shown root h s p Check child = refl
-other_shown root h s p Present child = refl
-other_shown root h s p (Send m) child = refl
-other_shown root h s p (Receive m) child = refl
-other_shown root h s p (Retire q) child = refl
-other_shown root h s p (Fork c i) child =
+other_shown : (steps : List Taken) (root : Name) (h : History) (s : Taken) (p : Name) (kept : Option Known) (a : Deed)
+    → ((c : Name) (i : IdTree) → a ≡ Fork c i → status root h c ≡ Unborn) → option_map (standing steps) kept ≡ shown (status root h p) (reporting_steps p h)
+    → option_map (standing steps) (noted_other (kept_of_other a s.stamp) p kept) ≡ shown (status_of_other h s a p (status root h p)) (reporting_steps p h)
+other_shown steps root h s p kept Work child is_kept = is_kept
+other_shown steps root h s p kept Check child is_kept = is_kept
+other_shown steps root h s p kept Present child is_kept = is_kept
+other_shown steps root h s p kept (Send m) child is_kept = is_kept
+other_shown steps root h s p kept (Receive m) child is_kept = is_kept
+other_shown steps root h s p kept (Retire q) child is_kept = is_kept
+other_shown steps root h s p kept (Fork c i) child is_kept =
     elim (cases_Bool (bytes_eq c p)) [
       | inl is ↦
           (let none : reporting_steps p h ≡ 0 = unborn_reports root h p (ap (status root h) (sym (bytes_are c p is)) ∙ child c i refl) in
-          cond-true (bytes_eq c p) _ _ is
-          ∙ (ap (λ (n : ℕ). Some (Lives (record { id = i; events = s.stamp.events }) n)) (sym none)
+          ap (option_map (standing steps)) (cond-true (bytes_eq c p) (Some (Born (record { id = i; events = s.stamp.events }))) kept is)
+          ∙ (ap (λ (n : ℕ). Some (Some (LivesWith (record { id = i; events = s.stamp.events }) n))) (sym none)
           ∙ ap (λ (now : Status). shown now (reporting_steps p h)) (sym (cond-true (bytes_eq p c) (Living (birth_by h s c i)) (status root h p) (flipped p c ∙ is)))))
       | inr differs ↦
-          cond-false (bytes_eq c p) _ _ differs
-          ∙ ap (λ (now : Status). shown now (reporting_steps p h)) (sym (cond-false (bytes_eq p c) (Living (birth_by h s c i)) (status root h p) (flipped p c ∙ differs)))
+          ap (option_map (standing steps)) (cond-false (bytes_eq c p) (Some (Born (record { id = i; events = s.stamp.events }))) kept differs)
+          ∙ (is_kept ∙ ap (λ (now : Status). shown now (reporting_steps p h)) (sym (cond-false (bytes_eq p c) (Living (birth_by h s c i)) (status root h p) (flipped p c ∙ differs))))
     ]
-other_shown root h s p (Absorb r) child =
-    ap (λ (b : Bool). if b then Some Gone else shown (status root h p) (reporting_steps p h)) (flipped r p)
-    ∙ absorbed_shown (bytes_eq p r) (status root h p) (reporting_steps p h)
+other_shown steps root h s p kept (Absorb r) child is_kept =
+    ap (λ (b : Bool). option_map (standing steps) (if b then Some Gone else kept)) (flipped r p)
+    ∙ absorbed_shown (bytes_eq p r) (status root h p) (reporting_steps p h) is_kept
   where
-    absorbed_shown : (b : Bool) (now : Status) (n : ℕ) → (if b then Some Gone else shown now n) ≡ shown (if b then Absorbed else now) n
-    absorbed_shown true now n = refl
-    absorbed_shown false now n = refl
+    absorbed_shown : (b : Bool) (now : Status) (n : ℕ) → option_map (standing steps) kept ≡ shown now n
+        → option_map (standing steps) (if b then Some Gone else kept) ≡ shown (if b then Absorbed else now) n
+    absorbed_shown true now n is = refl
+    absorbed_shown false now n is = is
 
-pub known_next : (root : Name) (h : History) (s : Taken) (p : Name) (kept : Option Known) → ((c : Name) (i : IdTree) → s.deed ≡ Fork c i → status root h c ≡ Unborn)
-    → kept ≡ shown (status root h p) (reporting_steps p h)
-    → (if bytes_eq s.process p then Some (kept_of_actor s.deed s.stamp (reporting_steps s.process h)) else noted_other (kept_of_other s.deed s.stamp) p kept)
+pub known_next : (steps : List Taken) (root : Name) (h : History) (s : Taken) (p : Name) (kept : Option Known) (n : ℕ)
+    → ((c : Name) (i : IdTree) → s.deed ≡ Fork c i → status root h c ≡ Unborn) → n ≡ reports_after s.deed (reporting_steps s.process h)
+    → option_map (standing steps) kept ≡ shown (status root h p) (reporting_steps p h)
+    → option_map (standing (steps ++ s ∷ [])) (if bytes_eq s.process p then Some (kept_of_actor s.deed (length steps) n) else noted_other (kept_of_other s.deed s.stamp) p kept)
     ≡ shown (status root (s ∷ h) p) (reporting_steps p (s ∷ h))
-known_next root h s p kept child is_kept =
+known_next steps root h s p kept n child count is_kept =
     elim (cases_Bool (bytes_eq s.process p)) [
       | inl is ↦
           (let same = bytes_are s.process p is in
-          cond-true (bytes_eq s.process p) _ _ is
-          ∙ (ap (λ (q : Name). Some (kept_of_actor s.deed s.stamp (reporting_steps q h))) same
-          ∙ (actor_shown h s s.deed (reporting_steps p h)
-          ∙ (ap (shown (status_of_actor s.deed (event_of h s))) (sym (counted (bytes_eq p s.process) (is_reported s.deed) (reporting_steps p h) (flipped p s.process ∙ is)))
-          ∙ ap (λ (now : Status). shown now (reporting_steps p (s ∷ h))) (sym (status_acts root h s p (sym same)))))))
+          let counts : n ≡ reporting_steps p (s ∷ h) =
+          count ∙ (ap (λ (q : Name). reports_after s.deed (reporting_steps q h)) same ∙ (more s.deed (reporting_steps p h)
+          ∙ sym (counted (bytes_eq p s.process) (is_reported s.deed) (reporting_steps p h) (flipped p s.process ∙ is)))) in
+          ap (option_map (standing (steps ++ s ∷ []))) (cond-true (bytes_eq s.process p) (Some (kept_of_actor s.deed (length steps) n)) (noted_other (kept_of_other s.deed s.stamp) p kept) is)
+          ∙ (actor_shown (steps ++ s ∷ []) (length steps) h s s.deed n (here steps s)
+          ∙ (ap (shown (status_of_actor s.deed (event_of h s))) counts
+          ∙ ap (λ (now : Status). shown now (reporting_steps p (s ∷ h))) (sym (status_acts root h s p (sym same))))))
       | inr differs ↦
           (let other : p ≢ s.process = λ e. true≢false (sym (bytes_same s.process p (sym e)) ∙ differs) in
-          cond-false (bytes_eq s.process p) _ _ differs
-          ∙ (ap (noted_other (kept_of_other s.deed s.stamp) p) is_kept
-          ∙ (other_shown root h s p s.deed child
+          ap (option_map (standing (steps ++ s ∷ []))) (cond-false (bytes_eq s.process p) (Some (kept_of_actor s.deed (length steps) n)) (noted_other (kept_of_other s.deed s.stamp) p kept) differs)
+          ∙ (other_shown (steps ++ s ∷ []) root h s p kept s.deed child (standing_stays steps s kept (status root h p) (reporting_steps p h) is_kept)
           ∙ (ap (shown (status_of_other h s s.deed p (status root h p))) (sym (uncounted (bytes_eq p s.process) (is_reported s.deed) (reporting_steps p h) (flipped p s.process ∙ differs)))
-          ∙ ap (λ (now : Status). shown now (reporting_steps p (s ∷ h))) (sym (status_others root h s p other))))))
+          ∙ ap (λ (now : Status). shown now (reporting_steps p (s ∷ h))) (sym (status_others root h s p other)))))
     ]
 
 -- a message
@@ -165,7 +176,7 @@ first_line root is = All-push HasLine [] (Begin root) (All-nil HasLine) (refl, i
 -- what holds of tables, with the root and the history as variables
 record Holds (t : Tables) (root : Name) (h : History) : Type 0 where
   pub lawful : IsLawful root h
-  pub known : (p : Name) → get bytes_eq t.known p ≡ shown (status root h p) (reporting_steps p h)
+  pub known : (p : Name) → option_map (standing t.steps.items) (get bytes_eq t.known p) ≡ shown (status root h p) (reporting_steps p h)
   pub messages : (m : Name) → option_map (events_at t.steps.items) (get bytes_eq t.messages m) ≡ carried (sending h m)
   pub lines : All HasLine (handed_over root h)
 
@@ -174,14 +185,14 @@ sound_of t root h is_root is_history w =
     let there = subst (λ (r : Name). Holds t r (history_in t)) (sym is_root) (subst (λ (g : History). Holds t root g) (sym is_history) w) in
     record { lawful = there.lawful; known = there.known; messages = there.messages; lines = there.lines }
 
-pub adds : (old new : Tables) (made : Made) (name : Name) (place : ℕ) (between : Name → Option Known) → AreSound old → IsReady old.root (history_in old) made
+pub adds : (old new : Tables) (made : Made) (name : Name) (place : ℕ) (after : Known) (between : Name → Option Known) → AreSound old → IsReady old.root (history_in old) made
     → ((q : Name) → between q ≡ noted_other made.other q (get bytes_eq old.known q))
     → name ≡ made.step.process
-    → ((q : Name) → get bytes_eq new.known q ≡ (if bytes_eq name q then Some made.after else between q))
+    → ((q : Name) → get bytes_eq new.known q ≡ (if bytes_eq name q then Some after else between q)) → after ≡ kept_of_actor made.step.deed place made.reports
     → place ≡ length old.steps.items → ((m : Name) → get bytes_eq new.messages m ≡ noted_message made.step.deed place m (get bytes_eq old.messages m))
     → new.steps.items ≡ old.steps.items ++ made.step ∷ [] → new.root ≡ old.root → new.epoch ≡ old.epoch → Adds old made.step new
-adds old new made name place between sound ready other is_name actor is_place message items root epoch =
-    record { root = root; epoch = epoch; history = history; sound = sound_of new old.root (s ∷ h) root history after }
+adds old new made name place after between sound ready other is_name actor is_after is_place message items root epoch =
+    record { root = root; epoch = epoch; history = history; sound = sound_of new old.root (s ∷ h) root history holds }
   where
     s : Taken
     s = made.step
@@ -192,14 +203,17 @@ adds old new made name place between sound ready other is_name actor is_place me
     history : history_in new ≡ s ∷ h
     history = ap reverse items ∙ reverse-append old.steps.items (s ∷ [])
 
-    known : (p : Name) → get bytes_eq new.known p ≡ shown (status old.root (s ∷ h) p) (reporting_steps p (s ∷ h))
+    known : (p : Name) → option_map (standing new.steps.items) (get bytes_eq new.known p) ≡ shown (status old.root (s ∷ h) p) (reporting_steps p (s ∷ h))
     known p =
-        actor p
-        ∙ (ap (λ (n : Name). if bytes_eq n p then Some made.after else between p) is_name
-        ∙ (ap (λ (k : Known). if bytes_eq s.process p then Some k else between p) ready.changes.actor
-        ∙ (ap (λ (o : Option Known). if bytes_eq s.process p then Some (kept_of_actor s.deed s.stamp (reporting_steps s.process h)) else o)
-        (other p ∙ ap (λ (o : Option Other). noted_other o p (get bytes_eq old.known p)) ready.changes.other)
-        ∙ known_next old.root h s p (get bytes_eq old.known p) (child_is_new old.root h ready.before s ready.allowed) (sound.known p))))
+        ap (option_map (standing new.steps.items))
+        (actor p
+        ∙ (ap (λ (n : Name). if bytes_eq n p then Some after else between p) is_name
+        ∙ (ap (λ (k : Known). if bytes_eq s.process p then Some k else between p) (is_after ∙ ap (λ (n : ℕ). kept_of_actor s.deed n made.reports) is_place)
+        ∙ ap (λ (o : Option Known). if bytes_eq s.process p then Some (kept_of_actor s.deed (length old.steps.items) made.reports) else o)
+        (other p ∙ ap (λ (o : Option Other). noted_other o p (get bytes_eq old.known p)) ready.changes.other))))
+        ∙ (ap (λ (l : List Taken). option_map (standing l) (if bytes_eq s.process p then Some (kept_of_actor s.deed (length old.steps.items) made.reports) else noted_other (kept_of_other s.deed s.stamp) p (get bytes_eq old.known p)))
+        items
+        ∙ known_next old.steps.items old.root h s p (get bytes_eq old.known p) made.reports (child_is_new old.root h ready.before s ready.allowed) ready.changes.reports (sound.known p))
 
     messages : (m : Name) → option_map (events_at new.steps.items) (get bytes_eq new.messages m) ≡ carried (sending (s ∷ h) m)
     messages m =
@@ -208,18 +222,19 @@ adds old new made name place between sound ready other is_name actor is_place me
         ∙ (ap (λ (l : List Taken). option_map (events_at l) (noted_message s.deed (length old.steps.items) m (get bytes_eq old.messages m))) items
         ∙ messages_next old.steps.items h s m (get bytes_eq old.messages m) (sound.messages m)))
 
-    after : Holds new old.root (s ∷ h)
-    after = record { lawful = next sound.lawful ready.living ready.allowed; known = known; messages = messages; lines = lines_next old.root h s sound.lines ready.line }
+    holds : Holds new old.root (s ∷ h)
+    holds = record { lawful = next sound.lawful ready.living ready.allowed; known = known; messages = messages; lines = lines_next old.root h s sound.lines ready.line }
 
 -- ---- the tables at the beginning
 
-root_shown : (root p : Name) (t : Stamp) → t ≡ first_stamp → (if bytes_eq root p then Some (Lives t 0) else None) ≡ shown (status root [] p) (reporting_steps p [])
+root_shown : (steps : List Taken) (root p : Name) (t : Stamp) → t ≡ first_stamp
+    → option_map (standing steps) (if bytes_eq root p then Some (Born t) else None) ≡ shown (status root [] p) (reporting_steps p [])
 unfolding status
-root_shown root p t is =
-    ap (λ (s : Stamp). if bytes_eq root p then Some (Lives s 0) else None) is
-    ∙ (ap (λ (b : Bool). if b then Some (Lives first_stamp 0) else None) (flipped root p) ∙ by_test (bytes_eq p root))
+root_shown steps root p t is =
+    ap (λ (s : Stamp). option_map (standing steps) (if bytes_eq root p then Some (Born s) else None)) is
+    ∙ (ap (λ (b : Bool). option_map (standing steps) (if b then Some (Born first_stamp) else None)) (flipped root p) ∙ by_test (bytes_eq p root))
   where
-    by_test : (b : Bool) → (if b then Some (Lives first_stamp 0) else None) ≡ shown (if b then Living (birth_of_root root) else Unborn) 0
+    by_test : (b : Bool) → option_map (standing steps) (if b then Some (Born first_stamp) else None) ≡ shown (if b then Living (birth_of_root root) else Unborn) 0
     by_test true = refl
     by_test false = refl
 
@@ -229,16 +244,17 @@ none_sent m = refl
 
 pub begins : (t : Tables) (first : Stamp) (name : Name) (before : Name → Option Known) → IsTrue (is_name t.root) → t.steps.items ≡ [] → first ≡ first_stamp → name ≡ t.root
     → ((q : Name) → before q ≡ None)
-    → ((q : Name) → get bytes_eq t.known q ≡ (if bytes_eq name q then Some (Lives first 0) else before q))
+    → ((q : Name) → get bytes_eq t.known q ≡ (if bytes_eq name q then Some (Born first) else before q))
     → ((q : Name) → get bytes_eq t.messages q ≡ None) → AreSound t
 begins t first name before is_named items is_first is_name none known messages =
     sound_of t t.root [] refl (ap reverse items) (record {
       lawful = start;
       known = λ p.
-          known p
-          ∙ (ap (λ (o : Option Known). if bytes_eq name p then Some (Lives first 0) else o) (none p)
-          ∙ (ap (λ (n : Name). if bytes_eq n p then Some (Lives first 0) else None) is_name
-          ∙ root_shown t.root p first is_first));
+          ap (option_map (standing t.steps.items))
+          (known p
+          ∙ (ap (λ (o : Option Known). if bytes_eq name p then Some (Born first) else o) (none p)
+          ∙ ap (λ (n : Name). if bytes_eq n p then Some (Born first) else None) is_name))
+          ∙ root_shown t.steps.items t.root p first is_first;
       messages = λ m. ap (option_map (events_at t.steps.items)) (messages m) ∙ sym (none_sent m);
       lines = first_line t.root is_named;
     })

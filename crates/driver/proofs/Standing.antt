@@ -6,7 +6,7 @@ use Rattle.std.specs.Str.{bytes_eq}
 use Rattle.std.proofs.lemmas.Bool.{cases_Bool, cond-true, cond-false, true≢false, cases_lt, eq-eqb, eqb-true, or_cases, and_from}
 use Rattle.std.proofs.lemmas.Bool.Decides.{eqb_tells}
 use Rattle.std.proofs.lemmas.List.{length-append, length-map}
-use Rattle.std.proofs.lemmas.Option.{slice_get-map}
+use Rattle.std.proofs.lemmas.Option.{none-some, same_Some, slice_get-map}
 use Rattle.stamp.specs.declared.stamp.Stamp.{Stamp}
 use Rattle.report_line.specs.declared.step.Deed.{Deed}
 use Rattle.report_line.specs.declared.step.Deed.TheVariants.{Work, Check, Present, Send, Receive, Fork, Retire, Absorb}
@@ -41,12 +41,6 @@ IsOf root h p x = Occurs root h x × (x.process ≡ p)
 none_at : (k : ℕ) (x : Event) → slice_get [] k ≡ Some x → ⊥
 none_at k x is = cc
 
-same_event : (x y : Event) → Some x ≡ Some y → x ≡ y
-same_event x y is = cc
-
-none_some : (x : Event) → (let o : Option Event = None in o ≡ Some x) → ⊥
-none_some x is = cc
-
 -- an event of a list that is there under a test
 if_there : (b : Bool) (e x : Event) (k : ℕ) → slice_get (if b then e ∷ [] else []) k ≡ Some x → (b ≡ true) × (e ≡ x)
 if_there true e x k is = (refl, (one_at e x k is).1)
@@ -77,14 +71,14 @@ present_by_occurs : (root : Name) (h : History) (s : Step) (p : Name) (d : Deed)
 present_by_occurs root h s p Work o x same before is = before is
 present_by_occurs root h s p (Send m) o x same before is = before is
 present_by_occurs root h s p (Receive m) o x same before is = before is
-present_by_occurs root h s p Present o x same before is = subst (IsOf root (s ∷ h) p) (same_event (event_of h s) x is) (step, sym same)
-present_by_occurs root h s p Check o x same before is = absurd (none_some x is)
-present_by_occurs root h s p (Fork c i) o x same before is = absurd (none_some x is)
-present_by_occurs root h s p (Retire q) o x same before is = absurd (none_some x is)
-present_by_occurs root h s p (Absorb r) o x same before is = absurd (none_some x is)
+present_by_occurs root h s p Present o x same before is = subst (IsOf root (s ∷ h) p) (same_Some (event_of h s) x is) (step, sym same)
+present_by_occurs root h s p Check o x same before is = absurd (none-some x is)
+present_by_occurs root h s p (Fork c i) o x same before is = absurd (none-some x is)
+present_by_occurs root h s p (Retire q) o x same before is = absurd (none-some x is)
+present_by_occurs root h s p (Absorb r) o x same before is = absurd (none-some x is)
 
 present_occurs : (root : Name) (h : History) (p : Name) (x : Event) → present_event h p ≡ Some x → IsOf root h p x
-present_occurs root [] p x is = absurd (none_some x is)
+present_occurs root [] p x is = absurd (none-some x is)
 present_occurs root (s ∷ h) p x is =
     let before : present_event h p ≡ Some x → IsOf root (s ∷ h) p x = λ there. (let w = present_occurs root h p x there in (earlier w.0, w.1)) in
     elim (cases_Bool (bytes_eq p s.process)) [

@@ -6,8 +6,6 @@ use Rattle.report_line.specs.declared.report.Report.{Report}
 use Rattle.report_line.specs.declared.step.Deed.{Deed}
 use Rattle.report_line.specs.History.{Name, History, status}
 use Rattle.report_line.specs.StepReports.{report_of}
-use Rattle.driver.specs.declared.known.Known.{Known}
-use Rattle.driver.specs.declared.known.Known.TheVariants.{Lives}
 use Rattle.driver.specs.declared.step.Step.{Step}
 use Rattle.driver.specs.declared.step.Act.{Act}
 use Rattle.driver.specs.declared.tables.Tables.{Tables}
@@ -27,28 +25,28 @@ same_history old new same = rw same.steps refl
 
 -- the report has no part in what is added
 unreported : (root : Name) (h : History) (made : Made) → IsReady root h made
-    → IsReady root h (record { step = made.step; after = made.after; other = made.other; report = None })
+    → IsReady root h (record { step = made.step; reports = made.reports; other = made.other; report = None })
 unreported root h made ready = record {
   before = ready.before;
   living = ready.living;
   allowed = ready.allowed;
-  changes = record { actor = ready.changes.actor; other = ready.changes.other };
+  changes = record { reports = ready.changes.reports; other = ready.changes.other };
   line = ready.line;
 }
 
-pub silently_ready : (old middle : Tables) (p x : Name) (act : Act) (d : Deed) (t k : Stamp) (n : ℕ) → Makes old.root (history_in old) p act (silently p d t n)
-    → IsSame old middle → x ≡ p → k ≡ t
-    → IsReady middle.root (history_in middle) (record { step = step_of x d t; after = Lives k n; other = None; report = None })
-silently_ready old middle p x act d t k n makes same is_x is_k =
-    rw (is_x, is_k) (ready_still old middle (silently p d t n) same (ready_made old.root (history_in old) p act (silently p d t n) makes (λ r none. absurd cc)))
+pub silently_ready : (old middle : Tables) (p x : Name) (act : Act) (d : Deed) (t : Stamp) (n : ℕ) → Makes old.root (history_in old) p act (silently p d t n)
+    → IsSame old middle → x ≡ p
+    → IsReady middle.root (history_in middle) (record { step = step_of x d t; reports = n; other = None; report = None })
+silently_ready old middle p x act d t n makes same is_x =
+    rw is_x (ready_still old middle (silently p d t n) same (ready_made old.root (history_in old) p act (silently p d t n) makes (λ r none. absurd cc)))
 
-pub openly_ready : (old middle : Tables) (p x y : Name) (act : Act) (d : Deed) (t : Stamp) (after : Known) (other : Option Other) (n : ℕ) (reported : Stamp) (a : Action)
-    → Makes old.root (history_in old) p act (openly p d t after other n reported a) → HasLineIfCounted (numbered y n reported a) → IsSame old middle → x ≡ p → y ≡ p
-    → IsReady middle.root (history_in middle) (record { step = step_of x d t; after = after; other = other; report = None })
-openly_ready old middle p x y act d t after other n reported a makes line same is_x is_y =
-    rw is_x (unreported middle.root (history_in middle) (openly p d t after other n reported a)
-    (ready_still old middle (openly p d t after other n reported a) same
-    (ready_made old.root (history_in old) p act (openly p d t after other n reported a) makes
+pub openly_ready : (old middle : Tables) (p x y : Name) (act : Act) (d : Deed) (t : Stamp) (other : Option Other) (n : ℕ) (reported : Stamp) (a : Action)
+    → Makes old.root (history_in old) p act (openly p d t other n reported a) → HasLineIfCounted (numbered y n reported a) → IsSame old middle → x ≡ p → y ≡ p
+    → IsReady middle.root (history_in middle) (record { step = step_of x d t; reports = n; other = other; report = None })
+openly_ready old middle p x y act d t other n reported a makes line same is_x is_y =
+    rw is_x (unreported middle.root (history_in middle) (openly p d t other n reported a)
+    (ready_still old middle (openly p d t other n reported a) same
+    (ready_made old.root (history_in old) p act (openly p d t other n reported a) makes
     (λ r is. subst HasLineIfCounted (ap (λ (z : Name). numbered z n reported a) is_y ∙ some_report r is) line))))
   where
     some_report : (r : Report) → Some (numbered p n reported a) ≡ Some r → numbered p n reported a ≡ r
@@ -88,11 +86,11 @@ pub silently_taken : (old middle new : Tables) (asked : Step) (x : Name) (d : De
 silently_taken old middle new asked x d t n makes same is_x added =
     step_taken old middle new asked (silently asked.process d t n) None makes same (subst (λ (z : Name). Adds middle (step_of z d t) new) is_x added) refl
 
-pub openly_taken : (old middle new : Tables) (asked : Step) (x y : Name) (d : Deed) (t : Stamp) (after : Known) (other : Option Other) (n : ℕ) (reported : Stamp) (a : Action)
-    → Makes old.root (history_in old) asked.process asked.act (openly asked.process d t after other n reported a) → IsSame old middle → x ≡ asked.process → y ≡ asked.process
+pub openly_taken : (old middle new : Tables) (asked : Step) (x y : Name) (d : Deed) (t : Stamp) (other : Option Other) (n : ℕ) (reported : Stamp) (a : Action)
+    → Makes old.root (history_in old) asked.process asked.act (openly asked.process d t other n reported a) → IsSame old middle → x ≡ asked.process → y ≡ asked.process
     → Adds middle (step_of x d t) new → IsStepTaken old asked new (Ok (Some (numbered y n reported a)))
-openly_taken old middle new asked x y d t after other n reported a makes same is_x is_y added =
-    step_taken old middle new asked (openly asked.process d t after other n reported a) (Some (numbered y n reported a)) makes same
+openly_taken old middle new asked x y d t other n reported a makes same is_x is_y added =
+    step_taken old middle new asked (openly asked.process d t other n reported a) (Some (numbered y n reported a)) makes same
     (subst (λ (z : Name). Adds middle (step_of z d t) new) is_x added) (ap (λ (z : Name). Some (numbered z n reported a)) is_y)
 
 -- a step that is refused leaves all as it was

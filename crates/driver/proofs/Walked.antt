@@ -6,7 +6,7 @@ use Rattle.std.specs.Str.{bytes_eq}
 use Rattle.std.proofs.lemmas.Bool.{cases_Bool, cond-true, cond-false}
 use Rattle.std.proofs.lemmas.Bool.Decides.{eqb_tells}
 use Rattle.std.proofs.lemmas.List.{append-nil, length-append}
-use Rattle.std.proofs.lemmas.Option.{slice_get_within}
+use Rattle.std.proofs.lemmas.Option.{none-some, same_Some, slice_get_within}
 use Rattle.id_tree.specs.IdTree.{IdTree}
 use Rattle.report_line.specs.declared.step.Deed.{Deed}
 use Rattle.report_line.specs.declared.step.Deed.TheVariants.{Work, Check, Present, Send, Receive, Fork, Retire, Absorb}
@@ -27,19 +27,10 @@ pub record Noted (f : Mark) (L : List Event) (P : Option Event) (b : Bool) (m : 
   pub present : m.present ≡ option_map (λ x. x.number) P
   pub retired : m.retired ≡ b
 
-none_event : (x : Event) → (let o : Option Event = None in o ≡ Some x) → ⊥
-none_event x is = cc
-
 module _ {X : Type 0} where
-  same_item : (x y : X) → Some x ≡ Some y → x ≡ y
-  same_item x y is = cc
-
-  no_item : (x : X) → (let o : Option X = None in o ≡ Some x) → ⊥
-  no_item x is = cc
-
   pub one_at : (y x : X) (i : ℕ) → slice_get (y ∷ []) i ≡ Some x → (i ≡ 0) × (y ≡ x)
-  one_at y x zero is = (refl, same_item y x is)
-  one_at y x (suc i) is = absurd (no_item x is)
+  one_at y x zero is = (refl, same_Some y x is)
+  one_at y x (suc i) is = absurd (none-some x is)
 
   pub after_one : (L : List X) (y x : X) (j : ℕ) → slice_get (L ++ y ∷ []) j ≡ Some x → (slice_get L j ≡ Some x) ⊎ ((j ≡ length L) × (y ≡ x))
   after_one L y x j is =
@@ -155,7 +146,7 @@ fresh_noted f w = record {
   position = refl;
   failed = refl;
   missing = omega arith;
-  newest = λ j x want at. absurd (none_event x at);
+  newest = λ j x want at. absurd (none-some x at);
   present = w.present;
   retired = w.retired;
 }

@@ -3,33 +3,27 @@ use Rattle.std.specs.Prelude.{◌≡◌, ℕ, Bool, true, false, Option, Some}
 use Rattle.std.specs.Option.{is_some}
 use Rattle.std.specs.Str.{bytes_eq}
 use Rattle.indexmap.specs.IndexMap.{get}
-use Rattle.stamp.specs.declared.stamp.Stamp.{Stamp}
 use Rattle.report_line.specs.declared.step.Deed.{Deed}
-use Rattle.report_line.specs.declared.step.Deed.TheVariants.{Receive, Fork, Retire, Absorb}
+use Rattle.report_line.specs.declared.step.Deed.TheVariants.{Receive, Fork, Absorb}
 use Rattle.report_line.specs.declared.step.Step.{Step as Taken}
 use Rattle.report_line.specs.History.{Name, History}
 use Rattle.settled_histories.specs.Kept.{Cut, IsClosed, kept}
 use Rattle.driver.specs.declared.known.Known.{Known}
-use Rattle.driver.specs.declared.known.Known.TheVariants.{Lives, Waits}
+use Rattle.driver.specs.declared.known.Known.TheVariants.{Waits}
 use Rattle.driver.specs.declared.tables.Tables.{Tables}
 use Rattle.driver.specs.Made.{Made}
 use Rattle.driver.specs.Marks.{Marks, reached}
-use Rattle.driver.specs.Tables.{AreSound, history_in, kept_of_actor, kept_of_other}
-
--- what is kept of a process after its deed, with so many reports then
-abbrev pub after_by : Deed → Stamp → ℕ → Known
-after_by (Retire q) s n = Waits s q
-after_by _ s n = Lives s n
+use Rattle.driver.specs.Tables.{AreSound, history_in, reports_after, kept_of_other}
 
 -- the step, with what it changes where its process made n reports before
 pub record IsRemade (s : Taken) (n : ℕ) (made : Made) : Type 0 where
   pub step : made.step ≡ s
-  pub actor : made.after ≡ kept_of_actor s.deed s.stamp n
+  pub reports : made.reports ≡ reports_after s.deed n
   pub other : made.other ≡ kept_of_other s.deed s.stamp
 
 -- a retirement of the process waits
 abbrev pub is_waiting : Option Known → Bool
-is_waiting (Some (Waits s q)) = true
+is_waiting (Some (Waits place q)) = true
 is_waiting _ = false
 
 -- by these tables, what is received was sent, and what is absorbed retired

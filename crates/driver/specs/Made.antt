@@ -7,15 +7,13 @@ use Rattle.report_line.specs.declared.report.Report.{Report}
 use Rattle.report_line.specs.declared.report.Report.TheVariants.{Numbered}
 use Rattle.report_line.specs.declared.step.Deed.{Deed}
 use Rattle.report_line.specs.declared.step.Step.{Step as Taken}
-use Rattle.driver.specs.declared.known.Known.{Known}
-use Rattle.driver.specs.declared.known.Known.TheVariants.{Lives}
 use Rattle.driver.specs.declared.tables.Other.{Other}
 use Rattle.driver.specs.declared.tables.Remade.{Remade}
 
--- a step, how its process stands then, another process that it changes, and its report
+-- a step, how many reports its process has then, another process that it changes, and its report
 pub record Made : Type 0 where
   pub step : Taken
-  pub after : Known
+  pub reports : ℕ
   pub other : Option Other
   pub report : Option Report
 
@@ -29,11 +27,11 @@ numbered p n s a = Numbered (record { process = p; number = n; stamp = s; action
 
 -- a step that is not reported, and one that is
 abbrev pub silently : Name → Deed → Stamp → ℕ → Made
-silently p d t n = record { step = step_of p d t; after = Lives t n; other = None; report = None }
+silently p d t n = record { step = step_of p d t; reports = n; other = None; report = None }
 
-abbrev pub openly : Name → Deed → Stamp → Known → Option Other → ℕ → Stamp → Action → Made
-openly p d t after other n reported a = record { step = step_of p d t; after = after; other = other; report = Some (numbered p n reported a) }
+abbrev pub openly : Name → Deed → Stamp → Option Other → ℕ → Stamp → Action → Made
+openly p d t other n reported a = record { step = step_of p d t; reports = n; other = other; report = Some (numbered p n reported a) }
 
 -- one that is made once more, which is not reported again
 abbrev pub again : Remade → Made
-again r = record { step = r.step; after = r.after; other = r.other; report = None }
+again r = record { step = r.step; reports = r.reports; other = r.other; report = None }

@@ -62,7 +62,7 @@ EventTold s (Err f) = (f ≡ faults.Memory) ⊎ ((f ≡ faults.ClockFull) × Pas
 
 -- what a report at a stamp takes, the next one after so many
 abbrev pub report_after : ℕ → Stamp → NextReport
-report_after n t = record { number = n + 1; reported = t; kept = t }
+report_after n t = record { number = n + 1; reported = t }
 
 -- an event, and what its report takes
 abbrev pub WorkTold : Stamp → ℕ → Result (Stamp × NextReport) StepFault → Type 0
@@ -76,7 +76,6 @@ parts_after n id kept child given = record {
   reported = record { id = id; events = kept.events };
   action = acts.Fork (record { kept = kept.id; child = child; given = given });
   given = given;
-  kept = kept;
 }
 
 -- halves of an id after an event, or why there are none

@@ -18,9 +18,8 @@ pub(crate) fn begun(alloc: Global, root: Name, epoch: u32) -> Result<Tables, All
     let _name = root.as_bytes();
     let mut known = IndexMap::new(alloc);
     known.reserve(1)?;
-    let now = Known::Lives {
+    let now = Known::Born {
         stamp: Stamp::first(alloc),
-        reports: 0,
     };
     note(&mut known, root.copy(), now);
     Ok(Tables {

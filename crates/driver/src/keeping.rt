@@ -30,6 +30,7 @@ fn waits(tables: &Tables, process: &Name) -> bool
 {
     match tables.known.get(process) {
         None => false,
+        Some(Known::Born { .. }) => false,
         Some(Known::Lives { .. }) => false,
         Some(Known::Waits { .. }) => true,
         Some(Known::Gone) => false,
@@ -89,10 +90,10 @@ fn keep(alloc: Global, tables: &mut Tables, step: &Taken) -> Result<(), StepFaul
     };
     let Remade {
         step: kept,
-        after,
+        reports,
         other,
     } = made;
-    add(tables, kept, after, other);
+    add(tables, kept, reports, other);
     Ok(())
 }
 

@@ -25,22 +25,20 @@ pub(crate) struct Alive<'a> {
     pub(crate) reports: u32,
 }
 
-/// What the next report of a process takes: its number, and the stamp twice, for the report and for what stays known.
+/// What the next report of a process takes: its number, and its stamp.
 #[derive(Drop)]
 pub(crate) struct NextReport {
     pub(crate) number: u32,
     pub(crate) reported: Stamp,
-    pub(crate) kept: Stamp,
 }
 
-/// What a fork takes: number, stamp and action of its report, the part of the id for the deed, and the stamp that stays known.
+/// What a fork takes: number, stamp and action of its report, and the part of the id for the deed.
 #[derive(Drop)]
 pub(crate) struct ForkParts {
     pub(crate) number: u32,
     pub(crate) reported: Stamp,
     pub(crate) action: Action,
     pub(crate) given: Id,
-    pub(crate) kept: Stamp,
 }
 
 // The process, where it lives.
@@ -50,8 +48,9 @@ pub(crate) fn living<'a>(tables: &'a Tables, process: &Name) -> Result<Alive<'a>
 {
     match tables.known.get(process) {
         None => Err(StepFault::Unknown),
-        Some(Known::Lives { stamp, reports }) => Ok(Alive {
-            stamp,
+        Some(Known::Born { stamp }) => Ok(Alive { stamp, reports: 0 }),
+        Some(Known::Lives { step, reports }) => Ok(Alive {
+            stamp: &tables.steps[*step].stamp,
             reports: *reports,
         }),
         Some(Known::Waits { .. }) => Err(StepFault::Retired),
@@ -100,10 +99,11 @@ fn retirement<'a>(tables: &'a Tables, process: &Name, retired: &Name) -> Option<
 {
     match tables.known.get(retired) {
         None => None,
+        Some(Known::Born { .. }) => None,
         Some(Known::Lives { .. }) => None,
-        Some(Known::Waits { stamp, target }) => {
+        Some(Known::Waits { step, target }) => {
             if target.as_bytes() == process.as_bytes() {
-                Some(stamp)
+                Some(&tables.steps[*step].stamp)
             } else {
                 None
             }
@@ -170,30 +170,14 @@ pub(crate) fn next_number(reports: u32) -> Result<u32, StepFault>
     Ok(reports + 1)
 }
 
-// The same stamp twice.
-pub(crate) fn twice(alloc: Global, stamp: &Stamp) -> Result<(Stamp, Stamp), AllocError>
-    ensures { IfOk result (λ both. both ≡ (stamp.now, stamp.now)) }
-{
-    let first = stamp.copy(alloc)?;
-    let Ok(second) = stamp.copy(alloc) else {
-        drop(first);
-        return Err(AllocError);
-    };
-    Ok((first, second))
-}
-
 // What a report at this stamp takes, the next one after so many.
 fn next_report(alloc: Global, reports: u32, stamp: &Stamp) -> Result<NextReport, StepFault>
     ensures ok { IfOk result (λ r. r ≡ report_after reports stamp.now) }
     ensures err { IfErr result (λ f. f ≡ StepFault.Memory) }
 {
     let number = next_number(reports)?;
-    let (reported, kept) = twice(alloc, stamp)?;
-    Ok(NextReport {
-        number,
-        reported,
-        kept,
-    })
+    let reported = stamp.copy(alloc)?;
+    Ok(NextReport { number, reported })
 }
 
 // The same, and the name that is reported, in a block of its own.
@@ -230,11 +214,11 @@ fn worked(alloc: Global, stamp: &Stamp, reports: u32) -> Result<(Stamp, NextRepo
 
 // A child that begins with this stamp.
 fn born(child: &Name, stamp: Stamp) -> Other
-    ensures { result ≡ record { name = child.now; known = Known.Lives stamp 0 } }
+    ensures { result ≡ record { name = child.now; known = Known.Born stamp } }
 {
     Other {
         name: child.copy(),
-        known: Known::Lives { stamp, reports: 0 },
+        known: Known::Born { stamp },
     }
 }
 
@@ -274,15 +258,6 @@ fn fork_report(
     Ok((reported, action))
 }
 
-// The part that a child is given once more, and the stamp that stays known.
-fn fork_copies(alloc: Global, kept: &Stamp, given: &Id) -> Result<(Id, Stamp), AllocError>
-    ensures { IfOk result (λ c. c ≡ (given.now, kept.now)) }
-{
-    let given = given.copy(alloc)?;
-    let kept = kept.copy(alloc)?;
-    Ok((given, kept))
-}
-
 // What a fork takes that parts this id, where its report is the next one after so many.
 fn fork_parts(
     alloc: Global,
@@ -297,7 +272,7 @@ fn fork_parts(
 {
     let number = next_number(reports)?;
     let (reported, action) = fork_report(alloc, id, kept, child, given)?;
-    let Ok((given, kept)) = fork_copies(alloc, kept, given) else {
+    let Ok(given) = given.copy(alloc) else {
         drop(reported);
         drop(action);
         return Err(StepFault::Memory);
@@ -307,7 +282,6 @@ fn fork_parts(
         reported,
         action,
         given,
-        kept,
     })
 }
 
@@ -325,7 +299,7 @@ pub(crate) fn work(
     let alive = living(tables, &asked.process)?;
     let reports = alive.reports;
     let stamp = event(alloc, alive.stamp)?;
-    take_silently(alloc, tables, asked, Deed::Work, stamp, reports)
+    take_silently(tables, asked, Deed::Work, stamp, reports)
 }
 
 pub(crate) fn check(
@@ -339,16 +313,11 @@ pub(crate) fn check(
 {
     let alive = living(tables, &asked.process)?;
     let (stamp, report) = worked(alloc, alive.stamp, alive.reports)?;
-    let after = Known::Lives {
-        stamp: report.kept,
-        reports: report.number,
-    };
     take_openly(
         tables,
         asked,
         Deed::Check,
         stamp,
-        after,
         None,
         report.number,
         report.reported,
@@ -367,16 +336,11 @@ pub(crate) fn present(
 {
     let alive = living(tables, &asked.process)?;
     let (stamp, report) = worked(alloc, alive.stamp, alive.reports)?;
-    let after = Known::Lives {
-        stamp: report.kept,
-        reports: report.number,
-    };
     take_openly(
         tables,
         asked,
         Deed::Present,
         stamp,
-        after,
         None,
         report.number,
         report.reported,
@@ -403,7 +367,7 @@ pub(crate) fn send(
     let deed = Deed::Send {
         message: name.copy(),
     };
-    take_silently(alloc, tables, asked, deed, stamp, reports)
+    take_silently(tables, asked, deed, stamp, reports)
 }
 
 pub(crate) fn receive(
@@ -425,7 +389,7 @@ pub(crate) fn receive(
     let deed = Deed::Receive {
         message: name.copy(),
     };
-    take_silently(alloc, tables, asked, deed, stamp, reports)
+    take_silently(tables, asked, deed, stamp, reports)
 }
 
 pub(crate) fn fork(
@@ -462,16 +426,11 @@ pub(crate) fn fork(
         child: child.copy(),
         given: parts.given,
     };
-    let after = Known::Lives {
-        stamp: parts.kept,
-        reports: parts.number,
-    };
     take_openly(
         tables,
         asked,
         deed,
         stamp,
-        after,
         Some(born(child, begun)),
         parts.number,
         parts.reported,
@@ -504,16 +463,11 @@ pub(crate) fn retire(
     let deed = Deed::Retire {
         target: target.copy(),
     };
-    let after = Known::Waits {
-        stamp: report.kept,
-        target: target.copy(),
-    };
     take_openly(
         tables,
         asked,
         deed,
         stamp,
-        after,
         None,
         report.number,
         report.reported,
@@ -550,16 +504,11 @@ pub(crate) fn absorb(
         name: name.copy(),
         known: Known::Gone,
     };
-    let after = Known::Lives {
-        stamp: report.kept,
-        reports: report.number,
-    };
     take_openly(
         tables,
         asked,
         deed,
         stamp,
-        after,
         Some(other),
         report.number,
         report.reported,

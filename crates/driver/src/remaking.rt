@@ -1,14 +1,14 @@
 //! A step that was made, as it is added to other tables.
 
-ghost use Rattle.std.specs.Prelude.{◌≡◌, ◌+◌, ◌<◌, ◌^◌, true, IfOk, IfErr, OnOk, if◌then◌else◌};
+ghost use Rattle.std.specs.Prelude.{◌≡◌, ◌+◌, ◌<◌, ◌^◌, true, IfOk, IfErr, OnOk};
 ghost use Rattle.report_line.specs.StepReports.{is_reported};
-ghost use Rattle.driver.specs.Tables.{kept_of_other};
-ghost use Rattle.driver.specs.Keeping.{after_by, IsRemade};
+ghost use Rattle.driver.specs.Tables.{reports_after, kept_of_other};
+ghost use Rattle.driver.specs.Keeping.{IsRemade};
 ghost use Rattle.driver.specs.Made.{again};
 
 use crate::fault::StepFault;
 use crate::known::Known;
-use crate::making::{next_number, twice};
+use crate::making::next_number;
 use crate::tables::{Other, Remade};
 use report_line::{Deed, Name, Step as Taken};
 use stamp::Stamp;
@@ -45,7 +45,7 @@ fn copy_of(alloc: Global, deed: &Deed) -> Result<Deed, AllocError>
 
 // How many reports it made, with that of the deed.
 fn reports_with(deed: &Deed, reports: u32) -> Result<u32, StepFault>
-    ensures ok { IfOk result (λ n. n ≡ (if is_reported deed.now then reports + 1 else reports)) }
+    ensures ok { IfOk result (λ n. n ≡ reports_after deed.now reports) }
     ensures few { OnOk result (is_reported deed.now ≡ true → reports + 1 < 2 ^ 32) }
     ensures err { IfErr result (λ f. f ≡ StepFault.Memory) }
 {
@@ -58,25 +58,6 @@ fn reports_with(deed: &Deed, reports: u32) -> Result<u32, StepFault>
         Deed::Fork { .. } => next_number(reports),
         Deed::Retire { .. } => next_number(reports),
         Deed::Absorb { .. } => next_number(reports),
-    }
-}
-
-// What is kept of the process, with so many reports.
-fn after_of(deed: &Deed, stamp: Stamp, reports: u32) -> Known
-    ensures { result ≡ after_by deed.now stamp reports }
-{
-    match deed {
-        Deed::Work => Known::Lives { stamp, reports },
-        Deed::Check => Known::Lives { stamp, reports },
-        Deed::Present => Known::Lives { stamp, reports },
-        Deed::Send { .. } => Known::Lives { stamp, reports },
-        Deed::Receive { .. } => Known::Lives { stamp, reports },
-        Deed::Fork { .. } => Known::Lives { stamp, reports },
-        Deed::Retire { target } => Known::Waits {
-            stamp,
-            target: target.copy(),
-        },
-        Deed::Absorb { .. } => Known::Lives { stamp, reports },
     }
 }
 
@@ -94,9 +75,8 @@ fn other_of(alloc: Global, step: &Taken) -> Result<Option<Other>, AllocError>
             let events = step.stamp.events.copy(alloc)?;
             Ok(Some(Other {
                 name: child.copy(),
-                known: Known::Lives {
+                known: Known::Born {
                     stamp: Stamp { id, events },
-                    reports: 0,
                 },
             }))
         }
@@ -118,25 +98,23 @@ pub(crate) fn remade(alloc: Global, step: &Taken, reports: u32) -> Result<Remade
         Ok(reports) => reports,
         Err(fault) => return Err(fault),
     };
-    let (stamp, own) = twice(alloc, &step.stamp)?;
+    let stamp = step.stamp.copy(alloc)?;
     let Ok(deed) = copy_of(alloc, &step.deed) else {
         drop(stamp);
-        drop(own);
         return Err(StepFault::Memory);
     };
     let Ok(other) = other_of(alloc, step) else {
         drop(stamp);
-        drop(own);
         drop(deed);
         return Err(StepFault::Memory);
     };
     Ok(Remade {
-        after: after_of(&step.deed, own, reports),
         step: Taken {
             process: step.process.copy(),
             deed,
             stamp,
         },
+        reports,
         other,
     })
 }

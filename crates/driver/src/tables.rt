@@ -5,7 +5,7 @@ use indexmap::IndexMap;
 use report_line::{Name, Step as Taken};
 
 /// The root, how many settlements there were, the steps, the oldest first, and what they say of each name: how a process
-/// stands, and which step sent a message, by its place.
+/// stands, and which step sent a message. Steps are named by their places.
 #[derive(Drop)]
 pub(crate) struct Tables {
     pub(crate) root: Name,
@@ -22,10 +22,10 @@ pub(crate) struct Other {
     pub(crate) known: Known,
 }
 
-/// A step that is made once more, with what it changes.
+/// A step that is made once more, how many reports its process has then, and another process that it changes.
 #[derive(Drop)]
 pub(crate) struct Remade {
     pub(crate) step: Taken,
-    pub(crate) after: Known,
+    pub(crate) reports: u32,
     pub(crate) other: Option<Other>,
 }

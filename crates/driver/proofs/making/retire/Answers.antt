@@ -16,8 +16,8 @@ event-requires c = owner c.args.tables.now c.args.asked.now.process c.in_ok-aliv
 pub take_openly-requires-clause-makes : goal.take_openly-requires-clause-makes
 take_openly-requires-clause-makes c =
     rw c.requires.act
-    (makes_retire _ _ _ _ _ _ _ c.in_ok-alive.alive c.in_ok-stamp.stamp c.in-Ok.report _
+    (makes_retire _ _ _ _ _ _ c.in_ok-alive.alive c.in_ok-stamp.stamp c.in-Ok.report _
     c.in_ok-alive.ensures c.in_ok-stamp.ensures
     (λ unborn. true≢false (sym c.if-not-is_born.false ∙ c.is_born.ensures.1 unborn))
     (differs c.as_bytes.result.now c.as_bytes-2.result.now c.args.target.now c.args.asked.now.process c.eq.result c.eq.ensures c.if-eq.false c.as_bytes.ensures.value c.as_bytes-2.ensures.value)
-    c.in-Ok.ensures.report c.copy.ensures c.copy-2.ensures c.in-Ok.ensures.name refl)
+    c.in-Ok.ensures.report c.copy.ensures c.in-Ok.ensures.name refl)

@@ -3,10 +3,10 @@ use Rattle.driver.proofs.noting.take_silently.Goals as goal
 
 pub add-requires-clause-ready : goal.add-requires-clause-ready
 add-requires-clause-ready c =
-    silently_ready c.args.tables.now c.reserve.new.tables c.args.asked.now.process c.copy-2.result c.args.asked.now.act c.args.deed c.args.stamp c.in-Ok.after c.args.reports
-    c.requires.makes c.reserve.ensures.same c.copy-2.ensures c.in-Ok.ensures
+    silently_ready c.args.tables.now c.reserve.new.tables c.args.asked.now.process c.copy.result c.args.asked.now.act c.args.deed c.args.stamp c.args.reports
+    c.requires.makes c.reserve.ensures.same c.copy.ensures
 
 pub returns : goal.returns
 returns c =
-    silently_taken c.args.tables.now c.reserve.new.tables c.add.new.tables c.args.asked.now c.copy-2.result c.args.deed c.args.stamp c.args.reports
-    c.requires.makes c.reserve.ensures.same c.copy-2.ensures c.add.ensures
+    silently_taken c.args.tables.now c.reserve.new.tables c.add.new.tables c.args.asked.now c.copy.result c.args.deed c.args.stamp c.args.reports
+    c.requires.makes c.reserve.ensures.same c.copy.ensures c.add.ensures

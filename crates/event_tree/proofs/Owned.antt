@@ -1,5 +1,6 @@
 -- An id that owns one part alone, at which the tree has a leaf: filling leaves the tree as it is, and growth raises that leaf.
-use Rattle.std.proofs.Common.{◌≡◌, ℕ, ◌+◌, ◌≤◌, ◌<◌, max, Bool, true, false, List, [], ◌∷◌, ◌++◌, length, set, refl, sym, ap, ◌∙◌, arith, append_assoc, length-append, length-set}
+use Rattle.std.proofs.Common.{◌≡◌, ◌≢◌, ◌↔◌, ℕ, ◌+◌, ◌≤◌, ◌<◌, max, Bool, true, false, List, [], ◌∷◌, ◌++◌, length, set, Option, Some, None, refl, sym, ap, ◌∙◌, arith, append_assoc, length-append, length-set}
+use Rattle.std.specs.Prelude.{MatchOption}
 use Rattle.std.specs.List.{refill}
 use Rattle.id_tree.specs.IdTree.{IdTree, Zero, One, Pair}
 use Rattle.id_tree.specs.Points.{Point}
@@ -26,7 +27,7 @@ use Rattle.event_tree.proofs.Closed.{written}
 
 -- what is left of the way leads from this part where the whole leads from the tree
 pub record IsOnTheWay (way : Point) (e : EventTree) (rest : Point) (part : EventTree) (at base beside : ℕ) : Type 0 where
-  pub ends : EndsAtLeaf beside rest part → EndsAtLeaf 0 way e
+  pub ends : EndsAtLeaf beside rest part ↔ EndsAtLeaf 0 way e
   pub place : at + place_at rest part ≡ place_at way e
   pub above : base_at rest base part ≡ base_at way 0 e
   pub there : part_at rest part ≡ part_at way e
@@ -34,7 +35,7 @@ pub record IsOnTheWay (way : Point) (e : EventTree) (rest : Point) (part : Event
   pub within : at + size part ≤ size e
 
 pub at_the_top : (way : Point) (e : EventTree) → greatest e < 4294967296 → IsOnTheWay way e way e 0 0 0
-at_the_top way e small = record { ends = λ h. h; place = omega arith; above = refl; there = refl; small = omega (arith, small); within = omega arith }
+at_the_top way e small = record { ends = (λ h. h, λ h. h); place = omega arith; above = refl; there = refl; small = omega (arith, small); within = omega arith }
 
 half_within : (turn : Bool) (n : ℕ) (a b : EventTree) → (n + greatest (half_of turn (Node n a b)) ≤ greatest (Node n a b)) × (before turn (Node n a b) + size (half_of turn (Node n a b)) ≤ size (Node n a b))
 half_within false n a b = (omega arith, omega arith)
@@ -209,3 +210,29 @@ raised_there i e seen leaf items entries slice new own view are copied lent put 
           ∙ ap (λ (es : List Entry). set es leaf.at (entry (leaf.own + 1) 1)) whole
           ∙ h.written_is,
     )
+
+-- ---- the leaf that is found, or none
+
+-- a way owns something
+owns_something : (p : Point) → id_of_way p ≢ Zero
+owns_something [] = λ e. cc
+owns_something (false ∷ p) = λ e. cc
+owns_something (true ∷ p) = λ e. cc
+
+-- an id has one way
+same_way : (p q : Point) → id_of_way p ≡ id_of_way q → p ≡ q
+same_way [] [] h = refl
+same_way [] (false ∷ q) h = absurd cc
+same_way [] (true ∷ q) h = absurd cc
+same_way (false ∷ p) [] h = absurd cc
+same_way (true ∷ p) [] h = absurd cc
+same_way (false ∷ p) (false ∷ q) h = ap (λ (r : Point). false ∷ r) (same_way p q cc)
+same_way (false ∷ p) (true ∷ q) h = let none : id_of_way p ≡ Zero = cc in absurd (owns_something p none)
+same_way (true ∷ p) (false ∷ q) h = let none : id_of_way q ≡ Zero = cc in absurd (owns_something q none)
+same_way (true ∷ p) (true ∷ q) h = ap (λ (r : Point). true ∷ r) (same_way p q cc)
+
+-- what stands at the end of that way is what the id owns alone
+pub owned_alone : (i : IdTree) (e : EventTree) (p : Point) (found : Option OwnLeaf) → i ≡ id_of_way p → MatchOption found (¬ EndsAtLeaf 0 p e) (λ leaf. IsEndOf p e leaf)
+    → MatchOption found ((leaf : OwnLeaf) → ¬ IsOwnLeaf i e leaf) (λ leaf. IsOwnLeaf i e leaf)
+owned_alone i e p None alone none = λ leaf h. none (rw (same_way h.way p (sym h.alone ∙ alone)) at h.end_of.ends)
+owned_alone i e p (Some leaf) alone h = record { way = p; alone = alone; end_of = h }

@@ -24,7 +24,8 @@ abbrev pub place_at : Point → EventTree → ℕ
 place_at [] e = 0
 place_at (turn ∷ p) e = before turn e + place_at p (half_of turn e)
 
--- The way goes by nodes, and at its end stands a leaf that is at or above k: of a way with turns the root of the half beside it.
+-- The way goes by nodes, and at its end stands a leaf. It is at or above k, if the way has no turn, and else at or above the root of the
+-- half beside it.
 abbrev pub EndsAtLeaf : ℕ → Point → EventTree → Type 0
 EndsAtLeaf k [] (Leaf n) = k ≤ n
 EndsAtLeaf k [] (Node n a b) = ⊥

@@ -1,6 +1,7 @@
 //! The entries that a tree is kept as: its nodes and leaves in preorder, each with its value and the size of its part.
 
 ghost use Rattle.std.specs.Prelude.{◌≡◌, ◌↔◌, ◌≤◌, ◌<◌, ◌++◌, ◌∷◌, [], IsTrue, IsOk, IfOk, OnOk, length, replicate, slice_index_or};
+ghost use Rattle.std.proofs.Common.{set};
 ghost use Rattle.event_tree.specs.EventTree.{Leaf};
 ghost use Rattle.event_tree.specs.Entries.{blank, preorder};
 
@@ -32,6 +33,15 @@ pub fn look_in(entries: &[Entry], at: usize) -> Entry
     }
 }
 
+// Writes an entry.
+#[inline(always)]
+pub fn put(out: &mut [Entry], at: usize, entry: Entry)
+    requires { at < length out.old }
+    ensures { out.new ≡ set out.old at entry }
+{
+    out[at] = entry;
+}
+
 // No entries, and room for so many. Of more than a list holds itself they stand in one block from the start.
 pub fn with_room(alloc: Global, room: usize) -> Result<Entries, AllocError>
     ensures items { IfOk result (λ entries. entries.items ≡ []) }
@@ -44,7 +54,7 @@ pub fn with_room(alloc: Global, room: usize) -> Result<Entries, AllocError>
 }
 
 // This entry, so many times.
-pub fn filled(alloc: Global, count: usize, entry: Entry) -> Result<Entries, AllocError>
+pub fn repeated(alloc: Global, count: usize, entry: Entry) -> Result<Entries, AllocError>
     ensures { IfOk result (λ entries. entries.items ≡ replicate count entry) }
 {
     if count <= INLINE {

@@ -2,7 +2,6 @@
 //! it. All values are known before, so only the nodes of the way and the part are written, in one pass over a list of such leaves.
 
 ghost use Rattle.std.specs.Prelude.{◌≡◌, ◌↔◌, ◌≤◌, ◌<◌, ◌+◌, ◌^◌, ◌++◌, IsTrue, IfOk, ℕ, length, take, drop};
-ghost use Rattle.std.proofs.Common.{set};
 ghost use Rattle.id_tree.specs.OneWay.{id_of_way};
 ghost use Rattle.id_tree.specs.Size.{size as id_size};
 ghost use Rattle.event_tree.specs.EventTree.{Leaf};
@@ -15,7 +14,7 @@ ghost use Rattle.event_tree.specs.Walks as walks;
 ghost use Rattle.event_tree.specs.Beside.{half_of, part_at, base_at, rooted, beside, size_beside, leaves};
 ghost use Rattle.event_tree.specs.Beside as besides;
 
-use crate::entries::{self, Entry};
+use crate::entries::{self, Entry, put};
 use crate::node::Node;
 use crate::part::{EventPart, EventView};
 use crate::written::put_all;
@@ -74,15 +73,6 @@ fn whole_size(id: usize, part: usize) -> Result<u32, AllocError>
     Ok((id - 1 + part) as u32)
 }
 
-// Writes an entry.
-#[inline(always)]
-fn put(out: &mut [Entry], at: usize, entry: Entry)
-    requires { at < length out.old }
-    ensures { out.new ≡ set out.old at entry }
-{
-    out[at] = entry;
-}
-
 // How many entries stand before the half that a turn leads to.
 #[inline(always)]
 fn width(turn: bool) -> usize
@@ -139,7 +129,7 @@ pub fn restricted(alloc: Global, size: usize, way: Way, e: EventView) -> Result<
         value: u32::MAX - m,
         size: 1,
     };
-    let mut out = entries::filled(alloc, size as usize, leaf)?;
+    let mut out = entries::repeated(alloc, size as usize, leaf)?;
     write_down(out.as_mut_slice(), way, m, size, &part);
     Ok(Node::of(out))
 }

@@ -1,14 +1,15 @@
 //! The leaf that an id owns alone, where it owns one part, and the tree has a leaf there. An event then raises that leaf, and all other
 //! entries stay as they are.
 
-ghost use Rattle.std.specs.Prelude.{◌≡◌, ◌≢◌, ◌<◌, ◌≤◌, ◌+◌, ◌^◌, IfOk, IfSome, MatchOption, length};
-ghost use Rattle.std.proofs.Common.{set};
+ghost use Rattle.std.specs.Prelude.{◌≡◌, ◌<◌, ◌≤◌, ◌^◌, IfOk, MatchOption};
+ghost use Rattle.event_tree.specs.EventTree.{Leaf};
 ghost use Rattle.event_tree.specs.NormalForm.{greatest};
-ghost use Rattle.event_tree.specs.Entries.{entry, preorder};
+ghost use Rattle.event_tree.specs.Halves.{root};
 ghost use Rattle.event_tree.specs.Event.{grow};
-ghost use Rattle.event_tree.specs.OwnLeaf.{IsBelow, IsOwnLeaf, IsEndOf};
+ghost use Rattle.event_tree.specs.declared.own_leaf.OwnLeaf as declared;
+ghost use Rattle.event_tree.specs.OwnLeaf.{EndsAtLeaf, IsBelow, IsOwnLeaf, IsEndOf};
 
-use crate::entries::{self, Entry};
+use crate::entries::{self, Entry, put};
 use crate::node::Node;
 use crate::part::{EventPart, EventView};
 use id_tree::{Id, Way};
@@ -34,7 +35,7 @@ pub struct Below<'a> {
 // The half that a turn leads to, where the part is a node.
 #[inline(always)]
 fn go_down<'a>(part: &EventView<'a>, turn: bool) -> Option<Below<'a>>
-    ensures { IfSome result (λ below. IsBelow turn part.now below) }
+    ensures { MatchOption result (part.now ≡ Leaf (root part.now)) (λ below. IsBelow turn part.now below) }
 {
     match part.part() {
         EventPart::Leaf(_) => None,
@@ -59,7 +60,7 @@ fn go_down<'a>(part: &EventView<'a>, turn: bool) -> Option<Below<'a>>
 // The leaf at the end of a way, if one stands there that is at or above the half beside it.
 fn end_of(way: Way, e: EventView) -> Option<OwnLeaf>
     requires { greatest e < 2 ^ 32 }
-    ensures { IfSome result (λ leaf. IsEndOf way.entry e.entry leaf) }
+    ensures { MatchOption result (¬ EndsAtLeaf 0 way.entry e.entry) (λ leaf. IsEndOf way.entry e.entry leaf) }
 {
     e.counted();
     let mut way = way;
@@ -77,38 +78,25 @@ fn end_of(way: Way, e: EventView) -> Option<OwnLeaf>
         part = next.half;
         way = behind;
     }
-    match part.leaf() {
-        Some(own) => if beside <= own {
-            Some(OwnLeaf { at, base, own })
-        } else {
-            None
-        },
-        None => None,
+    let EventPart::Leaf(own) = part.part() else {
+        return None;
+    };
+    if beside <= own {
+        Some(OwnLeaf { at, base, own })
+    } else {
+        None
     }
 }
 
 // The leaf that the id owns alone, if it does, and if filling leaves the tree as it is.
 pub fn own_leaf(id: &Id, e: EventView) -> Option<OwnLeaf>
     requires { greatest e < 2 ^ 32 }
-    ensures { IfSome result (λ leaf. IsOwnLeaf id.now e.entry leaf) }
+    ensures { MatchOption result ((leaf : declared.OwnLeaf) → ¬ IsOwnLeaf id.now e.entry leaf) (λ leaf. IsOwnLeaf id.now e.entry leaf) }
 {
     match id.only_way() {
         Some(way) => end_of(way, e),
         None => None,
     }
-}
-
-// Writes the leaf, one more than it was.
-#[inline(always)]
-fn put_raised(out: &mut [Entry], leaf: OwnLeaf)
-    requires within { leaf.at < length out.old }
-    requires small { leaf.own + 1 < 2 ^ 32 }
-    ensures { out.new ≡ set out.old leaf.at (entry (leaf.own + 1) 1) }
-{
-    out[leaf.at] = Entry {
-        value: leaf.own + 1,
-        size: 1,
-    };
 }
 
 // The tree grown at this leaf, or `None` where its value would pass the limit.
@@ -122,6 +110,10 @@ pub fn raised(alloc: Global, e: &Node, leaf: OwnLeaf, id: &Id) -> Result<Option<
         return Ok(None);
     }
     let mut out = entries::copied(alloc, e.view().entries())?;
-    put_raised(out.as_mut_slice(), leaf);
+    let raised = Entry {
+        value: leaf.own + 1,
+        size: 1,
+    };
+    put(out.as_mut_slice(), leaf.at, raised);
     Ok(Some(Node::of(out)))
 }

@@ -9,7 +9,7 @@ ghost use Rattle.event_tree.specs.Entries.{blank};
 ghost use Rattle.event_tree.specs.Taking.{IsBegun, IsLeafTaken, IsClosed, HasTreeRead, AreClosed, IsWhole};
 ghost use Rattle.event_tree.specs.Taking as taking;
 
-use crate::entries::{Entry, filled};
+use crate::entries::{Entry, repeated};
 use crate::node::Node;
 use std::alloc::Global;
 
@@ -301,7 +301,7 @@ fn read_node(alloc: Global, text: &[u8]) -> Option<Node>
     if text.len() < least_length(count) {
         return None;
     }
-    let Ok(mut entries) = filled(alloc, count, Entry::default()) else {
+    let Ok(mut entries) = repeated(alloc, count, Entry::default()) else {
         return None;
     };
     if take_all(text, entries.as_mut_slice()) {

@@ -10,20 +10,20 @@ overflow_add-leaf c = omega (arith, (found _ _ _ c.requires.own).fits, c.require
 pub returns-then-leaf : goal.returns-then-leaf
 returns-then-leaf c = omega (arith, (found _ _ _ c.requires.own).least, c.if-leaf.true)
 
-pub put_raised-requires-clause-within : goal.put_raised-requires-clause-within
-put_raised-requires-clause-within c =
+pub put-requires : goal.put-requires
+put-requires c =
     (raised_there _ _ _ _ _ _ _ _ c.requires.own c.view.ensures c.entries.ensures.are c.in_ok-out.ensures.ok c.as_mut_slice.ensures.value refl).0
 
-pub put_raised-requires-clause-small : goal.put_raised-requires-clause-small
-put_raised-requires-clause-small c = omega (arith, (found _ _ _ c.requires.own).fits, c.requires.fits, c.if-leaf.false)
+pub overflow_add-raised : goal.overflow_add-raised
+overflow_add-raised c = omega (arith, (found _ _ _ c.requires.own).fits, c.requires.fits, c.if-leaf.false)
 
 pub of-requires : goal.of-requires
 of-requires c =
-    let there = raised_there _ _ _ _ _ _ _ _ c.requires.own c.view.ensures c.entries.ensures.are c.in_ok-out.ensures.ok c.as_mut_slice.ensures.value c.put_raised.ensures in
+    let there = raised_there _ _ _ _ _ _ _ _ c.requires.own c.view.ensures c.entries.ensures.are c.in_ok-out.ensures.ok c.as_mut_slice.ensures.value c.put.ensures in
     is_preorder _ (grow c.args.id.now c.args.e.now) there.1
 
 pub returns : goal.returns
 returns c =
-    let there = raised_there _ _ _ _ _ _ _ _ c.requires.own c.view.ensures c.entries.ensures.are c.in_ok-out.ensures.ok c.as_mut_slice.ensures.value c.put_raised.ensures in
+    let there = raised_there _ _ _ _ _ _ _ _ c.requires.own c.view.ensures c.entries.ensures.are c.in_ok-out.ensures.ok c.as_mut_slice.ensures.value c.put.ensures in
     let own = found _ _ _ c.requires.own in
     (c.of.ensures ∙ tree_of_preorder _ (grow c.args.id.now c.args.e.now) there.1, omega (arith, own.most, own.fits, c.requires.fits, c.if-leaf.false))

@@ -1,15 +1,16 @@
 -- Working definitions: a script is driven line by line.
-use Rattle.std.specs.Prelude.{◌≡◌, ℕ, ◌+◌, List, [], ◌∷◌, ◌++◌, length, Option, Some, Result, Ok, Err, ⊤}
+use Rattle.std.specs.Prelude.{◌≡◌, ℕ, ◌+◌, List, [], ◌∷◌, ◌++◌, length, map, Option, Some, Result, Ok, Err, ⊤}
 use Rattle.std.specs.List.{flat_map, AllByRecursion}
 use Rattle.report_line.specs.declared.report.Report.{Report}
 use Rattle.report_line.specs.declared.report.Report.TheVariants.{Begin}
 use Rattle.report_line.specs.declared.call.Call.{Call}
 use Rattle.report_line.specs.declared.call.Call.TheVariants as calls
+use Rattle.report_line.specs.declared.marked.MarkedReport.{MarkedReport}
 use Rattle.report_line.specs.declared.reply.Reply.{Reply}
 use Rattle.report_line.specs.Cutting.{ended, NoBreak}
 use Rattle.report_line.specs.Reports.{unmarked}
 use Rattle.report_line.specs.Spelling.{spelling}
-use Rattle.chains.specs.Held.{held_of}
+use Rattle.chains.specs.Held.{Held, held_of}
 use Rattle.chains.specs.Turns.{fine, IsTurnWith}
 use Rattle.driver.specs.Chronicle.{Chronicle}
 use Rattle.script.specs.declared.driving.Stop.{Stop}
@@ -21,16 +22,36 @@ use Rattle.script.specs.Driven.{Drives, Refuses}
 use Rattle.script.specs.Printed.{printed, report_lines, IsHeldBehind}
 use Rattle.script.specs.Spelling.{SpellsRoot}
 
--- these lines were printed: their text, how many they are, and what the chains hold on which they took their turns
+-- the lines of these reports
+abbrev pub lines_of : List MarkedReport → List Call
+lines_of reports = map (λ m. calls.Report m) reports
+
+-- These lines were printed: their text, and how many they are. The last ones are reports that wait for their turns, and the chains hold
+-- what they do once those in front of them took theirs.
 pub record IsPrinted (told : List Call) (p : Printout) : Type 0 where
   pub text_is : p.text.items ≡ printed told
   pub counted : p.lines ≡ length told
-  pub behind : IsHeldBehind told (held_of p.chains)
+  pub front : List Call
+  pub parts : told ≡ front ++ lines_of p.pending.items
+  pub behind : IsHeldBehind front (held_of p.chains)
 
--- one more line is printed, and takes its turn
-pub record Prints (old : Printout) (line : Call) (new : Printout) : Type 0 where
+-- whichever lines took their turns before, these reports take theirs behind them
+abbrev pub TakeTurns : Held → List MarkedReport → Held → Type 0
+TakeTurns held reports after = (front : List Call) → IsHeldBehind front held → IsHeldBehind (front ++ lines_of reports) after
+
+-- one more line is printed
+pub record PrintsLine (old : Printout) (line : Call) (new : Printout) : Type 0 where
   pub text_is : new.text.items ≡ old.text.items ++ ended (spelling line)
   pub counted : new.lines ≡ old.lines + 1
+
+-- one more report is printed, whichever lines were before it
+abbrev pub PrintsReport : Printout → MarkedReport → Printout → Type 0
+PrintsReport old m new = (told : List Call) → IsPrinted told old → IsPrinted (told ++ calls.Report m ∷ []) new
+
+-- one more line is printed, and takes its turn; no report waits
+pub record PrintsAtOnce (old : Printout) (line : Call) (new : Printout) : Type 0 where
+  pub prints : PrintsLine old line new
+  pub none_waits : new.pending.items ≡ []
   pub reply : Reply
   pub turn : IsTurnWith fine (held_of old.chains) line reply (held_of new.chains)
 

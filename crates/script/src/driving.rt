@@ -10,7 +10,7 @@ ghost use Rattle.script.specs.Taken.{ChainsHoldTheReports, KnownSettlementIsClos
 
 use crate::end::{Cause, End};
 use crate::naming::line_for;
-use crate::printing::{Printout, print_made, print_settlement};
+use crate::printing::{Printout, catch_up, print_made, print_settlement};
 use crate::reading::{read_root, read_step};
 use crate::settle_lines::read_settle;
 use driver::{Step, StepFault, World};
@@ -86,7 +86,7 @@ fn take_step(
     print_given(alloc, printout, world.epoch(), given)
 }
 
-// The world returns to the line of these failed processes, and that is printed.
+// The world returns to the line that all that was printed gives for these failed processes, and that is printed.
 fn settle(
     alloc: Global,
     world: &mut World,
@@ -95,6 +95,9 @@ fn settle(
 ) -> Result<(), Stop>
     ensures { (line : List ℕ) → SpellsSettle names.now line → StepTold world.old world.new printout.old printout.new line result }
 {
+    let Ok(()) = catch_up(printout) else {
+        return Err(Stop::Memory);
+    };
     let Ok(line) = line_for(&printout.chains, names.as_slice()) else {
         return Err(Stop::Memory);
     };
@@ -154,9 +157,9 @@ fn end_by(stop: Stop, step: u64) -> End
 }
 
 /// Drives a world by the lines of a script, and answers what is printed, with how it ended. The first line begins the world, each later
-/// one is a step of it or settles it, and the first line that is refused is the last one. Each line that is printed takes its turn on
-/// chains, and a settlement returns the world to the line that is answered over them. A script that would print more than 4,294,967,295
-/// lines ends there, as for want of memory.
+/// one is a step of it or settles it, and the first line that is refused is the last one. At a settlement each line that was printed has
+/// taken its turn on chains, and the world returns to the line that is answered over them. A script that would print more than
+/// 4,294,967,295 lines ends there, as for want of memory.
 pub fn drive(alloc: Global, script: &[u8]) -> (Vec<u8>, End)
     ensures { IsDriven script.now result.0.items result.1 }
 {

@@ -1,8 +1,9 @@
 //! What a script prints, line by line.
 
-ghost use Rattle.std.specs.Prelude.{◌≡◌, ◌≢◌, ◌+◌, ◌<◌, ◌++◌, [], All, OnOk, OnErr, IfOk};
+ghost use Rattle.std.specs.Prelude.{◌≡◌, ◌≢◌, ◌+◌, ◌<◌, ◌++◌, List, [], All, OnOk, OnErr, IfOk};
 ghost use Rattle.report_line.specs.Cutting.{ended};
 ghost use Rattle.report_line.specs.Spelling.{spelling};
+ghost use Rattle.report_line.specs.declared.call.Call.{Call};
 ghost use Rattle.report_line.specs.declared.call.Call.TheVariants as calls;
 ghost use Rattle.report_line.specs.declared.reply.Reply.{Reply as AnyReply};
 ghost use Rattle.chains.specs.Admission.{report_limit};
@@ -10,18 +11,26 @@ ghost use Rattle.chains.specs.Held.{counting, held_of};
 ghost use Rattle.chains.specs.Processes.{IsKnown};
 ghost use Rattle.chains.specs.Settled.{IsSettled};
 ghost use Rattle.chains.specs.Turns.{fine, IsTurnWith};
-ghost use Rattle.script.specs.Driving.{Prints};
+ghost use Rattle.script.specs.Driving.{IsPrinted, TakeTurns, PrintsReport, PrintsAtOnce};
 
 use chains::{Chains, No};
 use propagate::settle_named;
-use report_line::{Code, Names, PackedReport, Report, write_marked, write_settle};
+use report_line::{
+    Code, MarkedReport, Names, PackedReport, Report, Shared, write_marked, write_settle,
+};
 use std::alloc::{AllocError, Global};
+use std::mem;
 
-/// What was printed so far: the text, how many lines it has, and the chains on which each of them took its turn.
+// Behind so many lines a report does not wait for its turn: chains accept no more lines than that, and what they refuse is not kept.
+const WAITING_LIMIT: u32 = 16_384;
+
+/// What was printed so far: the text, how many lines it has, the reports at its end that wait for their turns on the chains, and the
+/// chains, on which the lines in front of those took theirs.
 #[derive(Drop)]
 pub(crate) struct Printout {
     pub(crate) text: Vec<u8>,
     pub(crate) lines: u32,
+    pub(crate) pending: Vec<MarkedReport>,
     pub(crate) chains: Chains,
 }
 
@@ -43,6 +52,38 @@ fn take_report(chains: &mut Chains, epoch: u32, report: &PackedReport) -> Result
         Ok(_) => Ok(()),
         Err(refusal) => pass_over(&refusal),
     }
+}
+
+// A report that waited takes its turn on the chains, memory aside.
+fn take_waiting(chains: &mut Chains, report: MarkedReport) -> Result<(), AllocError>
+    ensures { OnOk result ((reply : AnyReply) × IsTurnWith fine (held_of chains.old) (calls.Report report) reply (held_of chains.new)) }
+{
+    match chains.admit_shared(report) {
+        Ok(_) => Ok(()),
+        Err(refusal) => pass_over(&refusal),
+    }
+}
+
+// These reports take their turns on the chains, in order, memory aside.
+fn take_reports(chains: &mut Chains, reports: Vec<MarkedReport>) -> Result<(), AllocError>
+    ensures { OnOk result (TakeTurns (held_of chains.old) reports.items (held_of chains.new)) }
+{
+    for report in reports {
+        take_waiting(chains, report)?;
+    }
+    Ok(())
+}
+
+/// All reports that wait take their turns on the chains.
+pub(crate) fn catch_up(printout: &mut Printout) -> Result<(), AllocError>
+    ensures text { printout.new.text.items ≡ printout.old.text.items }
+    ensures lines { printout.new.lines ≡ printout.old.lines }
+    ensures none_waits { OnOk result (printout.new.pending.items ≡ []) }
+    ensures kept { OnOk result ((told : List Call) → IsPrinted told printout.old → IsPrinted told printout.new) }
+{
+    let none = Vec::new(printout.chains.alloc());
+    let pending = mem::replace(&mut printout.pending, none);
+    take_reports(&mut printout.chains, pending)
 }
 
 // All return to the line of these failed processes.
@@ -95,11 +136,13 @@ impl Printout {
     pub(crate) fn new(alloc: Global) -> Printout
         ensures text { result.text.items ≡ [] }
         ensures lines { result.lines ≡ 0 }
+        ensures pending { result.pending.items ≡ [] }
         ensures chains { held_of result.chains ≡ counting [] }
     {
         Printout {
             text: Vec::new(alloc),
             lines: 0,
+            pending: Vec::new(alloc),
             chains: Chains::new(alloc),
         }
     }
@@ -119,14 +162,31 @@ fn add_line(text: &mut Vec<u8>, lines: &mut u32, line: &[u8]) -> Result<(), Allo
     Ok(())
 }
 
-// Prints this report.
-fn print_report(
+// Prints a report, which waits for its turn on the chains.
+fn print_waiting(
+    alloc: Global,
+    printout: &mut Printout,
+    epoch: u32,
+    report: PackedReport,
+) -> Result<(), AllocError>
+    ensures ok { OnOk result (PrintsReport printout.old (record { epoch = epoch; report = report }) printout.new) }
+    ensures err { OnErr result (printout.new.text.items ≡ printout.old.text.items) }
+{
+    let line = report_line(alloc, epoch, &report)?;
+    let report = Shared::new(alloc, report)?;
+    printout.pending.push(MarkedReport { epoch, report })?;
+    add_line(&mut printout.text, &mut printout.lines, &line)
+}
+
+// Prints a report, which takes its turn on the chains at once.
+fn print_at_once(
     alloc: Global,
     printout: &mut Printout,
     epoch: u32,
     report: &PackedReport,
 ) -> Result<(), AllocError>
-    ensures ok { OnOk result (Prints printout.old (calls.Report (record { epoch = epoch; report = report.now })) printout.new) }
+    requires { printout.old.pending.items ≡ [] }
+    ensures ok { OnOk result (PrintsAtOnce printout.old (calls.Report (record { epoch = epoch; report = report.now })) printout.new) }
     ensures err { OnErr result (printout.new.text.items ≡ printout.old.text.items) }
 {
     let line = report_line(alloc, epoch, report)?;
@@ -134,27 +194,32 @@ fn print_report(
     add_line(&mut printout.text, &mut printout.lines, &line)
 }
 
-/// Prints a report with the mark of its epoch.
+/// Prints a report with the mark of its epoch. It waits for its turn on the chains, or takes it at once behind those that wait.
 pub(crate) fn print_made(
     alloc: Global,
     printout: &mut Printout,
     epoch: u32,
     report: Report,
 ) -> Result<(), AllocError>
-    ensures ok { OnOk result (Prints printout.old (calls.Report (record { epoch = epoch; report = report })) printout.new) }
+    ensures ok { OnOk result (PrintsReport printout.old (record { epoch = epoch; report = report }) printout.new) }
     ensures err { OnErr result (printout.new.text.items ≡ printout.old.text.items) }
 {
     let report = PackedReport::of(report);
-    print_report(alloc, printout, epoch, &report)
+    if printout.lines < WAITING_LIMIT {
+        return print_waiting(alloc, printout, epoch, report);
+    }
+    catch_up(printout)?;
+    print_at_once(alloc, printout, epoch, &report)
 }
 
-/// Prints a settlement for these failed processes, with the number of lines before it.
+/// Prints a settlement for these failed processes, with the number of lines before it, of which none waits for its turn on the chains.
 pub(crate) fn print_settlement(
     alloc: Global,
     printout: &mut Printout,
     names: &Names,
 ) -> Result<(), AllocError>
-    ensures ok { OnOk result (Prints printout.old (calls.Settle printout.old.lines names.now) printout.new) }
+    requires { printout.old.pending.items ≡ [] }
+    ensures ok { OnOk result (PrintsAtOnce printout.old (calls.Settle printout.old.lines names.now) printout.new) }
     ensures err { OnErr result (printout.new.text.items ≡ printout.old.text.items) }
 {
     let front = printout.lines;

@@ -10,7 +10,8 @@ use Rattle.report_line.specs.declared.report.NumberedReport.{NumberedReport}
 use Rattle.report_line.specs.declared.report.Report.{Report}
 use Rattle.report_line.specs.declared.report.Report.TheVariants.{Numbered}
 use Rattle.chains.specs.Processes.{Name, child_of, first_of, is_numbered_of, is_birth_of, is_absorb_of, reports_of}
-use Rattle.chains.specs.Elements.{lasting_made, lasting_by, only_if}
+use Rattle.chains.specs.Elements.{lasting_made, lasting_by, lasting_of, only_if}
+use Rattle.chains.specs.LastRun.{last_run}
 use Rattle.chains.specs.Keeping.{KeptProcess, kept_of, last_index, indexes_from}
 use Rattle.chains.specs.Noting.{noted, taken, is_check}
 use Rattle.chains.proofs.Lists.{last_index-push}
@@ -33,29 +34,31 @@ indexes-push made n (x ∷ xs) y =
     ∙ sym (append_assoc here (indexes_from made (suc n) xs) (cond (is_some (made y)) ((n + suc (length xs)) ∷ []) []))
 
 -- what a report changes: whether it is one of the process, makes a lasting element of it, and absorbs it
-abbrev pub merged : ℕ → Bool → Bool → Bool → KeptProcess → KeptProcess
-merged front own lasts absorbs k = record {
+abbrev pub merged : ℕ → ℕ → Bool → Bool → Bool → KeptProcess → KeptProcess
+merged front run own lasts absorbs k = record {
   reports = k.reports + cond own 1 0;
   last = first_of (cond own (Some front) None) k.last;
   birth = k.birth;
   lasting = k.lasting ++ cond lasts (front ∷ []) [];
+  last_run = cond own run k.last_run;
   absorbed = k.absorbed || absorbs;
 }
 
-pub kept_is : (a b : ℕ) (c d : Option ℕ) (e f : ℕ) (g h : List ℕ) (i j : Bool) → a ≡ b → c ≡ d → e ≡ f → g ≡ h → i ≡ j
-    → (let k : KeptProcess = record { reports = a; last = c; birth = e; lasting = g; absorbed = i } in k) ≡ (let k : KeptProcess = record { reports = b; last = d; birth = f; lasting = h; absorbed = j } in k)
-kept_is a b c d e f g h i j x y z u v = cc
+pub kept_is : (a b : ℕ) (c d : Option ℕ) (e f : ℕ) (g h : List ℕ) (m n : ℕ) (i j : Bool) → a ≡ b → c ≡ d → e ≡ f → g ≡ h → m ≡ n → i ≡ j
+    → (let k : KeptProcess = record { reports = a; last = c; birth = e; lasting = g; last_run = m; absorbed = i } in k) ≡ (let k : KeptProcess = record { reports = b; last = d; birth = f; lasting = h; last_run = n; absorbed = j } in k)
+kept_is a b c d e f g h m n i j x y z u w v = cc
 
 same_birth : (b : Bool) (n : ℕ) (o : Option ℕ) → b ≡ false → unwrap_or (first_of (cond b (Some n) None) o) 0 ≡ unwrap_or o 0
 same_birth b n o e = rw e refl
 
-pub kept-push : (accepted : List Report) (r : Report) (q : Name) → is_birth_of q r ≡ false
-    → kept_of (accepted ++ r ∷ []) q ≡ merged (length accepted) (is_numbered_of q r) (is_some (lasting_made q r)) (is_absorb_of q r) (kept_of accepted q)
-kept-push accepted r q e = kept_is _ _ _ _ _ _ _ _ _ _
+pub kept-push : (accepted : List Report) (r : Report) (q : Name) (run : ℕ) → is_birth_of q r ≡ false → last_run (lasting_of q (accepted ++ r ∷ [])) ≡ cond (is_numbered_of q r) run (last_run (lasting_of q accepted))
+    → kept_of (accepted ++ r ∷ []) q ≡ merged (length accepted) run (is_numbered_of q r) (is_some (lasting_made q r)) (is_absorb_of q r) (kept_of accepted q)
+kept-push accepted r q run e runs = kept_is _ _ _ _ _ _ _ _ _ _ _ _
     (reports-push q accepted r)
     (last_index-push (is_numbered_of q) accepted r)
     (ap (λ (o : Option ℕ). unwrap_or o 0) (last_index-push (is_birth_of q) accepted r) ∙ same_birth (is_birth_of q r) (length accepted) (last_index (is_birth_of q) accepted) e)
     (indexes-push (lasting_made q) 0 accepted r ∙ ap (λ (m : ℕ). indexes_from (lasting_made q) 0 accepted ++ cond (is_some (lasting_made q r)) (m ∷ []) []) (let e : 0 + length accepted ≡ length accepted = omega arith in e))
+    runs
     (absorbed-push q accepted r)
 
 -- ---- by who it is
@@ -69,17 +72,17 @@ or_true true = refl
 or_true false = refl
 
 -- the reporting process
-pub merged_own : (front : ℕ) (lasts : Bool) (k : KeptProcess) → merged front true lasts false k ≡ noted front lasts k
-merged_own front true k = kept_is _ _ _ _ _ _ _ _ _ _ refl refl refl refl (or_false k.absorbed)
-merged_own front false k = kept_is _ _ _ _ _ _ _ _ _ _ refl refl refl (append-nil k.lasting) (or_false k.absorbed)
+pub merged_own : (front run : ℕ) (lasts : Bool) (k : KeptProcess) → merged front run true lasts false k ≡ noted front run lasts k
+merged_own front run true k = kept_is _ _ _ _ _ _ _ _ _ _ _ _ refl refl refl refl refl (or_false k.absorbed)
+merged_own front run false k = kept_is _ _ _ _ _ _ _ _ _ _ _ _ refl refl refl (append-nil k.lasting) refl (or_false k.absorbed)
 
 -- one that the report is not about
-pub merged_other : (front : ℕ) (k : KeptProcess) → merged front false false false k ≡ k
-merged_other front k = kept_is _ _ _ _ _ _ _ _ _ _ (omega arith) refl refl (append-nil k.lasting) (or_false k.absorbed)
+pub merged_other : (front run : ℕ) (k : KeptProcess) → merged front run false false false k ≡ k
+merged_other front run k = kept_is _ _ _ _ _ _ _ _ _ _ _ _ (omega arith) refl refl (append-nil k.lasting) refl (or_false k.absorbed)
 
 -- one that is absorbed
-pub merged_absorbed : (front : ℕ) (own lasts : Bool) (k : KeptProcess) → merged front own lasts true k ≡ taken (merged front own lasts false k)
-merged_absorbed front own lasts k = kept_is _ _ _ _ _ _ _ _ _ _ refl refl refl refl (or_true k.absorbed)
+pub merged_absorbed : (front run : ℕ) (own lasts : Bool) (k : KeptProcess) → merged front run own lasts true k ≡ taken (merged front run own lasts false k)
+merged_absorbed front run own lasts k = kept_is _ _ _ _ _ _ _ _ _ _ _ _ refl refl refl refl refl (or_true k.absorbed)
 
 -- ---- what a report makes
 

@@ -1,6 +1,6 @@
 -- Chains are in order again after one more report.
 use Rattle.std.proofs.Common.{◌≡◌, ℕ, ◌<◌, ◌≤◌, List, [], ◌∷◌, ◌++◌, length, get_or, map, Some, refl, sym, ap, subst, ◌∙◌, arith}
-use Rattle.std.specs.Prelude.{nat_eq}
+use Rattle.std.specs.Prelude.{nat_eq, ⊤}
 use Rattle.std.specs.Cmp.Lexicographic.{pointwise}
 use Rattle.std.proofs.lemmas.Bool.{true≢false}
 use Rattle.std.proofs.lemmas.List.{get_or-map, length-append}
@@ -11,7 +11,8 @@ use Rattle.report_line.specs.declared.report.Report.{Report}
 use Rattle.report_line.specs.declared.report.Report.TheVariants.{Begin, Numbered}
 use Rattle.chains.specs.declared.process.Process.{Process}
 use Rattle.chains.specs.Processes.{Name, known, is_numbered_of}
-use Rattle.chains.specs.Elements.{name_of}
+use Rattle.chains.specs.Elements.{name_of, lasting_of}
+use Rattle.chains.specs.LastRun.{run_by, run_after}
 use Rattle.chains.specs.Admission.{report_limit, process_limit}
 use Rattle.chains.specs.Folded.{IsFit, IsFolded, one_folded}
 use Rattle.chains.specs.Kept.{Kept, HasRoomFor}
@@ -45,18 +46,27 @@ may_be_kept k names processes (Numbered r) i h rooms at room = record {
 
 -- ---- after
 
-after_numbered : (accepted : List Report) (names names' : List Name) (processes processes' : List Process) (r : Report) (i : ℕ) → AreInOrder accepted names processes
-    → IsFit accepted r → IsNumberOf accepted r i
-    → names' ≡ names_after names r → IsKeptBy (map view_of processes) names r i (length accepted) (map view_of processes')
+-- the last run of the process that reports, after its report
+abbrev pub IsRunAfter : List Report → Report → ℕ → Type 0
+IsRunAfter accepted (Begin p) run = ⊤
+IsRunAfter accepted (Numbered r) run = run ≡ run_by (lasting_of r.process accepted) r.stamp r.action
+
+pub is_run_after : (accepted : List Report) (r : Report) (i run : ℕ) → IsNumberOf accepted r i → ((p : Name) → name_of accepted i ≡ Some p → run ≡ run_after (lasting_of p accepted) r) → IsRunAfter accepted r run
+is_run_after accepted (Begin p) i run at h = tt
+is_run_after accepted (Numbered r) i run at h = h r.process at
+
+after_numbered : (accepted : List Report) (names names' : List Name) (processes processes' : List Process) (r : Report) (i run : ℕ) → AreInOrder accepted names processes
+    → IsFit accepted r → IsNumberOf accepted r i → IsRunAfter accepted r run
+    → names' ≡ names_after names r → IsKeptBy (map view_of processes) names r i (length accepted) run (map view_of processes')
     → (names' ≡ known (accepted ++ r ∷ [])) × (map view_of processes' ≡ map (kept_of (accepted ++ r ∷ [])) (known (accepted ++ r ∷ [])))
-after_numbered accepted names names' processes processes' (Numbered r) i h fit at is kept =
-    let change = noted (length accepted) (is_check r.action) in
+after_numbered accepted names names' processes processes' (Numbered r) i run h fit at runs is kept =
+    let change = noted (length accepted) run (is_check r.action) in
     let by : IsKeptByAction (known accepted) (changed_at change i (map (kept_of accepted) (known accepted))) r.action (length accepted) (map view_of processes') =
     subst (λ (ns : List Name). IsKeptByAction ns (changed_at change i (map (kept_of accepted) (known accepted))) r.action (length accepted) (map view_of processes')) h.named
     (subst (λ (v : List KeptProcess). IsKeptByAction names (changed_at change i v) r.action (length accepted) (map view_of processes')) h.kept kept) in
-    let both = in_order_numbered accepted r r.action i (map view_of processes') h.folded h.distinct at fit by in
+    let both = in_order_numbered accepted r r.action i run (map view_of processes') runs h.folded h.distinct at fit by in
     (is ∙ ap (λ (ns : List Name). names_after ns (Numbered r)) h.named ∙ both.0, both.1)
-after_numbered accepted names names' processes processes' (Begin p) i h empty at is kept =
+after_numbered accepted names names' processes processes' (Begin p) i run h empty at runs is kept =
     let none : known accepted ≡ [] = ap known empty in
     let start : kept_of (Begin p ∷ []) p ≡ born 0 = rw (same_bytes p) refl in
     let whole : accepted ++ Begin p ∷ [] ≡ Begin p ∷ [] = ap (λ (xs : List Report). xs ++ Begin p ∷ []) empty in
@@ -67,12 +77,12 @@ after_numbered accepted names names' processes processes' (Begin p) i h empty at
           ∙ sym (ap (λ (xs : List Report). map (kept_of xs) (known xs)) whole),
     )
 
-pub after_report : (accepted after : List Report) (names names' : List Name) (processes processes' : List Process) (r : Report) (i : ℕ) → AreInOrder accepted names processes
-    → IsFit accepted r → length accepted < report_limit → length (known (accepted ++ r ∷ [])) ≤ process_limit → IsNumberOf accepted r i → after ≡ accepted ++ r ∷ []
-    → names' ≡ names_after names r → IsKeptBy (map view_of processes) names r i (length accepted) (map view_of processes') → AreInOrder after names' processes'
-after_report accepted after names names' processes processes' r i h fit few few_known at is n kept =
+pub after_report : (accepted after : List Report) (names names' : List Name) (processes processes' : List Process) (r : Report) (i run : ℕ) → AreInOrder accepted names processes
+    → IsFit accepted r → length accepted < report_limit → length (known (accepted ++ r ∷ [])) ≤ process_limit → IsNumberOf accepted r i → IsRunAfter accepted r run → after ≡ accepted ++ r ∷ []
+    → names' ≡ names_after names r → IsKeptBy (map view_of processes) names r i (length accepted) run (map view_of processes') → AreInOrder after names' processes'
+after_report accepted after names names' processes processes' r i run h fit few few_known at runs is n kept =
     let folded : IsFolded (accepted ++ r ∷ []) = one_folded accepted r h.folded fit in
-    let both = after_numbered accepted names names' processes processes' r i h fit at n kept in
+    let both = after_numbered accepted names names' processes processes' r i run h fit at runs n kept in
     subst (λ (xs : List Report). AreInOrder xs names' processes') (sym is) (record {
       folded = folded;
       few = omega (arith, length-append accepted (r ∷ []), few);

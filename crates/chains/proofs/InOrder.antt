@@ -18,7 +18,8 @@ use Rattle.report_line.specs.declared.report.NumberedReport.{NumberedReport}
 use Rattle.report_line.specs.declared.report.Report.{Report}
 use Rattle.report_line.specs.declared.report.Report.TheVariants.{Begin, Numbered}
 use Rattle.chains.specs.Processes.{Name, newborn, child_of, known, IsKnown, first_of, last_passing, is_numbered_of, is_birth_of, is_absorb_of, is_absorbed, target_after}
-use Rattle.chains.specs.Elements.{name_of, lasting_made, lasting_by}
+use Rattle.chains.specs.Elements.{name_of, lasting_made, lasting_by, lasting_of}
+use Rattle.chains.specs.LastRun.{last_run, run_by}
 use Rattle.report_line.specs.declared.marked.MarkedReport.{MarkedReport}
 use Rattle.chains.specs.Held.{Held}
 use Rattle.chains.specs.Admission.{Passes, report_limit, process_limit}
@@ -26,7 +27,10 @@ use Rattle.chains.specs.Folded.{IsFitReport, IsFolded}
 use Rattle.chains.specs.Keeping.{KeptProcess, kept_of, last_index, indexes_from}
 use Rattle.chains.specs.Noting.{noted, taken, born, is_check, changed_at, names_with, TakenAt, IsKeptByAction}
 use Rattle.chains.specs.Inside.{AreDistinctNames}
+use Rattle.stamp.specs.declared.stamp.Stamp.{Stamp}
 use Rattle.chains.proofs.Lists.{last_index-push}
+use Rattle.chains.proofs.Counting.{indexes-length}
+use Rattle.chains.proofs.LastRun.{run-push, run_born}
 use Rattle.chains.proofs.LookUps.{found_name}
 use Rattle.chains.proofs.Keeps.{any_birth}
 use Rattle.chains.proofs.Stepping.{same_bytes, other_bytes, known-push, absorbed-push, none_some, doing}
@@ -69,7 +73,7 @@ one_changed f g change names i p lt here elsewhere =
 
 -- ---- a known process, beside the one that reports
 
-module _ (accepted : List Report) (r : NumberedReport) (i : ℕ) (fit : IsFitReport accepted r) (distinct : AreDistinctNames (known accepted)) (at : name_of accepted i ≡ Some r.process) where
+module _ (accepted : List Report) (r : NumberedReport) (i run : ℕ) (is_run : run ≡ run_by (lasting_of r.process accepted) r.stamp r.action) (fit : IsFitReport accepted r) (distinct : AreDistinctNames (known accepted)) (at : name_of accepted i ≡ Some r.process) where
   within : i < length (known accepted)
   within = slice_get_within (known accepted) i r.process at
 
@@ -88,28 +92,28 @@ module _ (accepted : List Report) (r : NumberedReport) (i : ℕ) (fit : IsFitRep
 
   -- what is kept, but for absorbs
   abbrev pub mid : Name → KeptProcess
-  mid q = merged (length accepted) (is_numbered_of q (Numbered r)) (is_some (lasting_made q (Numbered r))) false (kept_of accepted q)
+  mid q = merged (length accepted) run (is_numbered_of q (Numbered r)) (is_some (lasting_made q (Numbered r))) false (kept_of accepted q)
 
-  mid_own : mid r.process ≡ noted (length accepted) (is_check r.action) (kept_of accepted r.process)
-  mid_own = rw (same_bytes r.process, own_lasts r r.action (old r.process fit.is_known)) (merged_own (length accepted) (is_check r.action) (kept_of accepted r.process))
+  mid_own : mid r.process ≡ noted (length accepted) run (is_check r.action) (kept_of accepted r.process)
+  mid_own = rw (same_bytes r.process, own_lasts r r.action (old r.process fit.is_known)) (merged_own (length accepted) run (is_check r.action) (kept_of accepted r.process))
 
   mid_other : (q : Name) → IsKnown accepted q → q ≢ r.process → mid q ≡ kept_of accepted q
-  mid_other q is d = rw (other_bytes q r.process d, other_lasts q r r.action d (old q is)) (merged_other (length accepted) (kept_of accepted q))
+  mid_other q is d = rw (other_bytes q r.process d, other_lasts q r r.action d (old q is)) (merged_other (length accepted) run (kept_of accepted q))
 
-  pub mid_all : map mid (known accepted) ≡ changed_at (noted (length accepted) (is_check r.action)) i (map (kept_of accepted) (known accepted))
+  pub mid_all : map mid (known accepted) ≡ changed_at (noted (length accepted) run (is_check r.action)) i (map (kept_of accepted) (known accepted))
   mid_all =
-      one_changed mid (kept_of accepted) (noted (length accepted) (is_check r.action)) (known accepted) i r.process within
+      one_changed mid (kept_of accepted) (noted (length accepted) run (is_check r.action)) (known accepted) i r.process within
       (rw own_name mid_own)
       (λ j lt d. mid_other (get_or (known accepted) j r.process) (at_known j lt) (other_name j lt d))
 
   -- what is kept afterwards of a known process that the report does not absorb
   pub kept_mid : (q : Name) → IsKnown accepted q → is_absorb_of q (Numbered r) ≡ false → kept_of (accepted ++ Numbered r ∷ []) q ≡ mid q
   kept_mid q is e =
-      kept-push accepted (Numbered r) q (no_birth q r r.action (old q is))
-      ∙ ap (λ (b : Bool). merged (length accepted) (is_numbered_of q (Numbered r)) (is_some (lasting_made q (Numbered r))) b (kept_of accepted q)) e
+      kept-push accepted (Numbered r) q run (no_birth q r r.action (old q is)) (run-push accepted r q run (old q is) is_run)
+      ∙ ap (λ (b : Bool). merged (length accepted) run (is_numbered_of q (Numbered r)) (is_some (lasting_made q (Numbered r))) b (kept_of accepted q)) e
 
   -- no process is absorbed
-  pub kept_plain : ((q : Name) → is_absorb_of q (Numbered r) ≡ false) → map (kept_of (accepted ++ Numbered r ∷ [])) (known accepted) ≡ changed_at (noted (length accepted) (is_check r.action)) i (map (kept_of accepted) (known accepted))
+  pub kept_plain : ((q : Name) → is_absorb_of q (Numbered r) ≡ false) → map (kept_of (accepted ++ Numbered r ∷ [])) (known accepted) ≡ changed_at (noted (length accepted) run (is_check r.action)) i (map (kept_of accepted) (known accepted))
   kept_plain none =
       same_family (kept_of (accepted ++ Numbered r ∷ [])) mid (known accepted) r.process (λ j lt. kept_mid (get_or (known accepted) j r.process) (at_known j lt) (none (get_or (known accepted) j r.process))) ∙ mid_all
 
@@ -144,6 +148,13 @@ nothing_lasts q n (r ∷ rs) b e =
     let numbers = or_parts (is_numbered_of q r) (list_any (is_numbered_of q) rs) e in
     rw (nothing_made q r births.0 numbers.0) (nothing_lasts q (suc n) rs births.1 numbers.1)
 
+no_elements : (q : Name) (xs : List Report) → list_any (is_birth_of q) xs ≡ false → list_any (is_numbered_of q) xs ≡ false → lasting_of q xs ≡ []
+no_elements q xs b e = none_there (lasting_of q xs) (sym (indexes-length (lasting_made q) 0 xs) ∙ ap (λ (js : List ℕ). length js) (nothing_lasts q 0 xs b e))
+  where
+    none_there : (ss : List Stamp) → length ss ≡ 0 → ss ≡ []
+    none_there [] same = refl
+    none_there (s ∷ ss) same = absurd (omega (arith, same))
+
 counted_from : {X : Type 0} (test : X → Bool) (m : ℕ) (xs : List X) → list_any test xs ≡ false → fold (λ a x. a + cond (test x) 1 0) m xs ≡ m
 counted_from test m [] e = refl
 counted_from test m (x ∷ xs) e =
@@ -169,11 +180,12 @@ pub kept_born : (accepted : List Report) (x : Report) (q : Name) → IsFolded ac
     → kept_of (accepted ++ x ∷ []) q ≡ born (length accepted)
 kept_born accepted x q folded unknown birth number lasts absorbs =
     let none = unknown_none accepted q folded unknown in
-    kept_is _ _ _ _ _ _ _ _ _ _
+    kept_is _ _ _ _ _ _ _ _ _ _ _ _
     (reports-push q accepted x ∙ rw (none_counted (is_numbered_of q) accepted none.1, number) refl)
     (last_index-push (is_numbered_of q) accepted x ∙ rw (none_index (is_numbered_of q) accepted none.1, number) refl)
     (ap (λ (o : Option ℕ). unwrap_or o 0) (last_index-push (is_birth_of q) accepted x) ∙ rw birth refl)
     (indexes-push (lasting_made q) 0 accepted x ∙ rw (nothing_lasts q 0 accepted none.0 none.1, lasts) (ap (λ (m : ℕ). m ∷ []) (let e : 0 + length accepted ≡ length accepted = omega arith in e)))
+    (run_born q accepted x (no_elements q accepted none.0 none.1))
     (absorbed-push q accepted x ∙ rw (none.2, absorbs) refl)
 
 -- a name that is new goes last
@@ -184,32 +196,32 @@ new_name accepted q unknown =
 
 -- ---- a retirement that is absorbed
 
-pub kept_taken : (accepted : List Report) (r : NumberedReport) (retired : Name) (i : ℕ) (o : Option ℕ) (after : List KeptProcess) → IsFitReport accepted (doing r (Absorb retired)) → AreDistinctNames (known accepted) → name_of accepted i ≡ Some r.process
-    → position (pointwise nat_eq retired) (known accepted) ≡ o → TakenAt (known accepted) retired o (changed_at (noted (length accepted) false) i (map (kept_of accepted) (known accepted))) after
+pub kept_taken : (accepted : List Report) (r : NumberedReport) (retired : Name) (i run : ℕ) (o : Option ℕ) (after : List KeptProcess) → run ≡ last_run (lasting_of r.process accepted) → IsFitReport accepted (doing r (Absorb retired)) → AreDistinctNames (known accepted) → name_of accepted i ≡ Some r.process
+    → position (pointwise nat_eq retired) (known accepted) ≡ o → TakenAt (known accepted) retired o (changed_at (noted (length accepted) run false) i (map (kept_of accepted) (known accepted))) after
     → after ≡ map (kept_of (accepted ++ Numbered (doing r (Absorb retired)) ∷ [])) (known accepted)
-kept_taken accepted r retired i None after fit distinct at e is =
+kept_taken accepted r retired i run None after is_run fit distinct at e is =
     let absent : ¬ IsKnown accepted retired = λ there. true≢false (sym (list_any-from_Contains nat_list_eq_equiv retired (known accepted) there) ∙ is.0) in
     let own = doing r (Absorb retired) in
     let kept = kept_of (accepted ++ Numbered own ∷ []) in
-    let m = mid accepted own i fit distinct at in
-    is.1 ∙ sym (mid_all accepted own i fit distinct at)
+    let m = mid accepted own i run is_run fit distinct at in
+    is.1 ∙ sym (mid_all accepted own i run is_run fit distinct at)
     ∙ sym (same_family kept m (known accepted) r.process (λ k lt.
     let there : IsKnown accepted (get_or (known accepted) k r.process) = (k, lt, get_or_default (known accepted) k (get_or (known accepted) k r.process) r.process lt) in
-    kept_mid accepted own i fit distinct at (get_or (known accepted) k r.process) there (other_bytes (get_or (known accepted) k r.process) retired (λ f. absent (subst (IsKnown accepted) f there)))))
-kept_taken accepted r retired i (Some j) after fit distinct at e is =
+    kept_mid accepted own i run is_run fit distinct at (get_or (known accepted) k r.process) there (other_bytes (get_or (known accepted) k r.process) retired (λ f. absent (subst (IsKnown accepted) f there)))))
+kept_taken accepted r retired i run (Some j) after is_run fit distinct at e is =
     let found = found_name (known accepted) accepted retired j refl e in
     let own = doing r (Absorb retired) in
     let x = Numbered own in
     let here_known : IsKnown accepted retired = (j, found.0, found.1) in
     let kept = kept_of (accepted ++ x ∷ []) in
-    let m = mid accepted own i fit distinct at in
+    let m = mid accepted own i run is_run fit distinct at in
     let here : kept (get_or (known accepted) j retired) ≡ taken (m (get_or (known accepted) j retired)) =
-    rw found.1 (kept-push accepted x retired (no_birth retired r (Absorb retired) (λ child f. absurd (none_some child f))) ∙ ap (λ (b : Bool). merged (length accepted) (is_numbered_of retired x) (is_some (lasting_made retired x)) b (kept_of accepted retired)) (same_bytes retired)
-    ∙ merged_absorbed (length accepted) (is_numbered_of retired x) (is_some (lasting_made retired x)) (kept_of accepted retired)) in
+    rw found.1 (kept-push accepted x retired run (no_birth retired r (Absorb retired) (λ child f. absurd (none_some child f))) (run-push accepted own retired run (λ child f. absurd (none_some child f)) is_run) ∙ ap (λ (b : Bool). merged (length accepted) run (is_numbered_of retired x) (is_some (lasting_made retired x)) b (kept_of accepted retired)) (same_bytes retired)
+    ∙ merged_absorbed (length accepted) run (is_numbered_of retired x) (is_some (lasting_made retired x)) (kept_of accepted retired)) in
     let elsewhere : (k : ℕ) → k < length (known accepted) → k ≢ j → kept (get_or (known accepted) k retired) ≡ m (get_or (known accepted) k retired) =
-    λ k lt d. kept_mid accepted own i fit distinct at (get_or (known accepted) k retired) (k, lt, get_or_default (known accepted) k (get_or (known accepted) k retired) retired lt)
+    λ k lt d. kept_mid accepted own i run is_run fit distinct at (get_or (known accepted) k retired) (k, lt, get_or_default (known accepted) k (get_or (known accepted) k retired) retired lt)
     (other_bytes (get_or (known accepted) k retired) retired (λ f. d (distinct k j retired lt found.0 (f ∙ sym found.1)))) in
-    is ∙ ap (changed_at taken j) (sym (mid_all accepted own i fit distinct at)) ∙ sym (one_changed kept m taken (known accepted) j retired found.0 here elsewhere)
+    is ∙ ap (changed_at taken j) (sym (mid_all accepted own i run is_run fit distinct at)) ∙ sym (one_changed kept m taken (known accepted) j retired found.0 here elsewhere)
 
 -- ---- all together
 
@@ -236,12 +248,12 @@ plain accepted r after none is =
     let same : known (accepted ++ Numbered r ∷ []) ≡ known accepted = known-push accepted (Numbered r) ∙ ap (λ (o : Option Name). known accepted ++ cons_option o []) none ∙ append-nil (known accepted) in
     (ap (names_with (known accepted)) none ∙ sym same, is ∙ sym (ap (map (kept_of (accepted ++ Numbered r ∷ []))) same))
 
-pub in_order_numbered : (accepted : List Report) (r : NumberedReport) (a : Action) (i : ℕ) (after : List KeptProcess) → IsFolded accepted → AreDistinctNames (known accepted) → name_of accepted i ≡ Some r.process
-    → IsFitReport accepted (doing r a) → IsKeptByAction (known accepted) (changed_at (noted (length accepted) (is_check a)) i (map (kept_of accepted) (known accepted))) a (length accepted) after
+pub in_order_numbered : (accepted : List Report) (r : NumberedReport) (a : Action) (i run : ℕ) (after : List KeptProcess) → run ≡ run_by (lasting_of r.process accepted) r.stamp a → IsFolded accepted → AreDistinctNames (known accepted) → name_of accepted i ≡ Some r.process
+    → IsFitReport accepted (doing r a) → IsKeptByAction (known accepted) (changed_at (noted (length accepted) run (is_check a)) i (map (kept_of accepted) (known accepted))) a (length accepted) after
     → (names_with (known accepted) (child_of a) ≡ known (accepted ++ Numbered (doing r a) ∷ [])) × (after ≡ map (kept_of (accepted ++ Numbered (doing r a) ∷ [])) (known (accepted ++ Numbered (doing r a) ∷ [])))
-in_order_numbered accepted r (Absorb retired) i after folded distinct at fit is =
-    plain accepted (doing r (Absorb retired)) after refl (kept_taken accepted r retired i (position (pointwise nat_eq retired) (known accepted)) after fit distinct at refl is)
-in_order_numbered accepted r (Fork f) i after folded distinct at fit is =
+in_order_numbered accepted r (Absorb retired) i run after is_run folded distinct at fit is =
+    plain accepted (doing r (Absorb retired)) after refl (kept_taken accepted r retired i run (position (pointwise nat_eq retired) (known accepted)) after is_run fit distinct at refl is)
+in_order_numbered accepted r (Fork f) i run after is_run folded distinct at fit is =
     let own = doing r (Fork f) in
     let x = Numbered own in
     let child = f.child in
@@ -250,9 +262,9 @@ in_order_numbered accepted r (Fork f) i after folded distinct at fit is =
     let known_is : known (accepted ++ x ∷ []) ≡ known accepted ++ child ∷ [] = known-push accepted x in
     let last : kept_of (accepted ++ x ∷ []) child ≡ born (length accepted) = kept_born accepted x child folded unknown (same_bytes child) (other_bytes child r.process other) (some_if (bytes_eq child child) _ ∙ same_bytes child) refl in (
       new_name accepted child unknown ∙ sym known_is,
-      is ∙ ap (λ (l : List KeptProcess). l ++ born (length accepted) ∷ []) (sym (kept_plain accepted own i fit distinct at (λ q. refl)))
+      is ∙ ap (λ (l : List KeptProcess). l ++ born (length accepted) ∷ []) (sym (kept_plain accepted own i run is_run fit distinct at (λ q. refl)))
           ∙ ap (λ (k : KeptProcess). map (kept_of (accepted ++ x ∷ [])) (known accepted) ++ k ∷ []) (sym last)
           ∙ sym (ap (map (kept_of (accepted ++ x ∷ []))) known_is ∙ map-append (kept_of (accepted ++ x ∷ [])) (known accepted) (child ∷ [])),
     )
-in_order_numbered accepted r a i after folded distinct at fit is =
-    plain accepted (doing r a) after refl (is ∙ sym (kept_plain accepted (doing r a) i fit distinct at (λ q. refl)))
+in_order_numbered accepted r a i run after is_run folded distinct at fit is =
+    plain accepted (doing r a) after refl (is ∙ sym (kept_plain accepted (doing r a) i run is_run fit distinct at (λ q. refl)))

@@ -15,6 +15,7 @@ pub mod Distinct
 pub mod Parts
 pub mod Made
 pub mod Reaching
+pub mod LastRun
 pub mod Accepting
 pub mod Numbering
 pub mod InOrder

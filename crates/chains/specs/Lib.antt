@@ -3,6 +3,7 @@ pub mod Held
 pub mod Admission
 pub mod Folded
 pub mod Elements
+pub mod LastRun
 pub mod Positions
 pub mod Knowledge
 pub mod Turns

@@ -11,23 +11,24 @@ use Rattle.report_line.specs.declared.report.Report.TheVariants.{Begin, Numbered
 use Rattle.chains.specs.Processes.{Name, newborn}
 use Rattle.chains.specs.Keeping.{KeptProcess}
 
--- a process of which the report of this index is accepted, and makes a lasting element of it or not
-abbrev pub noted : ℕ → Bool → KeptProcess → KeptProcess
-noted front lasts k = record {
+-- a process of which the report of this index is accepted, and makes a lasting element of it or not; the last run is this one then
+abbrev pub noted : ℕ → ℕ → Bool → KeptProcess → KeptProcess
+noted front run lasts k = record {
   reports = k.reports + 1;
   last = Some front;
   birth = k.birth;
   lasting = if lasts then k.lasting ++ front ∷ [] else k.lasting;
+  last_run = run;
   absorbed = k.absorbed;
 }
 
 -- a process whose retirement is absorbed
 abbrev pub taken : KeptProcess → KeptProcess
-taken k = record { reports = k.reports; last = k.last; birth = k.birth; lasting = k.lasting; absorbed = true }
+taken k = record { reports = k.reports; last = k.last; birth = k.birth; lasting = k.lasting; last_run = k.last_run; absorbed = true }
 
 -- a process that is born by the report of this index
 abbrev pub born : ℕ → KeptProcess
-born front = record { reports = 0; last = None; birth = front; lasting = front ∷ []; absorbed = false }
+born front = record { reports = 0; last = None; birth = front; lasting = front ∷ []; last_run = 0; absorbed = false }
 
 -- the process at this place, changed
 abbrev pub changed_at : (KeptProcess → KeptProcess) → ℕ → List KeptProcess → List KeptProcess
@@ -59,10 +60,10 @@ IsKeptByAction names noted (Fork f) front after = after ≡ noted ++ born front 
 IsKeptByAction names noted (Absorb retired) front after = IsTakenBy names noted retired after
 IsKeptByAction names noted _ front after = after ≡ noted
 
--- what is kept after a report of the process at this place
-abbrev pub IsKeptBy : List KeptProcess → List Name → Report → ℕ → ℕ → List KeptProcess → Type 0
-IsKeptBy kept names (Begin p) place front after = after ≡ kept ++ born front ∷ []
-IsKeptBy kept names (Numbered r) place front after = IsKeptByAction names (changed_at (noted front (is_check r.action)) place kept) r.action front after
+-- what is kept after a report of the process at this place, whose last run this is then
+abbrev pub IsKeptBy : List KeptProcess → List Name → Report → ℕ → ℕ → ℕ → List KeptProcess → Type 0
+IsKeptBy kept names (Begin p) place front run after = after ≡ kept ++ born front ∷ []
+IsKeptBy kept names (Numbered r) place front run after = IsKeptByAction names (changed_at (noted front run (is_check r.action)) place kept) r.action front after
 
 -- a report with a number is of a known process, whose number was found
 abbrev pub IsFound : Report → Option ℕ → Type 0

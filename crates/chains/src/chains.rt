@@ -7,7 +7,9 @@ ghost use Rattle.id_tree.specs.IdTree.{One};
 ghost use Rattle.event_tree.specs.EventTree.{Leaf};
 ghost use Rattle.chains.specs.Processes.{Name as AnyName, known, newborn, IsKnown, reports_of, last_report, last_epoch, birth_report, id_after, id_at_birth, events_after, registered_id, last_events, target_of, target_after, is_absorbed, reports_by};
 ghost use Rattle.chains.specs.Elements.{name_of, element, elements, elements_of, lasting_of, lasting_made, makes_lasting, present_in, present_report, makers_of};
+ghost use Rattle.chains.specs.LastRun.{last_run, run_after};
 ghost use Rattle.chains.specs.Stamps.{stamp_of};
+ghost use Rattle.stamp.specs.declared.stamp.Stamp.{Stamp as AnyStamp};
 ghost use Rattle.chains.specs.Positions.{IsLastSurviving};
 ghost use Rattle.chains.specs.Knowledge.{events_at, retired_events};
 ghost use Rattle.chains.specs.States.{IsStateOf};
@@ -337,6 +339,49 @@ impl Chains {
         &self.reports[index as usize]
     }
 
+    /// From which of its elements on, counted from 0, all have one id.
+    pub(crate) fn last_run(&self, process: u32) -> u32
+        requires { process < length (known self.now.accepted) }
+        ensures run { (p : AnyName) → name_of self.now.accepted process ≡ Some p → result ≡ last_run (elements_of p self.now.accepted) }
+        ensures few { result ≤ report_limit }
+    {
+        match element_present(self.last_report(process)) {
+            None => self.processes[process as usize].last_run,
+            Some(present) => self.run_with(process, present.id),
+        }
+    }
+
+    /// The same of its lasting elements and one more, with this id.
+    fn run_with(&self, process: u32, id: &Id) -> u32
+        requires { process < length (known self.now.accepted) }
+        ensures { (p : AnyName) (s : AnyStamp) → name_of self.now.accepted process ≡ Some p → s.id ≡ id.now → result ≡ last_run (lasting_of p self.now.accepted ++ s ∷ []) }
+    {
+        let lasting = self.lasting_count(process);
+        let last = element_made(self.lasting_report(process, lasting - 1), &self.first);
+        if last.id.equal(id) {
+            self.processes[process as usize].last_run
+        } else {
+            lasting
+        }
+    }
+
+    /// The same of its lasting elements after this report, which is its own.
+    fn run_after(&self, process: u32, report: &PackedReport) -> u32
+        requires { IsNumberOf self.now.accepted report.now process }
+        ensures { (p : AnyName) → name_of self.now.accepted process ≡ Some p → result ≡ run_after (lasting_of p self.now.accepted) report.now }
+    {
+        match report.view() {
+            ReportView::Begin { .. } => 0,
+            ReportView::Numbered(fields) => {
+                if is_check(fields.action) {
+                    self.run_with(process, &fields.stamp.id)
+                } else {
+                    self.processes[process as usize].last_run
+                }
+            }
+        }
+    }
+
     /// The report that made element k of a process, counted from 0. It takes no memory.
     pub fn maker(&self, process: u32, k: u32) -> Option<&PackedReport>
         requires { process < length (known self.now.accepted) }
@@ -567,12 +612,14 @@ impl Chains {
             process,
             lasting,
         } = ready;
+        let last_run = self.run_after(process, &report);
         keep(
             &mut self.names,
             &mut self.processes,
             &report,
             process as usize,
             index,
+            last_run,
             lasting,
         );
         self.reports.push_reserved(report);
@@ -655,6 +702,7 @@ fn keep(
     report: &PackedReport,
     place: usize,
     front: u32,
+    last_run: u32,
     lasting: Vec<u32>,
 )
     requires fits { MayBeKept names.old.keys processes.old.items report.now place }
@@ -663,12 +711,12 @@ fn keep(
     requires empty { lasting.items ≡ [] }
     requires lasting { newborn report.now ≢ None → 0 < vec_capacity lasting }
     ensures names { names.new.keys ≡ names_after names.old.keys report.now }
-    ensures views { IsKeptBy (map view_of processes.old.items) names.old.keys report.now place front (map view_of processes.new.items) }
+    ensures views { IsKeptBy (map view_of processes.old.items) names.old.keys report.now place front last_run (map view_of processes.new.items) }
 {
     match report.view() {
         ReportView::Begin { process } => add(names, processes, process.copy(), front, lasting),
         ReportView::Numbered(fields) => {
-            note(processes, place, front, is_check(fields.action));
+            note(processes, place, front, last_run, is_check(fields.action));
             match fields.action {
                 ActionView::Fork(forked) => add(
                     names,
@@ -700,15 +748,16 @@ fn is_check(action: ActionView<'_>) -> bool
 }
 
 /// Notes a report of a process: it is the last one now, and may have made a lasting element.
-fn note(processes: &mut Vec<Process>, place: usize, front: u32, lasts: bool)
+fn note(processes: &mut Vec<Process>, place: usize, front: u32, last_run: u32, lasts: bool)
     requires { HasNoteRoom processes.old.items place }
-    ensures views { map view_of processes.new.items ≡ changed_at (noted front lasts) place (map view_of processes.old.items) }
+    ensures views { map view_of processes.new.items ≡ changed_at (noted front last_run lasts) place (map view_of processes.old.items) }
     ensures capacity { vec_capacity processes.new ≡ vec_capacity processes.old }
     ensures length { vec_len processes.new ≡ vec_len processes.old }
 {
     let kept = &mut processes[place];
     kept.reports += 1;
     kept.last = Some(front);
+    kept.last_run = last_run;
     if lasts {
         kept.lasting.push_reserved(front);
     }
@@ -751,6 +800,7 @@ fn add(
         last: None,
         birth,
         lasting,
+        last_run: 0,
         absorbed: false,
     });
 }

@@ -4,6 +4,7 @@ ghost use Rattle.std.specs.Prelude.{◌≡◌, ◌<◌, ◌≤◌, ◌+◌, leng
 ghost use Rattle.std.specs.Option.{option_map};
 ghost use Rattle.chains.specs.Processes.{known};
 ghost use Rattle.chains.specs.Elements.{elements};
+ghost use Rattle.chains.specs.LastRun.{last_run};
 ghost use Rattle.chains.specs.Stamps.{stamp_of};
 ghost use Rattle.chains.specs.Admission.{report_limit};
 
@@ -58,6 +59,14 @@ impl<'a> Elements<'a> {
         ensures few { result ≤ report_limit + 1 }
     {
         self.chains.element_count(self.process)
+    }
+
+    /// From which of them on, counted from 0, all have one id.
+    pub fn last_run(&self) -> u32
+        ensures run { result ≡ last_run self.now }
+        ensures few { result ≤ report_limit }
+    {
+        self.chains.last_run(self.process)
     }
 
     /// Element k, counted from 0, where there are so many.

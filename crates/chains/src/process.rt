@@ -16,6 +16,8 @@ pub struct Process {
     pub birth: u32,
     /// The reports that made its birth and its checkpoints.
     pub lasting: Vec<u32>,
+    /// From which of these elements on, counted from 0, all have one id.
+    pub last_run: u32,
     /// Whether it retired and the retirement was absorbed.
     pub absorbed: bool,
 }
@@ -31,6 +33,7 @@ impl Process {
             last: self.last,
             birth: self.birth,
             lasting,
+            last_run: self.last_run,
             absorbed: self.absorbed,
         })
     }

@@ -1,12 +1,14 @@
 -- Looking through the elements of a process, past those that have the id of the one before.
-use Rattle.std.proofs.Common.{◌≡◌, inl, inr, ℕ, zero, suc, ◌+◌, ◌-◌, ◌≤◌, ◌<◌, max, List, [], ◌∷◌, length, Some, None, refl, sym, subst, ◌∙◌, arith}
+use Rattle.std.proofs.Common.{◌≡◌, inl, inr, ℕ, zero, suc, ◌+◌, ◌-◌, ◌≤◌, ◌<◌, max, List, [], ◌∷◌, length, get_or, Some, None, refl, sym, subst, ◌∙◌, arith}
 use Rattle.std.specs.Prelude.{slice_get}
 use Rattle.std.proofs.lemmas.Bool.{cases_lt}
-use Rattle.std.proofs.lemmas.Option.{same_Some}
+use Rattle.std.proofs.lemmas.Option.{same_Some, slice_get_within, slice_get-get_or}
 use Rattle.id_tree.specs.IdTree.{IdTree}
 use Rattle.event_tree.specs.EventTree.{EventTree}
 use Rattle.event_tree.specs.Values.{IsAtOrBelow, ExceedsOn}
 use Rattle.stamp.specs.declared.stamp.Stamp.{Stamp}
+use Rattle.chains.specs.LastRun.{last_run}
+use Rattle.chains.proofs.LastRun.{run_same}
 use Rattle.knows_row.specs.Beyond.{numbered, IsBeyondAt, IsBeyondFrom, AreRising}
 use Rattle.knows_row.proofs.Looking.{NoneOf}
 
@@ -93,16 +95,38 @@ none_from events stamps number zero long lt h = absurd (omega (arith, lt))
 none_from events stamps number (suc i) long lt h = let e = sym h.is_element ∙ within stamps i (omega (arith, long, lt)) in absurd cc
 
 -- all were looked at
-pub looked_all : (events : EventTree) (stamps : List Stamp) (k number : ℕ) (id : IdTree) → IsLookedAt events stamps k number id → length stamps ≤ number → ¬ IsBeyondFrom events stamps k
+looked_all : (events : EventTree) (stamps : List Stamp) (k number : ℕ) (id : IdTree) → IsLookedAt events stamps k number id → length stamps ≤ number → ¬ IsBeyondFrom events stamps k
 looked_all events stamps k number id h long beyond = elim (cases_lt beyond.0 (number + 1)) [
   | inl before ↦ h.none beyond.0 beyond.1 before beyond.2
   | inr past ↦ none_from events stamps number beyond.0 long (omega (arith, past)) beyond.2
+]
+
+-- within the last run, what is beyond an element is beyond each one before
+pub beyond_earlier : (events : EventTree) (stamps : List Stamp) (number later : ℕ) → AreRising stamps → last_run stamps < number → number ≤ later → IsBeyondAt events stamps later → IsBeyondAt events stamps number
+beyond_earlier events stamps zero later rising run le h = absurd (omega (arith, run))
+beyond_earlier events stamps (suc i) zero rising run le h = absurd (omega (arith, le))
+beyond_earlier events stamps (suc i) (suc j) rising run le h =
+    let within = slice_get_within stamps j h.stamp h.is_element in
+    let s : Stamp = get_or stamps i h.stamp in
+    let there : slice_get stamps i ≡ Some s = slice_get-get_or stamps i h.stamp (omega (arith, within, le)) in
+    let same : s.id ≡ h.stamp.id = run_same stamps i j s h.stamp (omega (arith, run)) (omega (arith, run, le)) there h.is_element in
+    let low : IsAtOrBelow s.events h.stamp.events = rising i j s h.stamp (omega (arith, le)) there h.is_element in
+    record { stamp = s; is_element = there; exceeds = exceeds_earlier s.id h.stamp.id events s.events h.stamp.events same low h.exceeds }
+
+-- one of the last run was looked at, and so all
+pub looked_run : (events : EventTree) (stamps : List Stamp) (k number : ℕ) (id : IdTree) → AreRising stamps → IsLookedAt events stamps k number id → k ≤ number → last_run stamps < number → ¬ IsBeyondFrom events stamps k
+looked_run events stamps k number id rising h le run beyond = elim (cases_lt beyond.0 (number + 1)) [
+  | inl before ↦ h.none beyond.0 beyond.1 before beyond.2
+  | inr past ↦ h.none number le (omega arith) (beyond_earlier events stamps number beyond.0 rising run (omega (arith, past)) beyond.2)
 ]
 
 absent_long : (stamps : List Stamp) (number : ℕ) → slice_get stamps number ≡ None → length stamps ≤ number
 absent_long [] number e = omega arith
 absent_long (s ∷ ss) zero e = absurd cc
 absent_long (s ∷ ss) (suc n) e = let le = absent_long ss n e in omega (arith, le)
+
+pub looked_absent : (events : EventTree) (stamps : List Stamp) (k number : ℕ) (id : IdTree) → IsLookedAt events stamps k number id → slice_get stamps number ≡ None → ¬ IsBeyondFrom events stamps k
+looked_absent events stamps k number id h absent = looked_all events stamps k number id h (absent_long stamps number absent)
 
 -- there is none from k on
 pub looked_none : (events : EventTree) (stamps : List Stamp) (k : ℕ) → slice_get stamps (max k 1 - 1) ≡ None → ¬ IsBeyondFrom events stamps k

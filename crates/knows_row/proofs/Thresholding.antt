@@ -18,12 +18,14 @@ use Rattle.chains.specs.declared.position.Position.{Position}
 use Rattle.chains.specs.Folded.{IsFolded}
 use Rattle.chains.specs.Processes.{Name, last_events}
 use Rattle.chains.specs.Elements.{elements, element, elements_of, name_of}
+use Rattle.chains.specs.LastRun.{last_run}
 use Rattle.chains.specs.Positions.{place_at, last_rank}
 use Rattle.chains.specs.Knowledge.{events_at}
 use Rattle.knows_row.specs.Beyond.{numbered, IsBeyondAt, AreRising, AddsNothing}
 use Rattle.knows_row.specs.Knowing.{KnowsRank, IsLawful}
 use Rattle.knows_row.proofs.Rising.{Rise, nothing_below, below_later, elements_rise}
 use Rattle.knows_row.proofs.Laws.{at_element}
+use Rattle.knows_row.proofs.Repeated.{beyond_earlier}
 use Rattle.knows_row.proofs.Looking.{at_from_beyond, beyond_from_at}
 use Rattle.knows_row.specs.Looks.{IsFirstKnown, KnowsOne, IsLoweredFrom}
 use Rattle.knows_row.specs.Thresholds.{Passes, IsBeyondOne, IsThreshold, tree_in, AreThresholds, PassesTwo, IsHalved, AreRows, PassesOne, IsFirstPassed}
@@ -265,6 +267,22 @@ threshold_same accepted q from k bound lt adds h v small = (λ passes. more ((h 
       | inr past ↦
           let e : beyond.0 ≡ k = omega (arith, past, beyond.2) in
           (k - 1, omega (arith, lt), omega (arith, lt), adds v (subst (IsBeyondAt v (elements accepted q)) e beyond.3))
+    ]
+
+-- nothing behind the first of the last run adds to them
+pub threshold_run : (accepted : List Report) (q from k to : ℕ) (bound : EventTree) → AreRising (elements accepted q) → from < k → k ≤ to → (k < to → last_run (elements accepted q) + 2 ≤ k) → IsThreshold accepted q from k bound
+    → IsThreshold accepted q from to bound
+threshold_run accepted q from k to bound rising lt le run h v small = (λ passes. more ((h v small).0 passes), λ beyond. (h v small).1 (less beyond))
+  where
+    more : IsBeyondOne accepted q from k v → IsBeyondOne accepted q from to v
+    more beyond = (beyond.0, beyond.1, omega (arith, beyond.2, le), beyond.3)
+
+    less : IsBeyondOne accepted q from to v → IsBeyondOne accepted q from k v
+    less beyond = elim (cases_lt beyond.0 k) [
+      | inl below ↦ (beyond.0, beyond.1, below, beyond.3)
+      | inr past ↦
+          let behind = run (omega (arith, past, beyond.2)) in
+          (k - 1, omega (arith, lt), omega (arith, lt), beyond_earlier v (elements accepted q) (k - 1) beyond.0 rising (omega (arith, behind)) (omega (arith, past)) beyond.3)
     ]
 
 -- where there is no such element, nothing is added

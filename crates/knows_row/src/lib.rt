@@ -102,8 +102,9 @@ fn is_beyond(events: &Events, elements: &Elements<'_>, k: u32) -> bool
 /// Up to how many nodes and leaves an id is compared with the one before, so that this takes less than most looks at events.
 const SHORT_ID: usize = 64;
 
-/// Whether the events are beyond some element from k on. One with the id of the one before, if it
-/// is short, is passed over, since it adds nothing.
+/// Whether the events are beyond some element from k on. One with the id of the one before adds
+/// nothing: those behind the first of the last run are not looked at, and one before, if its id is
+/// short, is passed over.
 fn is_beyond_from(events: &Events, elements: &Elements<'_>, k: u32) -> bool
     requires { AreRising elements.now }
     ensures { IsTrue result ↔ IsBeyondFrom events.now elements.now k }
@@ -115,8 +116,12 @@ fn is_beyond_from(events: &Events, elements: &Elements<'_>, k: u32) -> bool
     if events.exceeds_on(element.events, element.id) {
         return true;
     }
+    if first >= elements.len() {
+        return false;
+    }
     let mut id = element.id;
-    for before in first..elements.len() {
+    let end = elements.last_run() + 1;
+    for before in first..end {
         let Some(later) = elements.get(before) else {
             return false;
         };

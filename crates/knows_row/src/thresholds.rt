@@ -147,7 +147,7 @@ fn adds_nothing(elements: &Elements<'_>, k: u32) -> bool
 }
 
 /// The threshold of the elements of a process from this one on and below that one, one after the other. One that adds nothing
-/// to the one before is passed over.
+/// to the one before is passed over, and those behind the first of the last run are not looked at.
 fn threshold_of_many(
     chains: &Chains,
     process: u32,
@@ -161,7 +161,8 @@ fn threshold_of_many(
     chains.lawful();
     let elements = chains.elements(process);
     let mut bound = bound_of_element(chains.alloc(), &elements, from)?;
-    for k in from + 1..to {
+    let end = to.min(elements.last_run() + 2);
+    for k in from + 1..end {
         if adds_nothing(&elements, k) {
             continue;
         }
@@ -178,6 +179,9 @@ fn threshold(chains: &Chains, process: u32, from: u32, to: u32) -> Result<Events
 {
     if from == to {
         return no_bound(chains.alloc());
+    }
+    if to - from == 1 {
+        return bound_of_element(chains.alloc(), &chains.elements(process), from);
     }
     threshold_of_many(chains, process, from, to)
 }

@@ -1,7 +1,7 @@
 use Rattle.std.proofs.Common.{sym, ◌∙◌, refl, arith}
 use Rattle.std.proofs.lemmas.Bool.{true≢false}
 use Rattle.chains.specs.Stamps.{stamp_of}
-use Rattle.knows_row.proofs.Repeated.{beyond_there, looked_same, looked_more, looked_all}
+use Rattle.knows_row.proofs.Repeated.{beyond_there, looked_same, looked_more, looked_run, looked_absent}
 use Rattle.knows_row.proofs.is_beyond_from.Goals as goal
 
 pub loop-before-preserved-then-equal : goal.loop-before-preserved-then-equal
@@ -26,5 +26,11 @@ loop-before-preserved c =
 pub returns : goal.returns
 returns c = (
   λ yes. absurd (true≢false (sym yes)),
-  λ beyond. absurd (looked_all _ _ _ _ _ c.loop-before.invariant.1 (omega (arith, c.loop-before-test.false, c.loop-before.auto.before-end, c.len-before-end.ensures.count)) beyond),
+  λ beyond. absurd (looked_run _ _ _ _ _ c.requires c.loop-before.invariant.1 c.loop-before.invariant.0 (omega (arith, c.loop-before-test.false, c.last_run-end.ensures.run)) beyond),
+)
+
+pub returns-in_default-get : goal.returns-in_default-get
+returns-in_default-get c = (
+  λ yes. absurd (true≢false (sym yes)),
+  λ beyond. absurd (looked_absent _ _ _ _ _ c.loop-before.invariant.1 (sym c.in_default-get.ensures) beyond),
 )

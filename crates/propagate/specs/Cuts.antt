@@ -13,6 +13,13 @@ use Rattle.propagate.specs.Greatest.{IsGreatestCut}
 use Rattle.propagate.specs.Rounds.{AreTops, AreRounds}
 use Rattle.propagate.specs.Choice.{AreChosen, IsChosenCertificate}
 
+-- The line of the greatest cut over a list for these failed processes. In every lawful history that agrees with the list it is that
+-- of the greatest closed cut.
+pub record IsGreatestLine (accepted : List Report) (numbers : List ℕ) (places : List Place) : Type 0 where
+  pub in_order : map (λ (x : Place). x.process) places ≡ range_with_len 0 (length (known accepted))
+  pub line : IsGreatestCut accepted numbers (positions_of places)
+  pub of_histories : IsLineOfHistories accepted numbers (positions_of places)
+
 -- The greatest cut over a list for these failed processes, with its reason chains and the number of rounds. In every lawful
 -- history that agrees with the list it is the greatest closed cut.
 pub record IsCutFor (accepted : List Report) (numbers : List ℕ) (cut : Cut) : Type 0 where

@@ -3,6 +3,8 @@ pub mod Rounds
 pub mod Choice
 pub mod Ranks
 pub mod Stages
+pub mod Unwound
 pub mod Nodes
+pub mod Reached
 pub mod Cuts
 pub mod Brackets

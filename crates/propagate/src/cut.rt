@@ -14,9 +14,11 @@ ghost use Rattle.reasons.specs.Certificates.{Certifies, positions_of};
 ghost use Rattle.history_law.specs.Headline.{IsLineOfHistories};
 ghost use Rattle.propagate.specs.Greatest.{IsGreatestCut};
 ghost use Rattle.propagate.specs.Ranks.{AreNextRanks, RanksAfter};
+ghost use Rattle.propagate.specs.Nodes.{chains_in};
 ghost use Rattle.propagate.specs.Stages.{IsStageFrom, AreThere, AreChosenBy, chains_at, chains_due};
+ghost use Rattle.propagate.specs.Reached.{IsReached};
 ghost use Rattle.propagate.specs.Choice.{AreChosen, IsChosenCertificate};
-ghost use Rattle.propagate.specs.Cuts.{IsCutFor, IsCertificateFor};
+ghost use Rattle.propagate.specs.Cuts.{IsGreatestLine, IsCutFor, IsCertificateFor};
 
 use crate::arena::Arena;
 use crate::places::{last_surviving_ranks, line_at};
@@ -38,19 +40,19 @@ pub struct Cut {
 /// The chains of the processes below their last surviving ranks, in order of birth.
 fn reasons_due(
     chains: &Chains,
-    arena: &Arena,
+    arena: &mut Arena,
     tops: &[u32],
     stage: &Stage,
 ) -> Result<Reasons, AllocError>
     requires tops { length tops.now ≡ length stage.now.cut.items }
     requires heads { length stage.now.heads.items ≡ length stage.now.cut.items }
-    requires there { AreThere tops.now stage.now.cut.items stage.now.heads.items arena.now }
-    ensures { IfOk result (λ r. r ≡ chains_due tops.now stage.now.cut.items (chains_at arena.now stage.now.heads.items)) }
+    requires there { AreThere tops.now stage.now.cut.items stage.now.heads.items (chains_in chains.now.accepted arena.old) }
+    ensures { IfOk result (λ r. r ≡ chains_due tops.now stage.now.cut.items (chains_at (chains_in chains.now.accepted arena.old) stage.now.heads.items)) }
 {
     let mut reasons = Reasons::new(chains.alloc());
     for i in 0..tops.len() {
         if stage.cut[i] < tops[i] {
-            let chain = arena.chain(stage.heads[i])?;
+            let chain = arena.chain(chains, stage.heads[i])?;
             reasons.push(chain)?;
         }
     }
@@ -75,9 +77,9 @@ fn last_stage(
     requires within { (p : ℕ) → p < length tops.now → slice_index tops.now p ≤ last_rank chains.now.accepted p }
     requires few { sum tops.now < 2 ^ 32 - 1 }
     requires table { IfSome needs (λ n. IsTableOf chains.now.accepted n.now × (tops.now ≡ last_ranks chains.now.accepted)) }
-    ensures stands { IfOk result (λ s. IsStageFrom chains.now.accepted tops.now s.stage s.arena) }
+    ensures stands { IfOk result (λ s. IsStageFrom chains.now.accepted tops.now s.stage (chains_in chains.now.accepted s.arena)) }
     ensures rounds { IfOk result (λ s. (t : ℕ) × (s.rounds ≡ t + 1) × RanksAfter chains.now.accepted tops.now t s.stage.cut.items
-        × AreChosenBy chains.now.accepted tops.now t s.stage.cut.items s.stage.heads.items s.arena) }
+        × AreChosenBy chains.now.accepted tops.now t s.stage.cut.items s.stage.heads.items (chains_in chains.now.accepted s.arena)) }
     ensures still { IfOk result (λ s. AreNextRanks chains.now.accepted s.stage.cut.items s.stage.cut.items) }
     ensures few { IfOk result (λ s. s.rounds ≤ sum tops.now + 1) }
 {
@@ -110,20 +112,43 @@ fn at_last<'a, 'b>(needs: Option<&'a Needs<'b>>, tops: &[u32]) -> Option<&'a Nee
     }
 }
 
+/// The last surviving ranks, the cut that the rounds from there end at, and its line.
+#[derive(Drop)]
+struct Reached {
+    tops: Vec<u32>,
+    last: LastStage,
+    line: Line,
+}
+
+/// The line that the rounds end at, by a table of needs of these chains, if there is one. The reason chains are not looked for yet.
+fn reach(chains: &Chains, needs: Option<&Needs<'_>>, failed: &Failed) -> Result<Reached, AllocError>
+    requires { IfSome needs (λ n. IsTableOf chains.now.accepted n.now) }
+    ensures { IfOk result (IsReached chains.now.accepted failed.now) }
+{
+    chains.lawful();
+    let tops = last_surviving_ranks(chains, failed)?;
+    let last = last_stage(chains, at_last(needs, &tops), &tops)?;
+    let line = line_at(chains, &last.stage.cut)?;
+    Ok(Reached { tops, last, line })
+}
+
 /// The cut as `greatest_cut` has it, by a table of needs of these chains, if there is one.
 fn cut_by(chains: &Chains, needs: Option<&Needs<'_>>, failed: &Failed) -> Result<Cut, AllocError>
     requires { IfSome needs (λ n. IsTableOf chains.now.accepted n.now) }
     ensures { IfOk result (IsCutFor chains.now.accepted failed.now) }
 {
     chains.lawful();
-    let tops = last_surviving_ranks(chains, failed)?;
-    let last = last_stage(chains, at_last(needs, &tops), &tops)?;
-    let line = line_at(chains, &last.stage.cut)?;
-    let reasons = reasons_due(chains, &last.arena, &tops, &last.stage)?;
+    let Reached { tops, last, line } = reach(chains, needs, failed)?;
+    let LastStage {
+        stage,
+        mut arena,
+        rounds,
+    } = last;
+    let reasons = reasons_due(chains, &mut arena, &tops, &stage)?;
     Ok(Cut {
         line,
         reasons,
-        rounds: last.rounds,
+        rounds,
     })
 }
 
@@ -133,6 +158,15 @@ pub fn greatest_cut(chains: &Chains, failed: &Failed) -> Result<Cut, AllocError>
     ensures { IfOk result (IsCutFor chains.now.accepted failed.now) }
 {
     cut_by(chains, None, failed)
+}
+
+/// The line of the same cut, for whoever asks for no reasons.
+pub fn greatest_line(chains: &Chains, failed: &Failed) -> Result<Line, AllocError>
+    ensures { IfOk result (IsGreatestLine chains.now.accepted failed.now) }
+{
+    chains.lawful();
+    let Reached { line, .. } = reach(chains, None, failed)?;
+    Ok(line)
 }
 
 /// The same cut, with the same chains and as many rounds, by a table of needs of these chains. It waits for nobody.

@@ -11,6 +11,6 @@ mod settlement;
 
 pub use cut::{
     Cut, certificate, certificate_by, certified_lines_are_the_greatest, greatest_cut,
-    greatest_cut_from, the_rounds_choose_once,
+    greatest_cut_from, greatest_line, the_rounds_choose_once,
 };
 pub use settlement::{settle, settle_named, settlements_have_one_outcome};

@@ -9,7 +9,7 @@ ghost use Rattle.chains.specs.Held.{Held, held_of};
 ghost use Rattle.chains.specs.Settled.{IsSettledFor, IsSettled};
 ghost use Rattle.propagate.specs.Greatest.{IsGreatestCut};
 
-use crate::cut::greatest_cut;
+use crate::cut::greatest_line;
 use chains::{Chains, Failed, FailedFault};
 use report_line::Name;
 use std::alloc::AllocError;
@@ -21,8 +21,8 @@ pub fn settle(chains: &Chains, failed: &Failed) -> Result<Chains, AllocError>
     ensures { IfOk result (λ kept. IsSettledFor (held_of chains.now) failed.now (held_of kept)) }
 {
     chains.lawful();
-    let cut = greatest_cut(chains, failed)?;
-    let mut kept = chains.keep_fit(&cut.line)?;
+    let line = greatest_line(chains, failed)?;
+    let mut kept = chains.keep_fit(&line)?;
     kept.count_settlement();
     kept.lawful();
     Ok(kept)

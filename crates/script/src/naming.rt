@@ -12,7 +12,7 @@ ghost use Rattle.script.specs.Printed.{IsLineFor};
 
 use chains::{Chains, Failed, FailedFault, Place};
 use driver::NamedPosition;
-use propagate::greatest_cut;
+use propagate::greatest_line;
 use report_line::Name;
 use std::alloc::AllocError;
 
@@ -38,8 +38,8 @@ fn recovery_line(chains: &Chains, failed: &Failed) -> Result<Vec<NamedPosition>,
     ensures names { IfOk result (λ line. names_of line.items ≡ known chains.now.accepted) }
     ensures greatest { IfOk result (λ line. IsGreatestCut chains.now.accepted failed.now (map (λ (x : AnyNamed). x.position) line.items)) }
 {
-    let cut = greatest_cut(chains, failed)?;
-    by_names(chains, cut.line.as_slice())
+    let line = greatest_line(chains, failed)?;
+    by_names(chains, line.as_slice())
 }
 
 /// The line to return to for these failed processes, by what these chains hold: their recovery line; or none of it where one of them

@@ -1,5 +1,6 @@
 pub mod DigitSteps
 pub mod Cutting
+pub mod Firsts
 pub mod Parting
 pub mod Parts
 pub mod Numerals

@@ -1,16 +1,47 @@
 //! The words of a line, one after the other. They take no memory.
 
 ghost use Rattle.std.specs.Prelude.{◌≡◌, ◌↔◌, ◌++◌, ◌∷◌, [], IfNone, IsTrue, MatchOption};
+ghost use Rattle.memchr.specs.Find.{IsFirstByte, is_byte};
 ghost use Rattle.report_line.specs.Cuts.{Lacks, words_in};
 
 use memchr::memchr;
 use std::marker::Model;
 
+/// Up to how many bytes are looked at one by one, which takes less time than a search of many at once.
+const FEW: usize = 8;
+
+// Where the first such byte of a few stands.
+#[inline(always)]
+fn first_of_few(byte: u8, few: &[u8]) -> Option<usize>
+    ensures { IsFirstByte (is_byte byte) few.now result }
+{
+    few.iter().position(|b| *b == byte)
+}
+
+// Where the first such byte stands.
+#[inline(always)]
+fn first_of(byte: u8, bytes: &[u8]) -> Option<usize>
+    ensures { IsFirstByte (is_byte byte) bytes.now result }
+{
+    if bytes.len() <= FEW {
+        return first_of_few(byte, bytes);
+    }
+    let (few, many) = bytes.split_at(FEW);
+    match first_of_few(byte, few) {
+        Some(at) => Some(at),
+        None => match memchr(byte, many) {
+            Some(at) => Some(FEW + at),
+            None => None,
+        },
+    }
+}
+
 // What stands in front of the first such byte, and what behind it.
+#[inline(always)]
 pub(crate) fn cut_once(byte: u8, bytes: &[u8]) -> Option<(&[u8], &[u8])>
     ensures { MatchOption result (Lacks byte bytes.now) (λ parts. Lacks byte parts.0.now × (bytes.now ≡ parts.0.now ++ byte ∷ parts.1.now)) }
 {
-    let at = memchr(byte, bytes)?;
+    let at = first_of(byte, bytes)?;
     Some((&bytes[..at], &bytes[at + 1..]))
 }
 

@@ -1,5 +1,5 @@
 -- The cut that the rounds end at, its chains, and how many rounds there are.
-use Rattle.std.proofs.Common.{None, ◌≡◌, ◌≢◌, inl, inr, ℕ, suc, ◌+◌, ◌-◌, ◌^◌, ◌≤◌, ◌<◌, cond, List, [], ◌∷◌, ◌++◌, length, map, get_or, refl, sym, ap, subst, ◌∙◌, arith}
+use Rattle.std.proofs.Common.{◌≡◌, ◌≢◌, inl, inr, ℕ, suc, ◌+◌, ◌-◌, ◌^◌, ◌≤◌, ◌<◌, cond, List, [], ◌∷◌, ◌++◌, length, map, get_or, refl, sym, ap, ◌∙◌, arith}
 use Rattle.std.specs.Prelude.{slice_index, nat_lt, drop, sum, All}
 use Rattle.std.specs.List.{range_with_len}
 use Rattle.std.proofs.Math.Seq.{drop-cons}
@@ -16,7 +16,7 @@ use Rattle.propagate.specs.Ranks.{AreNextRanks, AreFallen, IsStage, positions_fr
 use Rattle.propagate.specs.Rounds.{AreTops}
 use Rattle.knows_row.specs.Looks.{IsLoweredFrom}
 use Rattle.propagate.specs.declared.rounds.Stage.{Stage}
-use Rattle.propagate.specs.Stages.{AreNumberedBy, IsStanding, IsNextStage, AreGroundedBy, AreThere, AreChosenBy, AreRunning, chains_at, chains_due}
+use Rattle.propagate.specs.Stages.{IsStanding, IsNextStage, AreGroundedBy, AreThere, AreChosenBy, AreRunning, chains_at, chains_due}
 use Rattle.propagate.proofs.Ranked.{rank_at}
 use Rattle.propagate.proofs.Fallen.{member_first}
 use Rattle.propagate.proofs.Rounding.{sum_falls, in_order_from, positions_from_places}
@@ -72,15 +72,14 @@ has_settled accepted cut next fell ranks h none = ext_get_or 0 cut next (sym ran
 
 module _ (accepted : List Report) (tops : List ℕ) where
   -- before the first round no process is below its last surviving rank
-  pub running_first : (stage : Stage) (arena : List (List Place)) → stage.first ≡ None → stage.cut.items ≡ tops → IsStanding accepted tops stage.cut.items stage.heads.items stage.fell.items
+  pub running_first : (stage : Stage) (arena : List (List Place)) → stage.cut.items ≡ tops → IsStanding accepted tops stage.cut.items stage.heads.items stage.fell.items
       → AreThere tops stage.cut.items stage.heads.items arena → IsLoweredFrom accepted stage.before.items stage.cut.items → AreChosenBy accepted tops 0 stage.cut.items stage.heads.items arena
       → AreRunning accepted tops stage arena 1
-  running_first stage arena none first standing there from chosen = record {
+  running_first stage arena first standing there from chosen = record {
     stands = record {
       standing = standing;
       grounded = λ failed h p lt below. absurd (omega (arith, below, ap (λ (xs : List ℕ). slice_index xs p) first));
       there = there;
-      numbered = subst (AreNumberedBy accepted tops stage.cut.items stage.heads.items stage.fell.items arena) (sym none) first;
     };
     from = from;
     rounds = (0, refl, first, chosen);

@@ -7,11 +7,9 @@ pub mod Certified
 pub mod Rounding
 pub mod Grounding
 pub mod Unwinding
-pub mod Deciding
 pub mod Placing
 pub mod Lowering
 pub mod Staging
-pub mod Heads
 pub mod Cutting
 pub mod Choosing
 pub mod Reached

@@ -10,7 +10,6 @@ use Rattle.propagate.specs.declared.cut.Reached.{Reached}
 use Rattle.propagate.specs.Ranks.{IsStage}
 use Rattle.propagate.specs.Rounds.{AreRounds}
 use Rattle.propagate.specs.Choice.{AreChosen, ChainsAfter}
-use Rattle.propagate.specs.Nodes.{chains_in}
 use Rattle.propagate.specs.Stages.{chains_at, chains_due, shown}
 use Rattle.propagate.specs.Reached.{IsReached}
 use Rattle.propagate.specs.Cuts.{IsGreatestLine, IsCutFor}
@@ -31,10 +30,10 @@ module _ (accepted : List Report) (failed : List ℕ) (r : Reached) (folded : Is
   cut = r.last.stage.cut.items
 
   abbrev chains : List (List Place)
-  chains = chains_at (chains_in accepted r.last.arena) r.last.stage.heads.items
+  chains = chains_at r.last.arena r.last.stage.heads.items
 
   stage : IsStage accepted failed r.tops.items cut chains
-  stage = stage_of accepted failed r.tops.items cut r.last.stage.heads.items r.last.stage.fell.items (chains_in accepted r.last.arena) h.tops h.stands.standing h.stands.grounded
+  stage = stage_of accepted failed r.tops.items cut r.last.stage.heads.items r.last.stage.fell.items r.last.arena h.tops h.stands.standing h.stands.grounded
 
   rounds : AreRounds accepted failed r.last.rounds (positions_of r.line)
   rounds =

@@ -1,5 +1,5 @@
 -- What a round has made of the processes before the i-th, and what it leaves of the others.
-use Rattle.std.proofs.Common.{◌≡◌, ◌≢◌, inl, inr, ℕ, ◌+◌, ◌≤◌, ◌<◌, Some, None, Option, List, [], ◌∷◌, ◌++◌, length, get_or, Contains, refl, sym, ap, subst, ◌∙◌, arith}
+use Rattle.std.proofs.Common.{◌≡◌, ◌≢◌, inl, inr, ℕ, ◌+◌, ◌≤◌, ◌<◌, Some, List, [], ◌∷◌, ◌++◌, length, get_or, Contains, refl, sym, ap, subst, ◌∙◌, arith}
 use Rattle.std.specs.Prelude.{slice_index, All}
 use Rattle.std.proofs.lemmas.Bool.{cases_lt}
 use Rattle.std.proofs.lemmas.List.{get_or_append_left, get_or_push, length_push, length-append, get_or-map}
@@ -17,8 +17,7 @@ use Rattle.knows_row.specs.Looks.{AreBoundsOf, IsLoweredFrom, all_known}
 use Rattle.knows_row.specs.Thresholds.{AreThresholdsOf}
 use Rattle.knows_row.proofs.Lasts.{all_in_order, all_below, all_has}
 use Rattle.propagate.specs.Rounds.{AreTops}
-use Rattle.propagate.specs.Nodes.{last_place}
-use Rattle.propagate.specs.Stages.{IsStanding, AreGroundedBy, AreThere, AreInARow, AreNumberedBy, IsGroundedBelow}
+use Rattle.propagate.specs.Stages.{IsStanding, AreGroundedBy, AreThere}
 use Rattle.propagate.proofs.Rounding.{clear_but_fallen}
 use Rattle.propagate.proofs.Grounding.{grounded_first, grounded_more, grounded_still, falls_everywhere}
 
@@ -139,6 +138,12 @@ bounds_of_stage accepted tops before cut heads fell rows s low h = record {
 
 -- ---- chains
 
+-- For each failed set with these last surviving ranks, and for each lower cut that has p at this rank, the chain is grounded.
+abbrev pub IsGroundedBelow : List Report → List ℕ → List ℕ → ℕ → ℕ → List Place → Type 0
+IsGroundedBelow accepted tops cut p r chain =
+    (failed next : List ℕ) → AreTops accepted failed tops → length next ≡ length cut → ((q : ℕ) → q < length next → slice_index next q ≤ slice_index cut q)
+    → slice_index next p ≡ r → r < slice_index tops p → IsGrounded accepted failed next (place_at accepted p (r + 1)) chain
+
 -- the numbers of the chains of the processes before the i-th
 pub record AreHeadsTo (accepted : List Report) (tops cut : List ℕ) (i : ℕ) (next heads : List ℕ) (arena : List (List Place)) : Type 0 where
   pub complete : length heads ≡ i
@@ -197,77 +202,6 @@ pub grounded_grown : (accepted : List Report) (tops cut heads : List ℕ) (arena
 grounded_grown accepted tops cut heads arena more later grown headed there grounded failed h p lt below =
     rw (get_or-map (λ (head : ℕ). get_or later head []) heads p 0 [] (omega arith), chain_stays arena more later (slice_index heads p) grown (there p lt below))
     (chain_of accepted failed tops cut heads arena p grounded h headed lt below)
-
--- ---- chains in a row
-
--- those of the processes before the i-th that fell
-pub record AreInARowTo (accepted : List Report) (tops : List ℕ) (i : ℕ) (next heads fell : List ℕ) (arena : List (List Place)) (first : ℕ) : Type 0 where
-  pub at : (k : ℕ) → k < length fell → slice_index heads (slice_index fell k) ≡ first + k
-  pub ends : (k : ℕ) → k < length fell → last_place (get_or arena (first + k) []) ≡ place_at accepted (slice_index fell k) (slice_index next (slice_index fell k) + 1)
-  pub lower : (k : ℕ) → k < length fell → slice_index next (slice_index fell k) < slice_index tops (slice_index fell k)
-  pub below : (k : ℕ) → k < length fell → slice_index fell k < i
-  pub counted : length arena ≡ first + length fell
-
-pub row_none : (accepted : List Report) (tops : List ℕ) (arena : List (List Place)) (first : ℕ) → first ≡ length arena → AreInARowTo accepted tops 0 [] [] [] arena first
-row_none accepted tops arena first is = record {
-  at = λ k lt. absurd (omega (arith, lt));
-  ends = λ k lt. absurd (omega (arith, lt));
-  lower = λ k lt. absurd (omega (arith, lt));
-  below = λ k lt. absurd (omega (arith, lt));
-  counted = omega (arith, is);
-}
-
--- what holds of each of them, and of one more
-each_of : (P : ℕ → ℕ → Type 0) (fell : List ℕ) (i : ℕ) → ((k : ℕ) → k < length fell → P k (slice_index fell k)) → P (length fell) i → (k : ℕ) → k < length (fell ++ i ∷ []) → P k (slice_index (fell ++ i ∷ []) k)
-each_of P fell i each one k lt = elim (cases_lt k (length fell)) [
-  | inl below ↦ rw (get_or_append_left fell (i ∷ []) 0 k below) (each k below)
-  | inr past ↦
-      let e : length fell ≡ k = omega (arith, past, lt, length_push fell i) in
-      rw (get_or_push fell i 0 k e) (subst (λ (j : ℕ). P j i) e one)
-]
-
-module _ (accepted : List Report) (tops : List ℕ) (i : ℕ) (next heads fell : List ℕ) (arena later : List (List Place)) (first r head : ℕ) (h : AreInARowTo accepted tops i next heads fell arena first)
-    (reached : length next ≡ i) (headed : length heads ≡ i) where
-  rank_kept : (k : ℕ) → k < length fell → slice_index (next ++ r ∷ []) (slice_index fell k) ≡ slice_index next (slice_index fell k)
-  rank_kept k lt = get_or_append_left next (r ∷ []) 0 (slice_index fell k) (omega (arith, h.below k lt, reached))
-
-  head_kept : (k : ℕ) → k < length fell → slice_index (heads ++ head ∷ []) (slice_index fell k) ≡ slice_index heads (slice_index fell k)
-  head_kept k lt = get_or_append_left heads (head ∷ []) 0 (slice_index fell k) (omega (arith, h.below k lt, headed))
-
-  pub row_stays : later ≡ arena → AreInARowTo accepted tops (i + 1) (next ++ r ∷ []) (heads ++ head ∷ []) fell later first
-  row_stays same = record {
-    at = λ k lt. head_kept k lt ∙ h.at k lt;
-    ends = λ k lt. ap (λ (xs : List (List Place)). last_place (get_or xs (first + k) [])) same ∙ h.ends k lt ∙ ap (λ (x : ℕ). place_at accepted (slice_index fell k) (x + 1)) (sym (rank_kept k lt));
-    lower = λ k lt. omega (arith, h.lower k lt, rank_kept k lt);
-    below = λ k lt. omega (arith, h.below k lt);
-    counted = ap (λ (xs : List (List Place)). length xs) same ∙ h.counted;
-  }
-
-  pub row_falls : (more : List (List Place)) → later ≡ arena ++ more → r < slice_index tops i → (head ≡ length arena) × (length later ≡ length arena + 1) × (last_place (get_or later head []) ≡ place_at accepted i (r + 1))
-      → AreInARowTo accepted tops (i + 1) (next ++ r ∷ []) (heads ++ head ∷ []) (fell ++ i ∷ []) later first
-  row_falls more grown lower new = record {
-    at = each_of (λ k q. slice_index (heads ++ head ∷ []) q ≡ first + k) fell i (λ k lt. head_kept k lt ∙ h.at k lt) (get_or_push heads head 0 i headed ∙ omega (arith, new.0, h.counted));
-    ends = each_of (λ k q. last_place (get_or later (first + k) []) ≡ place_at accepted q (slice_index (next ++ r ∷ []) q + 1)) fell i
-        (λ k lt.
-        ap last_place (chain_stays arena more later (first + k) grown (omega (arith, h.counted, lt))) ∙ h.ends k lt
-        ∙ ap (λ (x : ℕ). place_at accepted (slice_index fell k) (x + 1)) (sym (rank_kept k lt)))
-        (ap (λ (j : ℕ). last_place (get_or later j [])) (omega (arith, new.0, h.counted)) ∙ new.2 ∙ ap (λ (x : ℕ). place_at accepted i (x + 1)) (sym (get_or_push next r 0 i reached)));
-    lower = each_of (λ k q. slice_index (next ++ r ∷ []) q < slice_index tops q) fell i (λ k lt. omega (arith, h.lower k lt, rank_kept k lt)) (omega (arith, lower, get_or_push next r 0 i reached));
-    below = each_of (λ k q. q < i + 1) fell i (λ k lt. omega (arith, h.below k lt)) (omega arith);
-    counted = omega (arith, new.1, h.counted, length_push fell i);
-  }
-
-pub row_done : (accepted : List Report) (tops : List ℕ) (i : ℕ) (next heads fell : List ℕ) (arena : List (List Place)) (first : ℕ) → AreInARowTo accepted tops i next heads fell arena first → AreInARow accepted tops next heads fell arena first
-row_done accepted tops i next heads fell arena first h = record { at = h.at; ends = h.ends; lower = h.lower; within = omega (arith, h.counted) }
-
-pub numbered_grown : (accepted : List Report) (tops cut heads fell : List ℕ) (arena more later : List (List Place)) (o : Option ℕ) → later ≡ arena ++ more → AreNumberedBy accepted tops cut heads fell arena o → AreNumberedBy accepted tops cut heads fell later o
-numbered_grown accepted tops cut heads fell arena more later None grown h = h
-numbered_grown accepted tops cut heads fell arena more later (Some first) grown h = record {
-  at = h.at;
-  ends = λ k lt. ap last_place (chain_stays arena more later (first + k) grown (omega (arith, h.within, lt))) ∙ h.ends k lt;
-  lower = h.lower;
-  within = omega (arith, h.within, ap (λ (xs : List (List Place)). length xs) grown, length-append arena more);
-}
 
 -- ---- the chain of a process that a round leaves at rank r
 

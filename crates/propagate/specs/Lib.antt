@@ -3,7 +3,6 @@ pub mod Rounds
 pub mod Choice
 pub mod Ranks
 pub mod Stages
-pub mod Unwound
 pub mod Nodes
 pub mod Reached
 pub mod Cuts

@@ -9,15 +9,14 @@ use Rattle.propagate.specs.declared.cut.Reached.{Reached}
 use Rattle.propagate.specs.Greatest.{IsGreatestCut}
 use Rattle.propagate.specs.Ranks.{AreNextRanks, RanksAfter, positions_from}
 use Rattle.propagate.specs.Rounds.{AreTops}
-use Rattle.propagate.specs.Nodes.{chains_in}
 use Rattle.propagate.specs.Stages.{IsStageFrom, AreChosenBy}
 
 -- the rounds from the last surviving ranks of these failed processes end here, and this is the line
 pub record IsReached (accepted : List Report) (failed : List ℕ) (r : Reached) : Type 0 where
   pub tops : AreTops accepted failed r.tops.items
-  pub stands : IsStageFrom accepted r.tops.items r.last.stage (chains_in accepted r.last.arena)
+  pub stands : IsStageFrom accepted r.tops.items r.last.stage r.last.arena
   pub rounds : (t : ℕ) × (r.last.rounds ≡ t + 1) × RanksAfter accepted r.tops.items t r.last.stage.cut.items
-      × AreChosenBy accepted r.tops.items t r.last.stage.cut.items r.last.stage.heads.items (chains_in accepted r.last.arena)
+      × AreChosenBy accepted r.tops.items t r.last.stage.cut.items r.last.stage.heads.items r.last.arena
   pub still : AreNextRanks accepted r.last.stage.cut.items r.last.stage.cut.items
   pub few : r.last.rounds ≤ sum r.tops.items + 1
   pub in_order : map (λ (x : Place). x.process) r.line ≡ range_with_len 0 (length (known accepted))

@@ -1,13 +1,12 @@
 -- Working definitions: where the rounds stand.
-use Rattle.std.specs.Prelude.{◌≡◌, ◌⊎◌, ℕ, ◌+◌, ◌<◌, ◌≤◌, List, [], ◌∷◌, ◌++◌, length, map, sum, All, slice_index, get_or, Option, Some, None, nat_lt, if◌then◌else◌}
+use Rattle.std.specs.Prelude.{◌≡◌, ◌⊎◌, ℕ, ◌+◌, ◌<◌, ◌≤◌, List, [], ◌∷◌, ◌++◌, length, map, sum, All, slice_index, get_or, Some, nat_lt, if◌then◌else◌}
 use Rattle.std.specs.List.Sorted.{IsStrictlyIncreasing}
 use Rattle.report_line.specs.declared.report.Report.{Report}
 use Rattle.chains.specs.declared.position.Place.{Place}
 use Rattle.chains.specs.Processes.{known}
 use Rattle.chains.specs.Positions.{last_rank, place_at}
 use Rattle.propagate.specs.declared.rounds.Stage.{Stage}
-use Rattle.propagate.specs.Nodes.{last_place}
-use Rattle.propagate.specs.Ranks.{AreGrounded, AreNextRanks, AreFallen, RanksAfter, IsClearBut, IsCauseOf, IsGrounded, positions_from}
+use Rattle.propagate.specs.Ranks.{AreGrounded, AreNextRanks, AreFallen, RanksAfter, IsClearBut, IsCauseOf, positions_from}
 use Rattle.knows_row.specs.Looks.{IsLoweredFrom}
 use Rattle.propagate.specs.Rounds.{AreTops}
 use Rattle.propagate.specs.Choice.{ChainsAfter}
@@ -35,25 +34,11 @@ AreGroundedBy accepted tops cut heads arena = (failed : List ℕ) → AreTops ac
 abbrev pub AreThere : List ℕ → List ℕ → List ℕ → List (List Place) → Type 0
 AreThere tops cut heads arena = (p : ℕ) → p < length cut → slice_index cut p < slice_index tops p → slice_index heads p < length arena
 
--- The chains of the processes that the last round lowered have one number after the other, from this one on. Each ends at the place
--- right above the rank that its process fell to.
-pub record AreInARow (accepted : List Report) (tops cut heads fell : List ℕ) (arena : List (List Place)) (first : ℕ) : Type 0 where
-  pub at : (k : ℕ) → k < length fell → slice_index heads (slice_index fell k) ≡ first + k
-  pub ends : (k : ℕ) → k < length fell → last_place (get_or arena (first + k) []) ≡ place_at accepted (slice_index fell k) (slice_index cut (slice_index fell k) + 1)
-  pub lower : (k : ℕ) → k < length fell → slice_index cut (slice_index fell k) < slice_index tops (slice_index fell k)
-  pub within : first + length fell ≤ length arena
-
--- so it is where a round was made; before, each process is at its last surviving rank
-abbrev pub AreNumberedBy : List Report → List ℕ → List ℕ → List ℕ → List ℕ → List (List Place) → Option ℕ → Type 0
-AreNumberedBy accepted tops cut heads fell arena None = cut ≡ tops
-AreNumberedBy accepted tops cut heads fell arena (Some first) = AreInARow accepted tops cut heads fell arena first
-
 -- a stage of the rounds from these last surviving ranks, with its chains
 pub record IsStageFrom (accepted : List Report) (tops : List ℕ) (stage : Stage) (arena : List (List Place)) : Type 0 where
   pub standing : IsStanding accepted tops stage.cut.items stage.heads.items stage.fell.items
   pub grounded : AreGroundedBy accepted tops stage.cut.items stage.heads.items arena
   pub there : AreThere tops stage.cut.items stage.heads.items arena
-  pub numbered : AreNumberedBy accepted tops stage.cut.items stage.heads.items stage.fell.items arena stage.first
 
 -- the chains of just those processes that are below their last surviving ranks, in order
 abbrev pub chains_due : List ℕ → List ℕ → List (List Place) → List (List Place)
@@ -80,21 +65,6 @@ abbrev pub IsChainAt : List Report → List ℕ → List ℕ → List ℕ → Li
 IsChainAt accepted tops cut heads arena p r chain =
     ((r ≡ slice_index cut p) × (r < slice_index tops p → chain ≡ get_or arena (slice_index heads p) []))
     ⊎ ((q : ℕ) × IsCauseOf accepted cut p r (Some q) × GoesOnAt accepted tops cut heads arena p r q chain)
-
--- For each failed set with these last surviving ranks, and for each lower cut that has p at this rank, the chain is grounded.
-abbrev pub IsGroundedBelow : List Report → List ℕ → List ℕ → ℕ → ℕ → List Place → Type 0
-IsGroundedBelow accepted tops cut p r chain =
-    (failed next : List ℕ) → AreTops accepted failed tops → length next ≡ length cut → ((q : ℕ) → q < length next → slice_index next q ≤ slice_index cut q)
-    → slice_index next p ≡ r → r < slice_index tops p → IsGrounded accepted failed next (place_at accepted p (r + 1)) chain
-
--- the number of the chain of p after a round that brings it to rank r; one is added where p falls, and none where it stays
-pub record IsHeadAfter (accepted : List Report) (tops : List ℕ) (stage : Stage) (arena : List (List Place)) (p r : ℕ) (later : List (List Place)) (head : ℕ) : Type 0 where
-  pub more : (more : List (List Place)) × (later ≡ arena ++ more)
-  pub there : r < slice_index tops p → head < length later
-  pub grounded : IsGroundedBelow accepted tops stage.cut.items p r (get_or later head [])
-  pub chain : IsChainAt accepted tops stage.cut.items stage.heads.items arena p r (get_or later head [])
-  pub stays : r ≡ slice_index stage.cut.items p → later ≡ arena
-  pub falls : r < slice_index stage.cut.items p → (head ≡ length arena) × (length later ≡ length arena + 1) × (last_place (get_or later head []) ≡ place_at accepted p (r + 1))
 
 -- such chains of all processes, after a round
 abbrev pub AreChainsAt : List Report → List ℕ → List ℕ → List ℕ → List (List Place) → List ℕ → List ℕ → List (List Place) → Type 0

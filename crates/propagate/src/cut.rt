@@ -14,7 +14,6 @@ ghost use Rattle.reasons.specs.Certificates.{Certifies, positions_of};
 ghost use Rattle.history_law.specs.Headline.{IsLineOfHistories};
 ghost use Rattle.propagate.specs.Greatest.{IsGreatestCut};
 ghost use Rattle.propagate.specs.Ranks.{AreNextRanks, RanksAfter};
-ghost use Rattle.propagate.specs.Nodes.{chains_in};
 ghost use Rattle.propagate.specs.Stages.{IsStageFrom, AreThere, AreChosenBy, chains_at, chains_due};
 ghost use Rattle.propagate.specs.Reached.{IsReached};
 ghost use Rattle.propagate.specs.Choice.{AreChosen, IsChosenCertificate};
@@ -40,19 +39,19 @@ pub struct Cut {
 /// The chains of the processes below their last surviving ranks, in order of birth.
 fn reasons_due(
     chains: &Chains,
-    arena: &mut Arena,
+    arena: &Arena,
     tops: &[u32],
     stage: &Stage,
 ) -> Result<Reasons, AllocError>
     requires tops { length tops.now ≡ length stage.now.cut.items }
     requires heads { length stage.now.heads.items ≡ length stage.now.cut.items }
-    requires there { AreThere tops.now stage.now.cut.items stage.now.heads.items (chains_in chains.now.accepted arena.old) }
-    ensures { IfOk result (λ r. r ≡ chains_due tops.now stage.now.cut.items (chains_at (chains_in chains.now.accepted arena.old) stage.now.heads.items)) }
+    requires there { AreThere tops.now stage.now.cut.items stage.now.heads.items arena.now }
+    ensures { IfOk result (λ r. r ≡ chains_due tops.now stage.now.cut.items (chains_at arena.now stage.now.heads.items)) }
 {
     let mut reasons = Reasons::new(chains.alloc());
     for i in 0..tops.len() {
         if stage.cut[i] < tops[i] {
-            let chain = arena.chain(chains, stage.heads[i])?;
+            let chain = arena.chain(stage.heads[i])?;
             reasons.push(chain)?;
         }
     }
@@ -77,9 +76,9 @@ fn last_stage(
     requires within { (p : ℕ) → p < length tops.now → slice_index tops.now p ≤ last_rank chains.now.accepted p }
     requires few { sum tops.now < 2 ^ 32 - 1 }
     requires table { IfSome needs (λ n. IsTableOf chains.now.accepted n.now × (tops.now ≡ last_ranks chains.now.accepted)) }
-    ensures stands { IfOk result (λ s. IsStageFrom chains.now.accepted tops.now s.stage (chains_in chains.now.accepted s.arena)) }
+    ensures stands { IfOk result (λ s. IsStageFrom chains.now.accepted tops.now s.stage s.arena) }
     ensures rounds { IfOk result (λ s. (t : ℕ) × (s.rounds ≡ t + 1) × RanksAfter chains.now.accepted tops.now t s.stage.cut.items
-        × AreChosenBy chains.now.accepted tops.now t s.stage.cut.items s.stage.heads.items (chains_in chains.now.accepted s.arena)) }
+        × AreChosenBy chains.now.accepted tops.now t s.stage.cut.items s.stage.heads.items s.arena) }
     ensures still { IfOk result (λ s. AreNextRanks chains.now.accepted s.stage.cut.items s.stage.cut.items) }
     ensures few { IfOk result (λ s. s.rounds ≤ sum tops.now + 1) }
 {
@@ -120,7 +119,7 @@ struct Reached {
     line: Line,
 }
 
-/// The line that the rounds end at, by a table of needs of these chains, if there is one. The reason chains are not looked for yet.
+/// The line that the rounds end at, by a table of needs of these chains, if there is one. No reason chain is written out yet.
 fn reach(chains: &Chains, needs: Option<&Needs<'_>>, failed: &Failed) -> Result<Reached, AllocError>
     requires { IfSome needs (λ n. IsTableOf chains.now.accepted n.now) }
     ensures { IfOk result (IsReached chains.now.accepted failed.now) }
@@ -139,16 +138,11 @@ fn cut_by(chains: &Chains, needs: Option<&Needs<'_>>, failed: &Failed) -> Result
 {
     chains.lawful();
     let Reached { tops, last, line } = reach(chains, needs, failed)?;
-    let LastStage {
-        stage,
-        mut arena,
-        rounds,
-    } = last;
-    let reasons = reasons_due(chains, &mut arena, &tops, &stage)?;
+    let reasons = reasons_due(chains, &last.arena, &tops, &last.stage)?;
     Ok(Cut {
         line,
         reasons,
-        rounds,
+        rounds: last.rounds,
     })
 }
 

@@ -3,7 +3,7 @@
 ghost use Rattle.std.specs.Prelude.{◌≡◌, ◌<◌, ◌≤◌, ◌+◌, ◌↔◌, IfSome, IsTrue, length, slice_index};
 ghost use Rattle.chains.specs.Processes.{known};
 ghost use Rattle.knows_row.specs.Looks.{AreBoundsOf, IsFirstOf, KnowsOne, last_ranks};
-ghost use Rattle.propagate.specs.Ranks.{IsClearRank, IsNextRank};
+ghost use Rattle.propagate.specs.Ranks.{IsClearRank, IsNextRank, IsCauseOf};
 ghost use Rattle.propagate.specs.Brackets.{IsBracket};
 ghost use Rattle.propagate.specs.Stages.{IsStanding};
 
@@ -11,8 +11,15 @@ use crate::rounds::Stage;
 use chains::Chains;
 use knows_row::{Needs, Thresholds};
 
+/// Where a round brings a process, and, if that is lower, the first process that the position above knows too much of.
+#[derive(Drop)]
+pub(crate) struct Lowered {
+    pub(crate) rank: u32,
+    pub(crate) cause: Option<u32>,
+}
+
 /// The first of the processes that fell that the place at this rank knows after its rank in the cut.
-pub(crate) fn first_known(
+fn first_known(
     chains: &Chains,
     thresholds: &Thresholds,
     stage: &Stage,
@@ -135,7 +142,7 @@ fn narrowed(
     low
 }
 
-/// The rank that a round brings a process to, where no table tells of it.
+/// The rank that a round brings a process to.
 fn next_rank(
     chains: &Chains,
     thresholds: &Thresholds,
@@ -158,7 +165,7 @@ fn next_rank(
     narrowed(chains, thresholds, tops, stage, process, wide)
 }
 
-/// The same, by a table of needs, if there is one.
+/// What a round makes of a process.
 pub(crate) fn lower(
     chains: &Chains,
     thresholds: &Thresholds,
@@ -166,16 +173,25 @@ pub(crate) fn lower(
     tops: &[u32],
     stage: &Stage,
     process: u32,
-) -> u32
+) -> Lowered
     requires standing { IsStanding chains.now.accepted tops.now stage.now.cut.items stage.now.heads.items stage.now.fell.items }
     requires bounds { AreBoundsOf chains.now.accepted stage.now.cut.items stage.now.fell.items thresholds.now }
     requires table { IfSome table (λ needs. (needs.now.accepted ≡ chains.now.accepted) × (stage.now.cut.items ≡ last_ranks chains.now.accepted)) }
     requires process { process < length stage.now.cut.items }
-    ensures rank { IsNextRank chains.now.accepted stage.now.cut.items process result }
-    ensures known { result < slice_index stage.now.cut.items process → KnowsOne chains.now.accepted stage.now.fell.items stage.now.cut.items process (result + 1) }
+    ensures rank { IsNextRank chains.now.accepted stage.now.cut.items process result.rank }
+    ensures cause { IsCauseOf chains.now.accepted stage.now.cut.items process result.rank result.cause }
 {
+    chains.lawful();
     if stays(chains, table, stage, process) {
-        return stage.cut[process as usize];
+        return Lowered {
+            rank: stage.cut[process as usize],
+            cause: None,
+        };
     }
-    next_rank(chains, thresholds, tops, stage, process)
+    let rank = next_rank(chains, thresholds, tops, stage, process);
+    if rank == stage.cut[process as usize] {
+        return Lowered { rank, cause: None };
+    }
+    let cause = first_known(chains, thresholds, stage, process, rank + 1);
+    Lowered { rank, cause }
 }

@@ -1,5 +1,4 @@
-# Of three processes that send round and round one forks at the end, and takes a checkpoint more: its ids differ, so causes are looked for
-# at once while it falls. The other two fall on, and their causes are looked for late.
+# Of three processes that send round and round one forks at the end, and takes a checkpoint more, so its last ids differ. All fall far.
 {
     printf '%s\n' 'root a' 'fork a b' 'fork b c' 'check a' 'check b' 'check c'
     for i in {1..6}; do

@@ -1,5 +1,5 @@
 # 66 pairs, each of which sends to and fro, with a checkpoint behind each message; and then the line where all failed. So 66 processes
-# fall in a round, each chain is asked for, and the causes are looked for at once.
+# fall in a round, and each chain is asked for.
 {
     echo 'root p0'
     for i in {1..131}; do echo "fork p$(((i - 1) / 2)) p$i"; done

@@ -1,25 +1,8 @@
-use Rattle.std.proofs.Common.{Some, [], List, length, sym, ap, subst, arith}
-use Rattle.chains.specs.declared.position.Place.{Place}
-use Rattle.propagate.specs.Unwound.{unwound, IsUnwinding}
-use Rattle.propagate.proofs.Unwinding.{unwound_count, kept_first, unwinding_first}
+use Rattle.propagate.proofs.Unwinding.{unwinding_step, unwinding_less}
 use Rattle.propagate.proofs.arena.reversed.Goals as goal
 
-pub loop-rest-init : goal.loop-rest-init
-loop-rest-init c =
-    let accepted = c.args.chains.now.accepted in
-    let nodes = c.args.nodes.now.items in
-    let chains = unwound accepted [] nodes in
-    record {
-      kept = kept_first accepted nodes c.requires.behind;
-      unwinding = subst (IsUnwinding chains c.args.number (Some c.args.number)) (sym c.new-places.ensures.items) (unwinding_first chains c.args.number (omega (arith, c.requires.within, unwound_count accepted nodes)));
-    }
+pub loop-rest-smaller : goal.loop-rest-smaller
+loop-rest-smaller c = unwinding_less c.args.nodes.now c.args.chain c.in-Some.number _ c.loop-rest.rest c.loop-rest.places.items c.requires.behind c.in-Some.is c.loop-rest.invariant
 
-pub step_back-requires-clause-within : goal.step_back-requires-clause-within
-step_back-requires-clause-within c =
-    let accepted = c.args.chains.now.accepted in
-    omega (
-      arith,
-      c.loop-rest.invariant.unwinding.within c.in-Some.earlier c.in-Some.is,
-      ap (λ (chains : List (List Place)). length chains) c.loop-rest.invariant.kept.same,
-      unwound_count accepted c.loop-rest.nodes.items,
-    )
+pub loop-rest-preserved : goal.loop-rest-preserved
+loop-rest-preserved c = unwinding_step c.args.nodes.now c.args.chain c.in-Some.number _ c.loop-rest.rest c.loop-rest.places.items c.push.new.self.items c.requires.behind c.in-Some.is c.loop-rest.invariant c.in_ok-push.ensures.items

@@ -3,7 +3,6 @@ use Rattle.std.proofs.lemmas.Bool.{eqb-true, eqb-false}
 use Rattle.std.proofs.lemmas.Option.{IfSome_then}
 use Rattle.propagate.specs.Ranks.{AreNextRanks, RanksAfter}
 use Rattle.propagate.proofs.Rounding.{sum_falls}
-use Rattle.propagate.specs.Nodes.{chains_in}
 use Rattle.propagate.specs.Stages.{IsStanding, AreChosenBy}
 use Rattle.propagate.proofs.Cutting.{running_first, running_more, has_changed, has_settled}
 use Rattle.propagate.proofs.Choosing.{chosen_first, chosen_still, chosen_more}
@@ -12,11 +11,11 @@ use Rattle.propagate.proofs.cut.last_stage.Goals as goal
 pub loop-stage-init : goal.loop-stage-init
 loop-stage-init c =
     let s = c.in_ok-stage.stage in (
-      running_first c.args.chains.now.accepted c.args.tops.now s (chains_in c.args.chains.now.accepted c.new-arena.result)
-          c.in_ok-stage.ensures.none c.in_ok-stage.ensures.cut c.in_ok-stage.ensures.standing (c.in_ok-stage.ensures.there (chains_in c.args.chains.now.accepted c.new-arena.result))
+      running_first c.args.chains.now.accepted c.args.tops.now s c.new-arena.result
+          c.in_ok-stage.ensures.cut c.in_ok-stage.ensures.standing (c.in_ok-stage.ensures.there c.new-arena.result)
           c.in_ok-stage.ensures.from
-          (subst (λ (cut : List ℕ). AreChosenBy c.args.chains.now.accepted c.args.tops.now 0 cut s.heads.items (chains_in c.args.chains.now.accepted c.new-arena.result)) (sym c.in_ok-stage.ensures.cut)
-          (chosen_first c.args.chains.now.accepted c.args.tops.now s.heads.items s.fell.items (chains_in c.args.chains.now.accepted c.new-arena.result)
+          (subst (λ (cut : List ℕ). AreChosenBy c.args.chains.now.accepted c.args.tops.now 0 cut s.heads.items c.new-arena.result) (sym c.in_ok-stage.ensures.cut)
+          (chosen_first c.args.chains.now.accepted c.args.tops.now s.heads.items s.fell.items c.new-arena.result
           (subst (λ (cut : List ℕ). IsStanding c.args.chains.now.accepted c.args.tops.now cut s.heads.items s.fell.items) c.in_ok-stage.ensures.cut c.in_ok-stage.ensures.standing))),
       IfSome_then c.args.needs c.requires.table (λ n h. (h.0, c.in_ok-stage.ensures.cut ∙ h.1, c.in_ok-stage.ensures.all)),
     )
@@ -37,7 +36,7 @@ returns-then-is_empty-clause-rounds c =
       rounds.0,
       rounds.1,
       subst (RanksAfter accepted tops rounds.0) (same c) rounds.2,
-      chosen_still accepted tops s.cut.items next.cut.items s.heads.items next.heads.items s.fell.items next.fell.items (chains_in c.args.chains.now.accepted c.loop-stage.arena) (chains_in c.args.chains.now.accepted c.round.new.arena)
+      chosen_still accepted tops s.cut.items next.cut.items s.heads.items next.heads.items s.fell.items next.fell.items c.loop-stage.arena c.round.new.arena
           c.loop-stage.invariant.0.stands.standing c.in_ok-next.ensures.stands.standing c.in_ok-next.ensures.ranks c.in_ok-next.ensures.chains rounds.0 (same c) rounds.3,
     )
 
@@ -69,8 +68,8 @@ pub loop-stage-preserved : goal.loop-stage-preserved
 loop-stage-preserved c =
     let s = c.loop-stage.stage in
     let next = c.in_ok-next.next in (
-      running_more c.args.chains.now.accepted c.args.tops.now s (chains_in c.args.chains.now.accepted c.loop-stage.arena) c.loop-stage.rounds c.loop-stage.invariant.0 next (chains_in c.args.chains.now.accepted c.round.new.arena) c.in_ok-next.ensures (changed c)
-          (λ t chosen. chosen_more c.args.chains.now.accepted c.args.tops.now s.cut.items next.cut.items s.heads.items next.heads.items s.fell.items next.fell.items (chains_in c.args.chains.now.accepted c.loop-stage.arena) (chains_in c.args.chains.now.accepted c.round.new.arena)
+      running_more c.args.chains.now.accepted c.args.tops.now s c.loop-stage.arena c.loop-stage.rounds c.loop-stage.invariant.0 next c.round.new.arena c.in_ok-next.ensures (changed c)
+          (λ t chosen. chosen_more c.args.chains.now.accepted c.args.tops.now s.cut.items next.cut.items s.heads.items next.heads.items s.fell.items next.fell.items c.loop-stage.arena c.round.new.arena
           c.loop-stage.invariant.0.stands.standing c.in_ok-next.ensures.stands.standing c.in_ok-next.ensures.ranks c.in_ok-next.ensures.chains t (changed c) chosen),
       tt,
     )

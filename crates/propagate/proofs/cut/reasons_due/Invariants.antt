@@ -1,5 +1,4 @@
 use Rattle.std.proofs.Common.{◌≡◌, ◌++◌}
-use Rattle.propagate.specs.Nodes.{chains_in}
 use Rattle.propagate.specs.Stages.{chains_at, chains_due}
 use Rattle.propagate.proofs.Cutting.{due_from}
 use Rattle.propagate.proofs.cut.reasons_due.Given as goal
@@ -7,6 +6,5 @@ use Rattle.propagate.proofs.cut.reasons_due.Given as goal
 -- the chains so far and those that are due from here on are those that are due
 abbrev pub invariant-loop-i : goal.invariant-loop-i
 invariant-loop-i l =
-    let arena = chains_in l.chains.accepted l.fn.arena in
-    let chains = chains_at arena l.stage.heads.items in
-    (chains_in l.chains.accepted l.arena ≡ arena) × (l.reasons ++ due_from l.tops l.stage.cut.items chains l.i ≡ chains_due l.tops l.stage.cut.items chains)
+    let chains = chains_at l.arena l.stage.heads.items in
+    l.reasons ++ due_from l.tops l.stage.cut.items chains l.i ≡ chains_due l.tops l.stage.cut.items chains

@@ -1,22 +1,19 @@
 use Rattle.std.proofs.Common.{◌≡◌, ◌<◌, ◌++◌, List, [], length, ap, sym, ◌∙◌, append_assoc, append-nil, arith}
-use Rattle.std.specs.Prelude.{slice_index}
 use Rattle.std.proofs.lemmas.List.{get_or_default}
 use Rattle.chains.specs.declared.position.Place.{Place}
-use Rattle.propagate.specs.Nodes.{chains_in}
 use Rattle.propagate.specs.Ranks.{IsNextRank}
-use Rattle.propagate.proofs.Staging.{next_none, next_fallen, next_stays, next_ranks, next_fell, next_standing, next_lowered, heads_none, heads_more, heads_there, heads_grounded, there_grown, grounded_grown, numbered_grown, row_none, row_falls, row_stays, row_done}
+use Rattle.propagate.proofs.Staging.{next_none, next_fallen, next_stays, next_ranks, next_fell, next_standing, next_lowered, heads_none, heads_more, heads_there, heads_grounded, there_grown, grounded_grown}
 use Rattle.propagate.proofs.Choosing.{chains_more}
-use Rattle.propagate.proofs.rounds.round_by.Goals.{then-rank-index+in_ok-push, else-rank-index}
+use Rattle.propagate.proofs.rounds.round_by.Goals.{then-low-index+in_ok-push, else-low-index}
 use Rattle.propagate.proofs.rounds.round_by.Goals as goal
 
 pub loop-process-init : goal.loop-process-init
 loop-process-init c = rw (c.in_ok-cut.ensures.items, c.in_ok-heads.ensures.items, c.new-fell.ensures.items) (record {
   ranks = next_none c.args.chains.now.accepted c.args.stage.now.cut.items;
-  heads = heads_none c.args.chains.now.accepted c.args.tops.now c.args.stage.now.cut.items (chains_in c.args.chains.now.accepted c.args.arena.now);
+  heads = heads_none c.args.chains.now.accepted c.args.tops.now c.args.stage.now.cut.items c.args.arena.now;
   stands = c.requires.stands;
-  more = ([], sym (append-nil (chains_in c.args.chains.now.accepted c.args.arena.now)));
+  more = ([], sym (append-nil c.args.arena.now));
   chains = λ p lt. absurd (omega (arith, lt));
-  row = row_none c.args.chains.now.accepted c.args.tops.now (chains_in c.args.chains.now.accepted c.args.arena.now) c.count-first.result (c.count-first.ensures c.args.chains.now.accepted);
 })
 
 pub loop-process-preserved : goal.loop-process-preserved
@@ -26,40 +23,27 @@ loop-process-preserved c =
     let cut = c.args.stage.now.cut.items in
     let i = c.loop-process.process in
     let next = c.loop-process.cut.items in
-    let r = c.lower-rank.result in
+    let r = c.lower-low.result.rank in
     let was = c.loop-process.invariant in
-    let now = chains_in accepted c.loop-process.arena in
-    let later = chains_in accepted c.next_head.new.arena in
     let more = c.in_ok-head.ensures.more in
-    let top = c.requires.stands.standing.surviving i in
     let lt : i < length cut = omega (arith, c.loop-process-test.true, c.count-process-end.ensures, c.requires.stands.standing.complete) in
     let here = c.index.ensures ∙ get_or_default cut i c.index.result.now 0 lt in
-    let rank : IsNextRank accepted cut i r = c.lower-rank.ensures.rank in
+    let rank : IsNextRank accepted cut i r = c.lower-low.ensures.rank in
     rw (c.in_ok-push-2.ensures.items, c.in_ok-push-3.ensures.items) (record {
-      ranks = elim c.if-rank-index.branch [
-        | then-rank-index+in_ok-push w ↦ rw (w.fell-is, w.in_ok-push.ensures.items) (next_fallen accepted cut i next c.loop-process.fell.items r was.ranks rank (omega (arith, w.if-rank-index.true, here)))
-        | else-rank-index w ↦ rw w.fell-is (next_stays accepted cut i next c.loop-process.fell.items r was.ranks rank (omega (arith, w.if-rank-index.false, here)))
+      ranks = elim c.if-low-index.branch [
+        | then-low-index+in_ok-push w ↦ rw (w.fell-is, w.in_ok-push.ensures.items) (next_fallen accepted cut i next c.loop-process.fell.items r was.ranks rank (omega (arith, w.if-low-index.true, here)))
+        | else-low-index w ↦ rw w.fell-is (next_stays accepted cut i next c.loop-process.fell.items r was.ranks rank (omega (arith, w.if-low-index.false, here)))
       ];
-      heads = heads_more accepted tops cut i next c.loop-process.heads.items now more.0 later r c.in_ok-head.head was.heads was.ranks.complete more.1
+      heads = heads_more accepted tops cut i next c.loop-process.heads.items c.loop-process.arena more.0 c.next_head.new.arena r c.in_ok-head.head was.heads was.ranks.complete more.1
           c.in_ok-head.ensures.there c.in_ok-head.ensures.grounded;
       stands = record {
         standing = was.stands.standing;
-        grounded = grounded_grown accepted tops cut c.args.stage.now.heads.items now more.0 later more.1 was.stands.standing.headed was.stands.there was.stands.grounded;
-        there = there_grown tops cut c.args.stage.now.heads.items now more.0 later more.1 was.stands.there;
-        numbered = numbered_grown accepted tops cut c.args.stage.now.heads.items c.args.stage.now.fell.items now more.0 later c.args.stage.now.first more.1 was.stands.numbered;
+        grounded = grounded_grown accepted tops cut c.args.stage.now.heads.items c.loop-process.arena more.0 c.next_head.new.arena more.1 was.stands.standing.headed was.stands.there was.stands.grounded;
+        there = there_grown tops cut c.args.stage.now.heads.items c.loop-process.arena more.0 c.next_head.new.arena more.1 was.stands.there;
       };
-      more = (was.more.0 ++ more.0, more.1 ∙ ap (λ (xs : List (List Place)). xs ++ more.0) was.more.1 ∙ append_assoc (chains_in accepted c.args.arena.now) was.more.0 more.0);
-      chains = chains_more accepted tops cut c.args.stage.now.heads.items (chains_in accepted c.args.arena.now) c.requires.stands.standing.surviving i next c.loop-process.heads.items now more.0 later was.more.0
+      more = (was.more.0 ++ more.0, more.1 ∙ ap (λ (xs : List (List Place)). xs ++ more.0) was.more.1 ∙ append_assoc c.args.arena.now was.more.0 more.0);
+      chains = chains_more accepted tops cut c.args.stage.now.heads.items c.args.arena.now c.requires.stands.standing.surviving i next c.loop-process.heads.items c.loop-process.arena more.0 c.next_head.new.arena was.more.0
           r c.in_ok-head.head lt was.ranks.complete was.heads.complete c.requires.stands.there was.more.1 more.1 was.heads.there was.chains c.in_ok-head.ensures.chain;
-      row = elim c.if-rank-index.branch [
-        | then-rank-index+in_ok-push w ↦
-            let falls : r < slice_index cut i = omega (arith, w.if-rank-index.true, here) in
-            rw (w.fell-is, w.in_ok-push.ensures.items)
-            (row_falls accepted tops i next c.loop-process.heads.items c.loop-process.fell.items now later c.count-first.result r c.in_ok-head.head was.row was.ranks.complete was.heads.complete more.0 more.1 (omega (arith, falls, top lt)) (c.in_ok-head.ensures.falls falls))
-        | else-rank-index w ↦
-            let stays : r ≡ slice_index cut i = omega (arith, w.if-rank-index.false, here, rank.before) in
-            rw w.fell-is (row_stays accepted tops i next c.loop-process.heads.items c.loop-process.fell.items now later c.count-first.result r c.in_ok-head.head was.row was.ranks.complete was.heads.complete (c.in_ok-head.ensures.stays stays))
-      ];
     })
 
 -- all processes were looked at
@@ -75,7 +59,7 @@ returns c =
     let next = c.loop-process.cut.items in
     let heads = c.loop-process.heads.items in
     let fell = c.loop-process.fell.items in
-    let arena = chains_in accepted c.loop-process.arena in
+    let arena = c.loop-process.arena in
     let done = c.loop-process.invariant in
     let stage = c.requires.stands.standing in
     let ranks = next_ranks accepted cut i next fell done.ranks (all_done c) in
@@ -86,7 +70,6 @@ returns c =
         standing = next_standing accepted cut i next fell done.ranks (all_done c) tops heads c.args.stage.now.heads.items c.args.stage.now.fell.items stage (done.heads.complete ∙ all_done c);
         grounded = heads_grounded accepted tops cut i next heads arena done.heads done.ranks.complete ranks;
         there = heads_there accepted tops cut i next heads arena done.heads done.ranks.complete;
-        numbered = row_done accepted tops i next heads fell arena c.count-first.result done.row;
       };
       from = rw (c.in_ok-before.ensures.items, c.deref.ensures.value) (next_lowered accepted cut next ranks);
       chains = λ p lt. done.chains p (omega (arith, lt, done.ranks.complete));

@@ -1,16 +1,16 @@
-use Rattle.std.proofs.Common.{[], arith}
-use Rattle.propagate.proofs.Unwinding.{added, behind_pushed, unwound_count}
+use Rattle.std.proofs.Common.{ℕ, [], ◌<◌, length, Some, refl, arith, subst}
+use Rattle.std.proofs.lemmas.Option.{same_Some}
+use Rattle.propagate.specs.Nodes.{unwound}
+use Rattle.propagate.proofs.Unwinding.{added, behind_added, unwound-length}
 use Rattle.propagate.proofs.arena.Arena.prolong.Goals as goal
 
-pub invariant_of-self : goal.invariant_of-self
-invariant_of-self c =
-    let nodes = c.args.self.now.nodes.items in
-    record { behind = behind_pushed _ nodes c.push.new.self.items _ c.args.self.now.behind (omega (arith, c.requires [], unwound_count [] nodes)) c.push.ensures.items }
+pub invariant_of-self-2 : goal.invariant_of-self-2
+invariant_of-self-2 c =
+    let within : c.args.chain < length (unwound [] c.self.inside.nodes.items) = rw c.self.view_is c.requires in
+    behind_added c.self.inside.nodes.items c.push.new.self.items (Some c.args.chain) c.args.place c.in_ok-push.ensures.items c.self.invariant
+    (λ j e. subst (λ (k : ℕ). k < length c.self.inside.nodes.items) (same_Some c.args.chain j e) (omega (arith, within, unwound-length [] c.self.inside.nodes.items)))
 
-pub returns : goal.returns
-returns c = record {
-  ok = λ accepted. (
-    omega (arith, c.len-number.ensures, unwound_count accepted c.args.self.now.nodes.items),
-    added accepted c.args.self.now.nodes.items c.push.new.self.items _ c.in_ok-push.ensures.items,
-  );
-}
+pub returns-clause-ok : goal.returns-clause-ok
+returns-clause-ok c =
+    rw (← c.self.view_is)
+    (omega (arith, c.len-number.ensures, unwound-length [] c.self.inside.nodes.items), added c.self.inside.nodes.items (Some c.args.chain) c.args.place c.push.new.self.items _ c.in_ok-push.ensures.items refl)

@@ -2,7 +2,8 @@
 
 use std::num::NonZeroU32;
 
-/// A linear congruential generator of 64 bits, by Knuth's multiplier, of whose upper half numbers are made.
+/// A generator of 64 bits whose state is mixed for each number (SplitMix64; Steele, Lea and Flood 2014), so that seeds which are alike give
+/// other numbers.
 #[derive(Drop)]
 pub struct Random {
     state: u64,
@@ -11,25 +12,21 @@ pub struct Random {
 impl Random {
     /// Begun by a seed, and by the number of a round.
     pub fn new(seed: u32, round: u32) -> Random {
-        let mut random = Random {
+        Random {
             state: (u64::from(seed) << 32) | u64::from(round),
-        };
-        random.go_on();
-        random.go_on();
-        random
+        }
     }
 
-    fn go_on(&mut self) {
-        self.state = self
-            .state
-            .wrapping_mul(6_364_136_223_846_793_005)
-            .wrapping_add(1_442_695_040_888_963_407);
+    fn next(&mut self) -> u64 {
+        self.state = self.state.wrapping_add(11_400_714_819_323_198_485);
+        let once = (self.state ^ (self.state >> 30)).wrapping_mul(13_787_848_793_156_543_929);
+        let twice = (once ^ (once >> 27)).wrapping_mul(10_723_151_780_598_845_931);
+        twice ^ (twice >> 31)
     }
 
     /// A number below this one.
     pub fn below(&mut self, limit: NonZeroU32) -> u32 {
-        self.go_on();
-        let number = (self.state >> 32) % u64::from(limit.get());
+        let number = (self.next() >> 32) % u64::from(limit.get());
         number as u32
     }
 

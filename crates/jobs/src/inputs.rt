@@ -89,35 +89,32 @@ pub fn with_questions(
             put_line(&mut out, line)?;
             count = count.wrapping_add(1);
             if count > processes.get() && count % every.get() == 0 {
-                put_question(alloc, &mut out, random, processes)?;
+                put_question(alloc, &mut out, random.below(processes))?;
             }
         }
     }
     Ok(out)
 }
 
-/// Puts a question for the line where one of so many processes failed.
-pub fn put_question(
-    alloc: Global,
-    out: &mut Vec<u8>,
-    random: &mut Random,
-    processes: NonZeroU32,
-) -> Result<(), AllocError> {
-    let failed = random.below(processes);
+// Puts the question for the line where this process failed.
+fn put_question(alloc: Global, out: &mut Vec<u8>, failed: u32) -> Result<(), AllocError> {
     let line = format!(in alloc; "LINE p{failed}\n")?;
     out.extend_from_slice(line.as_bytes())
 }
 
-/// Puts so many questions.
+/// Puts so many questions for the lines where one process failed each, another one each time, as far as there are so many.
 pub fn put_questions(
     alloc: Global,
     out: &mut Vec<u8>,
     random: &mut Random,
     processes: NonZeroU32,
-    times: u32,
+    times: NonZeroU32,
 ) -> Result<(), AllocError> {
-    for _ in 0..times {
-        put_question(alloc, out, random, processes)?;
+    let first = random.below(processes);
+    let apart = (processes.get() / times.get()).max(1);
+    for number in 0..times.get() {
+        let failed = first.wrapping_add(number.wrapping_mul(apart)) % processes.get();
+        put_question(alloc, out, failed)?;
     }
     Ok(())
 }

@@ -45,18 +45,23 @@ struct Bench {
     digest: Digest,
 }
 
+// A count that is not 0.
+fn count(number: u32) -> Result<NonZeroU32> {
+    match NonZeroU32::new(number) {
+        Some(count) => Ok(count),
+        None => bail!("a count of nothing"),
+    }
+}
+
 // A plan without settlements.
 fn plan(processes: u32, family: Family, ways: Ways, messages: u32) -> Result<Plan> {
-    match NonZeroU32::new(processes) {
-        Some(processes) => Ok(Plan {
-            processes,
-            family,
-            ways,
-            messages,
-            settles: None,
-        }),
-        None => bail!("no processes"),
-    }
+    Ok(Plan {
+        processes: count(processes)?,
+        family,
+        ways,
+        messages,
+        settles: None,
+    })
 }
 
 impl Bench {
@@ -134,7 +139,7 @@ impl Bench {
         processes: u32,
         ways: Ways,
         messages: u32,
-        questions: u32,
+        questions: NonZeroU32,
     ) -> Result<()> {
         let plan = plan(processes, Family::Halves, ways, messages)?;
         let mut lines = self.lines_of(&plan)?;
@@ -166,13 +171,10 @@ impl Bench {
     }
 
     fn ask_for_lines(&mut self) -> Result<()> {
-        self.ask_behind(2, Ways::Ring, 8_000, 3)?;
-        self.ask_behind(64, Ways::Ring, 4_000, 6)?;
-        self.ask_behind(1_000, Ways::Groups, 2_000, 4)?;
-        match NonZeroU32::new(8) {
-            Some(every) => self.ask_among(32, Ways::Far, 2_000, every),
-            None => Ok(()),
-        }
+        self.ask_behind(2, Ways::Ring, 8_000, count(2)?)?;
+        self.ask_behind(64, Ways::Ring, 4_000, count(6)?)?;
+        self.ask_behind(1_000, Ways::Groups, 2_000, count(4)?)?;
+        self.ask_among(32, Ways::Far, 2_000, count(8)?)
     }
 
     // Reports and settlements, those of three computations.
@@ -206,7 +208,13 @@ impl Bench {
         let mut lines = self.lines_of(&plan)?;
         let first = self.variant(&lines, 1)?;
         let second = self.variant(&lines, 2)?;
-        put_questions(self.alloc, &mut lines, &mut self.random, plan.processes, 1)?;
+        put_questions(
+            self.alloc,
+            &mut lines,
+            &mut self.random,
+            plan.processes,
+            count(1)?,
+        )?;
         let replies = self.run(&lines)?;
         self.check_both(&first, &replies)?;
         self.check_both(&second, &replies)

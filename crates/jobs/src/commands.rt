@@ -86,3 +86,15 @@ pub fn check(alloc: Global, digest: &mut Digest, records: &[u8], certificate: &[
     ensure!(status == 0 || status == 4, "check ended with {status}");
     Ok(())
 }
+
+/// Reads a certificate that is refused, over a file of these records.
+pub fn refuse(
+    alloc: Global,
+    digest: &mut Digest,
+    records: &[u8],
+    certificate: &[u8],
+) -> Result<()> {
+    let status = check_over(alloc, digest, MemoryDisk::new(alloc, records)?, certificate)?;
+    ensure!(status == 2, "a certificate was taken, with {status}");
+    Ok(())
+}

@@ -3,8 +3,10 @@
 
 mod commands;
 mod digest;
+mod families;
 mod inputs;
 mod random;
+mod refused;
 mod scripts;
 mod work;
 
@@ -15,7 +17,7 @@ use work::{Job, do_rounds};
 
 /// Which words there are.
 const USAGE: &str =
-    "usage: jobs reports | strangers | lines | settlements | records | scripts ROUNDS SEED
+    "usage: jobs reports | strangers | lines | settlements | records | scripts | families ROUNDS SEED
 
 Does a job so many times, each time over other inputs, and writes a digest of all that it gave.
 
@@ -24,7 +26,9 @@ strangers    the same among late copies and wrong lines, of groups that never he
 lines        lines and garbage lines: the longest domino, a ring that falls, 1,000 processes, many questions between reports
 settlements  carrying on after lines: early ones and late ones
 records      opening records, and checking certificates over them
-scripts      stamping scripts, and drawing them";
+scripts      stamping scripts, and drawing them
+families     children that retire into their parent, late forks, ids of several parts, numbers of ten digits, pairs that fall at once,
+             lines of all, refused texts and refused certificates";
 
 /// What the words ask for, of which the first is the program's name; nothing, where they are no job.
 fn read(words: &[String]) -> Option<(Job, u32, u32)> {

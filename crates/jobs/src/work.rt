@@ -1,11 +1,13 @@
 //! The jobs.
 
-use crate::commands::{check, draw, drive, run};
+use crate::commands::{check, draw, drive, refuse, run};
 use crate::digest::Digest;
+use crate::families::{fan_out, pairs, question_for_all, question_for_processes, successions};
 use crate::inputs::{
     among_strangers, certificate_in, changed, later, put_questions, records_of, with_questions,
 };
 use crate::random::Random;
+use crate::refused::{with_last, with_refused};
 use crate::scripts::{Family, Plan, Ways, script};
 use anyhow::{Result, bail};
 use std::alloc::Global;
@@ -20,6 +22,7 @@ pub enum Job {
     Settlements,
     Records,
     Scripts,
+    Families,
 }
 
 impl Job {
@@ -32,6 +35,7 @@ impl Job {
             "settlements" => Some(Job::Settlements),
             "records" => Some(Job::Records),
             "scripts" => Some(Job::Scripts),
+            "families" => Some(Job::Families),
             _ => None,
         }
     }
@@ -241,6 +245,66 @@ impl Bench {
         self.draw(8, Ways::Far, 2_500, 500)
     }
 
+    // Lines of children that retire into their parent, with a question where all failed; the same with numbers of ten digits.
+    fn take_successions(&mut self, children: NonZeroU32, generations: u32) -> Result<()> {
+        let script = successions(self.alloc, &mut self.random, children, generations)?;
+        let lines = drive(self.alloc, &mut self.digest, &script)?;
+        let mut large = self.variant(&lines, 3_000_000)?;
+        question_for_all(
+            self.alloc,
+            &mut large,
+            children.get(),
+            generations.saturating_add(1),
+        )?;
+        large.extend_from_slice(b"GARBAGE\n")?;
+        let _replies = self.run(&large)?;
+        let refused = with_refused(self.alloc, &lines)?;
+        let _replies = self.run(&refused)?;
+        Ok(())
+    }
+
+    // Pairs that fall at once, where each chain is asked for.
+    fn take_pairs(&mut self, idle: u32, count: u32, turns: u32) -> Result<()> {
+        let script = pairs(self.alloc, &mut self.random, idle, count, turns)?;
+        let mut lines = drive(self.alloc, &mut self.digest, &script)?;
+        lines.extend_from_slice(b"GARBAGE\nLINE p0\nLINE p1\n")?;
+        question_for_processes(self.alloc, &mut lines, count.saturating_mul(2))?;
+        let _replies = self.run(&lines)?;
+        Ok(())
+    }
+
+    // A message to all, the line where all failed, and its certificate with faults.
+    fn take_fan_out(&mut self, processes: u32, rounds: u32) -> Result<()> {
+        let script = fan_out(self.alloc, &mut self.random, processes, rounds)?;
+        let mut lines = drive(self.alloc, &mut self.digest, &script)?;
+        let records = records_of(self.alloc, &lines)?;
+        question_for_processes(self.alloc, &mut lines, processes)?;
+        lines.extend_from_slice(b"LINE p0\n")?;
+        let replies = self.run(&lines)?;
+        let Some(certificate) = certificate_in(&replies) else {
+            bail!("no line was answered");
+        };
+        check(self.alloc, &mut self.digest, &records, certificate)?;
+        self.refuse_all(&records, certificate)
+    }
+
+    // A certificate with an unknown name at its end, with a byte that no text has, and cut short.
+    fn refuse_all(&mut self, records: &[u8], certificate: &[u8]) -> Result<()> {
+        let unknown = with_last(self.alloc, certificate, b'p', b'z')?;
+        refuse(self.alloc, &mut self.digest, records, &unknown)?;
+        let foreign = with_last(self.alloc, certificate, b'p', 255)?;
+        refuse(self.alloc, &mut self.digest, records, &foreign)?;
+        let short = with_last(self.alloc, certificate, b'}', b' ')?;
+        refuse(self.alloc, &mut self.digest, records, &short)
+    }
+
+    fn do_families(&mut self) -> Result<()> {
+        self.take_successions(count(20)?, 18)?;
+        self.take_pairs(0, 64, 60)?;
+        self.take_pairs(20, 32, 60)?;
+        self.take_fan_out(200, 8)
+    }
+
     fn do_job(&mut self, job: Job) -> Result<()> {
         match job {
             Job::Reports => self.take_reports(),
@@ -249,6 +313,7 @@ impl Bench {
             Job::Settlements => self.settle_lines(),
             Job::Records => self.check_certificates(),
             Job::Scripts => self.do_scripts(),
+            Job::Families => self.do_families(),
         }
     }
 }

@@ -5,4 +5,3 @@ pub mod Taking
 pub mod Broken
 pub mod ReadBack
 pub mod WrittenRead
-pub mod Rows

@@ -60,7 +60,7 @@ TakenSoFar T U W accepted is f names g h vs i us =
 abbrev pub TakesAt : (T U W : Type 0) → List Report → (T → Type 0) → (T → Data) → (T → List Name) → (U → W) → (T → W) → Value → Result U CertificateFault → Type 0
 TakesAt T U W accepted is f names g h v result = (x : T) → is x → view v ≡ f x → ReadsAs {T = U} accepted (names x) (λ (u : U). g u ≡ h x) result
 
-pub map_push : (U W : Type 0) (g : U → W) (us : List U) (u : U) → map g (us ++ u ∷ []) ≡ map g us ++ g u ∷ []
+map_push : (U W : Type 0) (g : U → W) (us : List U) (u : U) → map g (us ++ u ∷ []) ≡ map g us ++ g u ∷ []
 map_push U W g [] u = refl
 map_push U W g (v ∷ us) u = ap (λ (ws : List W). g v ∷ ws) (map_push U W g us u)
 

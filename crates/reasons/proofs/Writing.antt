@@ -10,7 +10,7 @@ use Rattle.reasons.specs.Json.{IsWritten, AreWritten, comma_before}
 
 -- ---- texts in a row, written one by one
 
-pub joined_more : (texts : List (List ℕ)) (text : List ℕ) → join_with_byte 44 (texts ++ text ∷ []) ≡ join_with_byte 44 texts ++ (comma_before (length texts) ++ text)
+joined_more : (texts : List (List ℕ)) (text : List ℕ) → join_with_byte 44 (texts ++ text ∷ []) ≡ join_with_byte 44 texts ++ (comma_before (length texts) ++ text)
 joined_more [] text = refl
 joined_more (one ∷ []) text = refl
 joined_more (one ∷ next ∷ texts) text =
@@ -62,7 +62,7 @@ array_written ds texts are = record { no_float = no_floats ds texts are; text_is
 
 -- ---- the whole text
 
-pub regroup : (p kf f m kn n kl l kr r z : List ℕ) → p ++ (kf ++ (f ++ (m ++ (kn ++ (n ++ (m ++ (kl ++ (l ++ (m ++ (kr ++ (r ++ z))))))))))) ≡ p ++ kf ++ f ++ m ++ kn ++ n ++ m ++ kl ++ l ++ m ++ kr ++ r ++ z
+regroup : (p kf f m kn n kl l kr r z : List ℕ) → p ++ (kf ++ (f ++ (m ++ (kn ++ (n ++ (m ++ (kl ++ (l ++ (m ++ (kr ++ (r ++ z))))))))))) ≡ p ++ kf ++ f ++ m ++ kn ++ n ++ m ++ kl ++ l ++ m ++ kr ++ r ++ z
 regroup p kf f m kn n kl l kr r z = simp append_assoc
 
 pub object_written : (failed line reasons : Data) (front : ℕ) (f l r : List ℕ) → IsWritten failed f → IsWritten line l → IsWritten reasons r

@@ -5,4 +5,3 @@ pub mod Reading
 pub mod Json
 pub mod Shown
 pub mod Codes
-pub mod Straight

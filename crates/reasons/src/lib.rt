@@ -6,7 +6,6 @@ mod fault;
 mod reading;
 mod rereading;
 mod shape;
-mod straight;
 mod text;
 
 pub use certificate::{Certificate, Numbers, Reasons};

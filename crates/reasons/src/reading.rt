@@ -1,6 +1,6 @@
 //! Certificates as they are read.
 
-ghost use Rattle.std.specs.Prelude.{◌≡◌, ◌⊎◌, ◌∷◌, ◌++◌, [], List, Some, None, map, flat_map, All, MatchOption, MatchResult};
+ghost use Rattle.std.specs.Prelude.{◌≡◌, ◌∷◌, [], List, Some, None, map, flat_map, All, MatchOption, MatchResult};
 ghost use Rattle.chains.specs.Processes.{Name as AnyName};
 ghost use Rattle.chains.specs.Elements.{name_of};
 ghost use Rattle.serde_json.specs.Data.{array, string};
@@ -11,18 +11,24 @@ ghost use Rattle.reasons.specs.Reading.{ReadsAs};
 
 use crate::certificate::{Certificate, Numbers, Reasons};
 use crate::fault::CertificateFault;
-use crate::rereading::written_certificates_are_read;
 use crate::shape::{front_of, is_certificate, list_of, named_place};
-use crate::straight;
-use crate::straight::known_number;
 use chains::{Chains, Place, Places};
+use report_line::Name;
 use serde_json::Value;
+
+/// The number of the process of a name, if it is one and a process has it.
+fn known_number(chains: &Chains, text: &str) -> Option<u32>
+    ensures { MatchOption result (¬ IsNameKnown chains.now.accepted text.now) (λ p. IsNameKnown chains.now.accepted text.now × (name_of chains.now.accepted p ≡ Some text.now)) }
+{
+    let name = Name::from_bytes(text.as_bytes())?;
+    chains.number_of(&name)
+}
 
 /// The number of the process of a name.
 fn number_of(chains: &Chains, text: &str) -> Result<u32, CertificateFault>
     ensures { ReadsAs chains.now.accepted (text.now ∷ []) (λ p. name_of chains.now.accepted p ≡ Some text.now) result }
 {
-    match known_number(chains, text.as_bytes()) {
+    match known_number(chains, text) {
         Some(number) => Ok(number),
         None => Err(CertificateFault::Unknown(String::from_str(chains.alloc(), text)?)),
     }
@@ -119,8 +125,10 @@ fn certificate_in(chains: &Chains, value: &Value) -> Result<Certificate, Certifi
     }
 }
 
-/// The certificate of which the bytes are a text, read by way of a JSON value.
-fn from_value(chains: &Chains, bytes: &[u8]) -> Result<Certificate, CertificateFault>
+/// The certificate of which the bytes are a text: any JSON text of that shape, in whatever order its members stand. A text
+/// that is not JSON is told of first, then one of another shape, then the first name that no process has. `Memory` may come
+/// in place of any, where a growth was refused.
+pub fn from_json(chains: &Chains, bytes: &[u8]) -> Result<Certificate, CertificateFault>
     ensures { IsReadAs chains.now.accepted bytes.now result }
 {
     let value = match Value::from_slice(chains.alloc(), bytes) {
@@ -135,27 +143,4 @@ fn from_value(chains: &Chains, bytes: &[u8]) -> Result<Certificate, CertificateF
         return Err(CertificateFault::Shape);
     }
     certificate_in(chains, &value)
-}
-
-/// The bytes less a line feed at their end.
-fn without_break(bytes: &[u8]) -> &[u8]
-    ensures { (bytes.now ≡ result.now) ⊎ (bytes.now ≡ result.now ++ 10 ∷ []) }
-{
-    match bytes.strip_suffix(b"\n") {
-        Some(text) => text,
-        None => bytes,
-    }
-}
-
-/// The certificate of which the bytes are a text: any JSON text of that shape, in whatever order its members stand. A text
-/// that is not JSON is told of first, then one of another shape, then the first name that no process has. `Memory` may come
-/// in place of any, where a growth was refused.
-pub fn from_json(chains: &Chains, bytes: &[u8]) -> Result<Certificate, CertificateFault>
-    ensures { IsReadAs chains.now.accepted bytes.now result }
-{
-    let Some(certificate) = straight::read(chains, without_break(bytes)) else {
-        return from_value(chains, bytes);
-    };
-    written_certificates_are_read(chains);
-    Ok(certificate)
 }

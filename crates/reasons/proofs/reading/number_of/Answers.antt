@@ -1,8 +1,5 @@
-use Rattle.std.proofs.Common.{subst}
-use Rattle.chains.specs.Processes.{Name}
-use Rattle.reasons.specs.CertificateReading.{IsNameKnown}
 use Rattle.reasons.proofs.Taking.{alone}
 use Rattle.reasons.proofs.reading.number_of.Goals as goal
 
 pub returns-in_ok-from_str-in-None : goal.returns-in_ok-from_str-in-None
-returns-in_ok-from_str-in-None c = alone c.args.chains.now.accepted c.args.text.now _ c.in_ok-from_str-in-None.ensures.ok (subst (λ (t : Name). ¬ IsNameKnown c.args.chains.now.accepted t) c.as_bytes.ensures.value c.in-None.ensures)
+returns-in_ok-from_str-in-None c = alone c.args.chains.now.accepted c.args.text.now _ c.in_ok-from_str-in-None.ensures.ok c.in-None.ensures

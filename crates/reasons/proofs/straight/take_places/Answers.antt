@@ -1,9 +1,0 @@
-use Rattle.chains.specs.declared.position.Place.{Place}
-use Rattle.reasons.specs.CertificateText.{place_text}
-use Rattle.reasons.specs.CertificateReading.{IsKnownPlace}
-use Rattle.reasons.proofs.Rows.{row_more}
-use Rattle.reasons.proofs.straight.take_places.Goals as goal
-
-pub loop-next-preserved : goal.loop-next-preserved
-loop-next-preserved c =
-    row_more Place (place_text c.args.chains.now.accepted) (IsKnownPlace c.args.chains.now.accepted) c.args.text.now c.loop-next.rest.now c.in-Some-behind.next.now c.in_ok-rest-2.rest.now c.loop-next.out.items _ c.loop-next.invariant c.in-Some-behind.ensures c.in_ok-rest-2.ensures

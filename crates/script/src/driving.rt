@@ -158,8 +158,8 @@ fn end_by(stop: Stop, step: u64) -> End
 
 /// Drives a world by the lines of a script, and answers what is printed, with how it ended. The first line begins the world, each later
 /// one is a step of it or settles it, and the first line that is refused is the last one. At a settlement each line that was printed has
-/// taken its turn on chains, and the world returns to the line that is answered over them. A script that would print more than
-/// 4,294,967,295 lines ends there, as for want of memory.
+/// taken its turn on chains, and the world returns to the line that is answered over them. Until then a report is kept only where chains
+/// will accept it. A script that would print more than 4,294,967,295 lines ends there, as for want of memory.
 pub fn drive(alloc: Global, script: &[u8]) -> (Vec<u8>, End)
     ensures { IsDriven script.now result.0.items result.1 }
 {

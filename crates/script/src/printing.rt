@@ -16,21 +16,26 @@ ghost use Rattle.script.specs.Driving.{IsPrinted, TakeTurns, PrintsReport, Print
 use chains::{Chains, No};
 use propagate::settle_named;
 use report_line::{
-    Code, MarkedReport, Names, PackedReport, Report, Shared, write_marked, write_settle,
+    ActionView, Code, MarkedReport, Names, PackedReport, Report, ReportView, Shared, write_marked,
+    write_settle,
 };
 use std::alloc::{AllocError, Global};
 use std::mem;
 
-// Behind so many lines a report does not wait for its turn: chains accept no more lines than that, and what they refuse is not kept.
-const WAITING_LIMIT: u32 = 16_384;
+// So many lines do chains accept at most.
+const LINE_LIMIT: u32 = 16_384;
 
-/// What was printed so far: the text, how many lines it has, the reports at its end that wait for their turns on the chains, and the
-/// chains, on which the lines in front of those took theirs.
+// So many processes do chains know at most.
+const PROCESS_LIMIT: u32 = 1_024;
+
+/// What was printed so far: the text, how many lines it has, the reports at its end that wait for their turns on the chains, how many of
+/// these bear a process, and the chains, on which the lines in front of those took theirs.
 #[derive(Drop)]
 pub(crate) struct Printout {
     pub(crate) text: Vec<u8>,
     pub(crate) lines: u32,
     pub(crate) pending: Vec<MarkedReport>,
+    pub(crate) births: u32,
     pub(crate) chains: Chains,
 }
 
@@ -82,6 +87,7 @@ pub(crate) fn catch_up(printout: &mut Printout) -> Result<(), AllocError>
     ensures kept { OnOk result ((told : List Call) → IsPrinted told printout.old → IsPrinted told printout.new) }
 {
     let none = Vec::new(printout.chains.alloc());
+    printout.births = 0;
     let pending = mem::replace(&mut printout.pending, none);
     take_reports(&mut printout.chains, pending)
 }
@@ -143,6 +149,7 @@ impl Printout {
             text: Vec::new(alloc),
             lines: 0,
             pending: Vec::new(alloc),
+            births: 0,
             chains: Chains::new(alloc),
         }
     }
@@ -162,6 +169,34 @@ fn add_line(text: &mut Vec<u8>, lines: &mut u32, line: &[u8]) -> Result<(), Allo
     Ok(())
 }
 
+// Whether the report is that of a birth, of the root or of a child.
+fn is_birth(report: &PackedReport) -> bool {
+    match report.view() {
+        ReportView::Begin { .. } => true,
+        ReportView::Numbered(fields) => matches!(fields.action, ActionView::Fork(_)),
+    }
+}
+
+// These births, and that of the report if it is one.
+fn births_with(births: u32, report: &PackedReport) -> u32 {
+    if is_birth(report) {
+        return births.saturating_add(1);
+    }
+    births
+}
+
+// Whether a report waits for its turn: it does only where the chains will accept it, since they do not keep what they refuse. They
+// accepted each line so far or have it before them; behind a line that they refused, as its front is no longer theirs, nothing waits. So
+// the epoch is theirs, too, and all that is left to be refused for is room.
+fn may_wait(printout: &Printout, report: &PackedReport) -> bool {
+    let behind = printout.lines.saturating_sub(printout.chains.front());
+    if behind as usize != printout.pending.len() || printout.lines >= LINE_LIMIT {
+        return false;
+    }
+    let known = printout.chains.count().saturating_add(printout.births);
+    known < PROCESS_LIMIT || !is_birth(report)
+}
+
 // Prints a report, which waits for its turn on the chains.
 fn print_waiting(
     alloc: Global,
@@ -173,8 +208,10 @@ fn print_waiting(
     ensures err { OnErr result (printout.new.text.items ≡ printout.old.text.items) }
 {
     let line = report_line(alloc, epoch, &report)?;
+    let births = births_with(printout.births, &report);
     let report = Shared::new(alloc, report)?;
     printout.pending.push(MarkedReport { epoch, report })?;
+    printout.births = births;
     add_line(&mut printout.text, &mut printout.lines, &line)
 }
 
@@ -194,7 +231,8 @@ fn print_at_once(
     add_line(&mut printout.text, &mut printout.lines, &line)
 }
 
-/// Prints a report with the mark of its epoch. It waits for its turn on the chains, or takes it at once behind those that wait.
+/// Prints a report with the mark of its epoch. It waits for its turn on the chains, or takes it at once behind those that wait where they
+/// may refuse it.
 pub(crate) fn print_made(
     alloc: Global,
     printout: &mut Printout,
@@ -205,7 +243,7 @@ pub(crate) fn print_made(
     ensures err { OnErr result (printout.new.text.items ≡ printout.old.text.items) }
 {
     let report = PackedReport::of(report);
-    if printout.lines < WAITING_LIMIT {
+    if may_wait(printout, &report) {
         return print_waiting(alloc, printout, epoch, report);
     }
     catch_up(printout)?;

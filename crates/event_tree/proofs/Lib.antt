@@ -2,7 +2,6 @@ pub mod Trees
 pub mod Preorder
 pub mod Closed
 pub mod Places
-pub mod Measures
 pub mod Orders
 pub mod Sequences
 pub mod Pending
@@ -27,4 +26,3 @@ pub mod Costs
 pub mod Steps
 pub mod Filling
 pub mod Owned
-pub mod Balances

@@ -2,20 +2,21 @@
 use Rattle.std.proofs.Common.{◌≡◌, ◌≢◌, ℕ, zero, suc, ◌+◌, ◌-◌, ◌*◌, ◌/◌, ◌%◌, ◌^◌, ◌<◌, ◌≤◌, min, true, false, List, [], ◌∷◌, ◌++◌, length, take, drop, get_or, length-append, length-set, refl, sym, ap, subst, eqb-true, inl, inr, ◌∙◌, arith, append_assoc, append-nil}
 use Rattle.std.specs.Fmt.{decimal}
 use Rattle.std.specs.Char.{is_ascii_digit}
-use Rattle.std.specs.Prelude.{Bool, ◌==◌, nat_le}
+use Rattle.std.specs.Prelude.{slice_set, Bool, ◌==◌, nat_le}
 use Rattle.std.proofs.lemmas.Bool.{cases_Bool, both_ways, lt-leb}
 use Rattle.std.proofs.lemmas.Bool.Decides.{nat_tests}
-use Rattle.std.proofs.lemmas.List.{take_more_set, get_or-take, length-take-le, take_all}
-use Rattle.std.proofs.Math.Seq.{take-set-lt}
+use Rattle.std.proofs.lemmas.List.{take_more_set, get_or-take, length-take-le, take_all, take-take}
+use Rattle.std.proofs.Math.Seq.{take-set-lt, take-append_seam, drop-append_seam}
 use Rattle.event_tree.specs.EventTree.{EventTree, Leaf, Node}
 use Rattle.event_tree.specs.Halves.{root}
 use Rattle.event_tree.specs.NormalForm.{IsNormal, IsEvents, depth, greatest, least, are_equal_leaves}
 use Rattle.event_tree.specs.Size.{size}
 use Rattle.event_tree.specs.Spelling.{IsNumeral, spelling}
 use Rattle.event_tree.specs.Entries.{entry, blank, preorder, tree_of}
-use Rattle.event_tree.specs.Taking.{is_leaf, are_halves, IsClosed, around_at, IsFirstRead, IsInnermost, AreOpen, IsUnread, IsTreeRead, IsBegun, IsLeafTaken, IsWhole}
+use Rattle.event_tree.specs.Taking.{is_leaf, are_halves, IsClosed, around_at, IsFirstRead, IsInnermost, AreOpen, IsUnread, IsTreeRead, IsBegun, IsLeafTaken, IsWhole, IsHalted, IsWidened}
 use Rattle.event_tree.specs.declared.entries.Entry.{Entry}
 use Rattle.event_tree.specs.declared.straight.Around.{Around}
+use Rattle.event_tree.specs.declared.straight.Halted.{Halted}
 use Rattle.event_tree.proofs.Trees.{root_least}
 use Rattle.event_tree.proofs.Preorder.{length_preorder, tree_of_preorder, is_preorder, some_size}
 use Rattle.event_tree.proofs.Closed.{seen, HalvesAt, middle_within, one_seen, other_seen, written}
@@ -66,6 +67,10 @@ decimal_more n d m some fits digit is small =
 pub taken_more : (text rest later : List ℕ) (n d m : ℕ) → text ≡ decimal n ++ rest → rest ≡ (48 + d) ∷ later → 0 < n → n < 2 ^ 32 → d < 10 → m ≡ n * 10 + d → m < 2 ^ 32 → text ≡ decimal m ++ later
 taken_more text rest later n d m e f some fits digit is small =
     e ∙ ap (λ (ds : List ℕ). decimal n ++ ds) f ∙ sym (append_assoc (decimal n) ((48 + d) ∷ []) later) ∙ ap (λ (ds : List ℕ). ds ++ later) (decimal_more n d m some fits digit is small)
+
+-- an entry that is written leaves the room as it is
+pub put_long : (room after : List Entry) (i : ℕ) (x : Entry) → after ≡ slice_set room i x → length after ≡ length room
+put_long room after i x e = ap length e ∙ length-set room i x
 
 -- ---- halves that make a node
 
@@ -379,12 +384,53 @@ whole_tree text room t spelled are normal shallow small =
     let events : IsEvents t = record { normal = normal; shallow = shallow; small = small } in
     record { events = rw is events; are = is_preorder room t are; spelled = rw is spelled }
 
-pub whole : (text rest : List ℕ) (around : Around) (room : List Entry) (end : ℕ) → IsTreeRead text rest around room end → around.halves ≡ 2 → length rest ≡ 0 → end ≡ length room → IsWhole text room
-whole text rest around room end h none ends full =
+pub whole : (text rest : List ℕ) (around : Around) (room : List Entry) (end : ℕ) → IsTreeRead text rest around room end → around.halves ≡ 2 → length rest ≡ 0 → IsWhole text (take end room)
+whole text rest around room end h none ends =
     let outside = none_open h.levels around.halves around.last around.sum h.so_far h.front h.open_there none in
-    whole_tree text room h.tree
+    whole_tree text (take end room) h.tree
     (h.spelled ∙ rw (outside.0, no_length rest ends) (append-nil (spelling h.tree)))
-    (sym (take_all end room (omega (arith, full))) ∙ h.are ∙ rw outside.1 refl)
+    (h.are ∙ rw outside.1 refl)
     h.normal
     (omega (arith, h.shallow))
     (omega (arith, h.small))
+
+-- ---- where a reading halts
+
+-- before the first byte
+pub unbegun : (text : List ℕ) (room : List Entry) → length room < 4294967296 → IsHalted text (record { at = 0; end = 0; around = around_at 2 0 0 }) room
+unbegun text room fits = record { place = omega arith; unread = record { levels = 0; so_far = []; spelled = refl; open_there = (refl, refl, refl, refl); low = omega arith; within = omega arith; fits = fits } }
+
+-- at a tree that is to be read
+pub halts : (text rest : List ℕ) (around : Around) (room : List Entry) (end : ℕ) → IsUnread text rest around room end → IsHalted text (record { at = length text - length rest; end = end; around = around }) room
+halts text rest around room end h =
+    let place : length text - length rest ≡ length h.so_far = omega (arith, ap length h.spelled, length-append h.so_far rest) in
+    let left : drop (length text - length rest) text ≡ rest = rw place (ap (drop (length h.so_far)) h.spelled ∙ drop-append_seam h.so_far rest) in
+    record { place = omega arith; unread = rw left h }
+
+pub halted_wider : (text : List ℕ) (halted : Halted) (before room : List Entry) → IsHalted text halted before → IsWidened before room → IsHalted text halted room
+halted_wider text halted before room h wider =
+    let u = h.unread in
+    let front : take halted.end room ≡ take halted.end before =
+    sym (take-take halted.end (length before) room u.within) ∙ ap (take halted.end) wider.front in
+    record {
+      place = h.place;
+      unread = record {
+        levels = u.levels;
+        so_far = u.so_far;
+        spelled = u.spelled;
+        open_there = rw front u.open_there;
+        low = u.low;
+        within = omega (arith, u.within, wider.longer);
+        fits = wider.fits;
+      };
+    }
+
+-- a list that is longer by blank entries
+pub widened : (before room blanks : List Entry) (count : ℕ) → room ≡ before ++ blanks → length blanks ≡ count - length before → length before < count → count < 4294967296 → IsWidened before room
+widened before room blanks count is long more fits =
+    let whole : length room ≡ count = omega (arith, ap length is, length-append before blanks, long, more) in
+    record {
+      front = ap (take (length before)) is ∙ take-append_seam before blanks;
+      longer = omega (arith, whole, more);
+      fits = omega (arith, whole, fits);
+    }

@@ -1,5 +1,5 @@
 -- Working definitions: a tree that is read from the front of a text, straight into its entries, where nodes that are open are linked.
-use Rattle.std.specs.Prelude.{◌≡◌, ◌≤◌, ◌<◌, ◌+◌, ◌-◌, ◌*◌, ◌/◌, ◌%◌, ◌==◌, ◌&&◌, nat_le, not, if◌then◌else◌, ℕ, zero, suc, Bool, true, false, List, [], ◌∷◌, ◌++◌, length, take, slice_index_or, slice_set}
+use Rattle.std.specs.Prelude.{◌≡◌, ◌≤◌, ◌<◌, ◌+◌, ◌-◌, ◌*◌, ◌/◌, ◌%◌, ◌==◌, ◌&&◌, nat_le, not, if◌then◌else◌, ⊤, ℕ, zero, suc, Bool, true, false, List, [], ◌∷◌, ◌++◌, length, take, drop, slice_index_or, slice_set}
 use Rattle.std.specs.Fmt.{decimal}
 use Rattle.event_tree.specs.EventTree.{EventTree, Leaf, Node}
 use Rattle.event_tree.specs.NormalForm.{IsNormal, depth, greatest, IsEvents, value_limit}
@@ -7,6 +7,9 @@ use Rattle.event_tree.specs.Spelling.{spelling}
 use Rattle.event_tree.specs.Entries.{entry, blank, preorder, tree_of, IsPreorder}
 use Rattle.event_tree.specs.declared.entries.Entry.{Entry}
 use Rattle.event_tree.specs.declared.straight.Around.{Around}
+use Rattle.event_tree.specs.declared.straight.Halted.{Halted}
+use Rattle.event_tree.specs.declared.straight.Reached.{Reached}
+use Rattle.event_tree.specs.declared.straight.Reached.TheVariants.{Whole, Full, Fault}
 
 abbrev pub is_leaf : EventTree → Bool
 is_leaf (Leaf n) = true
@@ -90,6 +93,7 @@ pub record HasTreeRead (text : List ℕ) (around : Around) (room : List Entry) (
 pub record AreClosed (text rest : List ℕ) (around left : Around) (room after : List Entry) (end : ℕ) : Type 0 where
   pub read : (whole : List ℕ) → IsTreeRead whole text around room end → IsTreeRead whole rest left after end
   pub in_first : left.halves % 2 ≡ 0
+  pub as_long : length after ≡ length room
 
 -- a node was begun: its entry stands in the room, and it is the innermost one
 pub record IsBegun (text rest : List ℕ) (around inner : Around) (room after : List Entry) (end : ℕ) : Type 0 where
@@ -111,3 +115,24 @@ pub record IsWhole (text : List ℕ) (entries : List Entry) : Type 0 where
   pub events : IsEvents (tree_of entries)
   pub are : IsPreorder entries
   pub spelled : text ≡ spelling (tree_of entries)
+
+-- a reading halted at a place of the text, where a tree is to be read next
+pub record IsHalted (whole : List ℕ) (halted : Halted) (room : List Entry) : Type 0 where
+  pub place : halted.at ≤ length whole
+  pub unread : IsUnread whole (drop halted.at whole) halted.around room halted.end
+
+-- a reading comes so far, in a room that is no longer for it
+abbrev pub IsReached : Reached → List ℕ → List Entry → Type 0
+IsReached (Whole end) whole room = IsWhole whole (take end room)
+IsReached (Full halted) whole room = IsHalted whole halted room
+IsReached Fault whole room = ⊤
+
+pub record Reaches (reached : Reached) (whole : List ℕ) (before room : List Entry) : Type 0 where
+  pub as_long : length room ≡ length before
+  pub is : IsReached reached whole room
+
+-- the entries in front stayed, and others came behind them
+pub record IsWidened (before room : List Entry) : Type 0 where
+  pub front : take (length before) room ≡ before
+  pub longer : length before < length room
+  pub fits : length room < 4294967296

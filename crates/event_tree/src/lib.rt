@@ -28,7 +28,6 @@ mod closing;
 mod entries;
 mod event;
 mod fault;
-mod measured;
 mod node;
 mod one_way;
 mod order;
@@ -169,22 +168,19 @@ impl Events {
         }
     }
 
-    /// The event tree that the bytes spell, all of the bytes. It takes memory for two entries of 8 bytes at most for each opening
-    /// bracket of the text, and one more. Beside that, the memory and the stack that it takes do not grow with how deeply
-    /// brackets are nested beyond the depth limit, but for one small entry for each open bracket of a text with a fault.
+    /// The event tree that the bytes spell, all of the bytes. The memory and the stack that it takes do not grow with how
+    /// deeply brackets are nested beyond the depth limit, but for one small entry for each open bracket.
     pub fn parse(alloc: Global, bytes: &[u8]) -> Result<Events, EventsFault>
         ensures ok { IfOk result (λ e. bytes.now ≡ spelling e) }
         ensures err { IfErr result (λ fault. IsFaultOf fault bytes.now) }
         ensures only { (t : EventTree) → IsEvents t → bytes.now ≡ spelling t → MatchResult result (λ e. e ≡ t) (λ fault. fault ≡ EventsFault.Memory) }
     {
-        // What is spelled right is mostly read so; which fault a text has, and what memory is wanting for, the reader says.
+        // What is spelled right is read so, if there is memory; which fault a text has, the reader says.
         if let Some(node) = straight::read(alloc, bytes) {
             return Ok(Events { node });
         }
         match reader::read(alloc, bytes)? {
-            Part::Normal(_, _, Some(tree)) => Ok(Events {
-                node: tree.node(alloc)?,
-            }),
+            Part::Normal(_, _, Some(_)) => Err(EventsFault::Memory),
             Part::Normal(_, depth, None) => {
                 if depth > 40 {
                     Err(EventsFault::TooDeep)

@@ -1,20 +1,27 @@
-//! Reads the text of an event tree straight into its entries, whose room its brackets tell. Of a text with a fault it only says that it has
-//! one.
+//! Reads the text of an event tree straight into its entries, whose room follows what was read. Of a text with a fault it only says that
+//! it has one.
 
-ghost use Rattle.std.specs.Prelude.{◌≡◌, ◌∷◌, ◌++◌, ◌<◌, ◌≤◌, ◌+◌, ◌^◌, IsTrue, IfSome, length, slice_index_or};
+ghost use Rattle.std.specs.Prelude.{◌≡◌, ◌∷◌, ◌++◌, ◌<◌, ◌≤◌, ◌+◌, ◌-◌, ◌^◌, IsTrue, IfSome, IfOk, length, take, replicate, slice_index_or};
 ghost use Rattle.std.specs.Fmt.{decimal};
 ghost use Rattle.event_tree.specs.NormalForm.{IsEvents, value_limit};
 ghost use Rattle.event_tree.specs.Spelling.{spelling};
 ghost use Rattle.event_tree.specs.Entries.{blank};
-ghost use Rattle.event_tree.specs.Taking.{IsBegun, IsLeafTaken, IsClosed, HasTreeRead, AreClosed, IsWhole};
+ghost use Rattle.event_tree.specs.Taking.{IsBegun, IsLeafTaken, IsClosed, HasTreeRead, AreClosed, IsHalted, Reaches, IsWidened, IsWhole};
 ghost use Rattle.event_tree.specs.Taking as taking;
 
-use crate::entries::{Entry, repeated};
+use crate::entries::{Entries, Entry, INLINE, repeated};
 use crate::node::Node;
-use std::alloc::Global;
+use smallvec::SmallVec;
+use std::alloc::{AllocError, Global};
 
 /// Where the halves that are read (`Around`) come to this number, 40 nodes are open, and none may be begun in them.
 const TOO_DEEP: u64 = 1 << 41;
+
+/// The brackets of a text that is no longer are counted first.
+const SHORT: usize = 128;
+
+/// How many bytes are looked at, at least, where brackets of a longer one are counted.
+const LEAST_SEEN: usize = 512;
 
 /// The nodes that are open, since their ends are not read yet. Which of their halves is read is one number: a binary digit for each node
 /// behind those of 2, the innermost last, and 1 in its second half. The innermost has its entry at `last`, and the bases have this sum.
@@ -24,6 +31,22 @@ pub struct Around {
     halves: u64,
     last: u32,
     sum: u32,
+}
+
+/// Where a reading halted: the place in the text, how many entries were made, and the nodes that are open.
+#[derive(Clone, Copy)]
+pub struct Halted {
+    at: usize,
+    end: usize,
+    around: Around,
+}
+
+/// How far a reading comes: to the end of the whole text, with so many entries; until the room is full; or to a fault.
+#[derive(Clone, Copy)]
+pub enum Reached {
+    Whole(usize),
+    Full(Halted),
+    Fault,
 }
 
 // What stands behind this byte.
@@ -205,22 +228,20 @@ fn close_all<'a>(
     Some((left, rest))
 }
 
-// Whether the whole text is that of an event tree, whose entries fill the room then.
-fn take_over(text: &[u8], room: &mut [Entry]) -> bool
-    requires { length room.old < 2 ^ 32 }
-    ensures { IsTrue result → IsWhole text.now room.new }
+// Goes on with the tree that the whole text spells, as far as there is room. It is called a few times, and keeps its registers so.
+#[inline(never)]
+fn take_on(text: &[u8], from: Halted, room: &mut [Entry]) -> Reached
+    requires { IsHalted text.now from room.old }
+    ensures { Reaches result text.now room.old room.new }
 {
-    let mut rest = text;
-    let mut end: usize = 0;
-    let mut around = Around {
-        halves: 2,
-        last: 0,
-        sum: 0,
-    };
+    let (_, left_over) = text.split_at(from.at);
+    let mut rest = left_over;
+    let mut end = from.end;
+    let mut around = from.around;
     while end < room.len() {
         if let [b'(', ..] = rest {
             let Some((inner, inside)) = begin(rest, around, room, end) else {
-                return false;
+                return Reached::Fault;
             };
             rest = inside;
             around = inner;
@@ -228,17 +249,20 @@ fn take_over(text: &[u8], room: &mut [Entry]) -> bool
             continue;
         }
         let Some(later) = take_leaf(rest, around.sum, room, end) else {
-            return false;
+            return Reached::Fault;
         };
         end += 1;
         let Some((left, ended)) = close_all(later, room, end, around) else {
-            return false;
+            return Reached::Fault;
         };
         if left.halves == 2 {
-            return ended.is_empty() && end == room.len();
+            if ended.is_empty() {
+                return Reached::Whole(end);
+            }
+            return Reached::Fault;
         }
         let Some(second) = behind(b',', ended) else {
-            return false;
+            return Reached::Fault;
         };
         around = Around {
             halves: left.halves + 1,
@@ -247,14 +271,20 @@ fn take_over(text: &[u8], room: &mut [Entry]) -> bool
         };
         rest = second;
     }
-    false
+    Reached::Full(Halted {
+        at: text.len() - rest.len(),
+        end,
+        around,
+    })
 }
 
-// The same, also where the entries are too many for a size.
-fn take_all(text: &[u8], room: &mut [Entry]) -> bool
-    ensures { IsTrue result → IsWhole text.now room.new }
+// The same, in a list.
+#[inline(always)]
+fn take_in(text: &[u8], from: Halted, entries: &mut Entries) -> Reached
+    requires { IsHalted text.now from entries.old.items }
+    ensures { Reaches result text.now entries.old.items entries.new.items }
 {
-    room.len() <= u32::MAX as usize && take_over(text, room)
+    take_on(text, from, entries.as_mut_slice())
 }
 
 // How many opening brackets a short text has. They are counted in one byte, so that many bytes are compared at once.
@@ -275,9 +305,59 @@ fn count_entries(text: &[u8]) -> usize {
     nodes.saturating_mul(2).saturating_add(1)
 }
 
-// How many bytes the text of so many entries has at least: a digit for each, and four marks for each node.
-fn least_length(count: usize) -> usize {
-    count.saturating_mul(3).saturating_sub(2)
+// These entries, and blank ones up to so many.
+fn widened(alloc: Global, entries: &[Entry], count: usize) -> Result<Entries, AllocError>
+    requires { length entries.now ≤ count }
+    ensures { IfOk result (λ wider. wider.items ≡ entries.now ++ replicate (count - length entries.now) blank) }
+{
+    let mut block = Vec::with_capacity(alloc, count)?;
+    block.extend_from_slice(entries)?;
+    block.resize(count, Entry::default())?;
+    Ok(SmallVec::from_vec(block))
+}
+
+// Makes room for all brackets up to four times as far as this place; or there is room for them, or memory is wanting. So the room
+// follows what was read, and is the tree's where nothing is left to be counted.
+fn widen(alloc: Global, text: &[u8], at: usize, entries: &mut Entries) -> bool
+    ensures { IsTrue result → IsWidened entries.old.items entries.new.items }
+{
+    let seen = at.saturating_mul(4).max(LEAST_SEEN).min(text.len());
+    let (front, _) = text.split_at(seen);
+    let count = count_entries(front);
+    if count <= entries.len() || count > u32::MAX as usize {
+        return false;
+    }
+    let Ok(wider) = widened(alloc, entries.as_slice(), count) else {
+        return false;
+    };
+    *entries = wider;
+    true
+}
+
+// How many entries the tree has that the whole text spells. They come in front, and the list is made longer as they need it.
+fn take_all(alloc: Global, text: &[u8], entries: &mut Entries) -> Option<usize>
+    requires { length entries.old.items < 2 ^ 32 }
+    ensures { IfSome result (λ end. IsWhole text.now (take end entries.new.items)) }
+{
+    let mut halted = Halted {
+        at: 0,
+        end: 0,
+        around: Around {
+            halves: 2,
+            last: 0,
+            sum: 0,
+        },
+    };
+    loop {
+        match take_in(text, halted, entries) {
+            Reached::Whole(end) => return Some(end),
+            Reached::Fault => return None,
+            Reached::Full(later) => halted = later,
+        }
+        if !widen(alloc, text, halted.at, entries) {
+            return None;
+        }
+    }
 }
 
 // The leaf that the whole text spells. It takes no blank entries.
@@ -293,21 +373,37 @@ fn read_leaf(alloc: Global, text: &[u8]) -> Option<Node>
     }
 }
 
-// The tree that the whole text spells, into blank entries. A text with too many brackets for its length gets no room.
+// How much room there is at first: for a short text as much as it needs, and for a longer one what takes no memory.
+fn first_room(text: &[u8]) -> usize
+    ensures { result < 2 ^ 32 }
+{
+    if text.len() > SHORT {
+        return INLINE;
+    }
+    count_entries(text).min(2 * SHORT + 1)
+}
+
+// The tree that the whole text spells.
 fn read_node(alloc: Global, text: &[u8]) -> Option<Node>
     ensures { IfSome result (λ node. IsEvents node × (text.now ≡ spelling node)) }
 {
-    let count = count_entries(text);
-    if text.len() < least_length(count) {
-        return None;
-    }
-    let Ok(mut entries) = repeated(alloc, count, Entry::default()) else {
+    let Ok(mut entries) = repeated(alloc, first_room(text), Entry::default()) else {
         return None;
     };
-    if take_all(text, entries.as_mut_slice()) {
-        Some(Node::of(entries))
-    } else {
-        None
+    let end = take_all(alloc, text, &mut entries)?;
+    entries.truncate(end);
+    Some(Node::of(entries))
+}
+
+// Whether a node may begin so: with a bracket and a number, and most have one of one digit and then a part.
+#[inline(always)]
+fn may_begin(text: &[u8]) -> bool {
+    match text {
+        [b'(', base, b',', part, ..] => {
+            base.is_ascii_digit() && (*part == b'(' || part.is_ascii_digit())
+        }
+        [b'(', base, digit, ..] => base.is_ascii_digit() && digit.is_ascii_digit(),
+        _ => false,
     }
 }
 
@@ -315,8 +411,8 @@ fn read_node(alloc: Global, text: &[u8]) -> Option<Node>
 pub fn read(alloc: Global, text: &[u8]) -> Option<Node>
     ensures { IfSome result (λ node. IsEvents node × (text.now ≡ spelling node)) }
 {
-    match text {
-        [b'(', ..] => read_node(alloc, text),
-        _ => read_leaf(alloc, text),
+    if may_begin(text) {
+        return read_node(alloc, text);
     }
+    read_leaf(alloc, text)
 }

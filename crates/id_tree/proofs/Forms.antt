@@ -1,105 +1,97 @@
--- What the marks of a tree tell of its form, and what parsing finds.
-use Rattle.std.proofs.Common.{◌≡◌, ◌≢◌, inl, inr, ℕ, ◌<◌, ◌≤◌, Bool, true, false, cond, List, [], ◌++◌, refl, sym, ap, subst, ◌∙◌, arith, append_assoc, append-nil}
-use Rattle.std.specs.Prelude.{◌&&◌, IsTrue}
-use Rattle.std.proofs.lemmas.Bool.{cases_Bool, both_ways, and_parts, and_from, true≢false}
+-- What is known of a tree tells of its form, and what parsing finds.
+use Rattle.std.proofs.Common.{◌≡◌, inl, inr, ℕ, ◌+◌, ◌<◌, min, false, List, Option, Some, None, refl, sym, ap, subst, ◌∙◌, arith}
+use Rattle.std.proofs.lemmas.Bool.{cases_Bool, both_ways}
 use Rattle.id_tree.specs.IdTree.{IdTree, Zero, One, Pair}
 use Rattle.id_tree.specs.NormalForm.{IsNormal, IsId, are_equal_leaves, depth, depth_limit}
 use Rattle.id_tree.specs.Spelling.{spelling}
-use Rattle.id_tree.specs.Marks.{preorder, tree_of, AreMarksOf}
-use Rattle.id_tree.specs.Form.{begin_equal, are_normal}
 use Rattle.id_tree.specs.Faults.{SpellsUnnormal, SpellsDeep, IsFaultOf}
-use Rattle.id_tree.specs.Reading.{Spells, IsRunFault, run, start}
-use Rattle.id_tree.specs.declared.marks.Mark.{Mark}
+use Rattle.id_tree.specs.Reading.{Spells, IsRunFault, IsPartFault, run, start, are_one, height, above, pair_of, part_of}
+use Rattle.id_tree.specs.declared.reader.Part.{Part}
+use Rattle.id_tree.specs.declared.reader.Part.TheVariants as parts
 use Rattle.id_tree.specs.declared.fault.IdFault.{IdFault}
 use Rattle.id_tree.specs.declared.fault.IdFault.TheVariants.{Syntax, NotNormal, TooDeep, Memory}
-use Rattle.id_tree.proofs.Preorder.{tree_of_preorder, are_of}
 use Rattle.id_tree.proofs.Runs.{spelled, run_spelled}
 use Rattle.id_tree.proofs.Texts.{one_spelling}
 
--- ---- the normal form
+-- ---- what is known of a pair
 
-normal : IdTree → Bool
-normal Zero = true
-normal One = true
-normal (Pair l r) = cond (are_equal_leaves l r) false (normal l && normal r)
+zero_above : (o p : Option ℕ) → are_one parts.Zero (above o p) ≡ false
+zero_above None p = refl
+zero_above (Some g) None = refl
+zero_above (Some g) (Some h) = refl
 
-halves_first : (l r : IdTree) (ms : List Mark) → begin_equal (preorder l ++ (preorder r ++ ms)) ≡ are_equal_leaves l r
-halves_first Zero Zero ms = refl
-halves_first Zero One ms = refl
-halves_first Zero (Pair a b) ms = refl
-halves_first One Zero ms = refl
-halves_first One One ms = refl
-halves_first One (Pair a b) ms = refl
-halves_first (Pair a b) r ms = refl
+one_above : (o p : Option ℕ) → are_one parts.One (above o p) ≡ false
+one_above None p = refl
+one_above (Some g) None = refl
+one_above (Some g) (Some h) = refl
 
-regroup : (b c d e : Bool) → cond b false (c && (d && e)) ≡ (cond b false (c && d) && e)
-regroup true c d e = refl
-regroup false true d e = refl
-regroup false false d e = refl
+above_any : (o p : Option ℕ) (q : Part) → are_one (above o p) q ≡ false
+above_any None p q = refl
+above_any (Some g) None q = refl
+above_any (Some g) (Some h) q = refl
 
-normal_run : (t : IdTree) (ms : List Mark) → are_normal (preorder t ++ ms) ≡ (normal t && are_normal ms)
-unfolding normal
-normal_run Zero ms = refl
-normal_run One ms = refl
-normal_run (Pair l r) ms =
-    let inside : are_normal (preorder l ++ (preorder r ++ ms)) ≡ (normal l && (normal r && are_normal ms)) = normal_run l (preorder r ++ ms) ∙ ap (λ (b : Bool). normal l && b) (normal_run r ms) in
-    rw (append_assoc (preorder l) (preorder r) ms, halves_first l r ms, inside) (regroup (are_equal_leaves l r) (normal l) (normal r) (are_normal ms))
+zero_pair : (p q : Part) → are_one parts.Zero (pair_of p q) ≡ false
+zero_pair p q = elim (cases_Bool (are_one p q)) [ inl e ↦ rw e refl | inr e ↦ rw e (zero_above (height p) (height q)) ]
 
-and_true : (b : Bool) → (b && true) ≡ b
-and_true true = refl
-and_true false = refl
+one_pair : (p q : Part) → are_one parts.One (pair_of p q) ≡ false
+one_pair p q = elim (cases_Bool (are_one p q)) [ inl e ↦ rw e refl | inr e ↦ rw e (one_above (height p) (height q)) ]
 
-of_preorder : (t : IdTree) → are_normal (preorder t) ≡ normal t
-of_preorder t = ap are_normal (sym (append-nil (preorder t))) ∙ normal_run t [] ∙ and_true (normal t)
+pair_any : (p q r : Part) → are_one (pair_of p q) r ≡ false
+pair_any p q r = elim (cases_Bool (are_one p q)) [ inl e ↦ rw e refl | inr e ↦ rw e (above_any (height p) (height q) r) ]
 
-from_test : (t : IdTree) → normal t ≡ true → IsNormal t
-unfolding normal
-from_test Zero e = tt
-from_test One e = tt
-from_test (Pair l r) e =
-    elim (cases_Bool (are_equal_leaves l r)) [
-      | inl h ↦ absurd (true≢false (sym (rw h at e)))
-      | inr h ↦ let both = and_parts (normal l) (normal r) (rw h at e) in (from_test l both.0, from_test r both.1, h)
+same_leaves : (l r : IdTree) → are_one (part_of l) (part_of r) ≡ are_equal_leaves l r
+same_leaves Zero Zero = refl
+same_leaves Zero One = refl
+same_leaves Zero (Pair a b) = zero_pair (part_of a) (part_of b)
+same_leaves One Zero = refl
+same_leaves One One = refl
+same_leaves One (Pair a b) = one_pair (part_of a) (part_of b)
+same_leaves (Pair a b) r = pair_any (part_of a) (part_of b) (part_of r)
+
+-- ---- what is told of a tree
+
+abbrev Tells : Option ℕ → IdTree → Type 0
+Tells None t = ¬ IsNormal t
+Tells (Some d) t = IsNormal t × (d ≡ min (depth t) (depth_limit + 1))
+
+tells_above : (o p : Option ℕ) (l r : IdTree) → Tells o l → Tells p r → are_equal_leaves l r ≡ false → Tells (height (above o p)) (Pair l r)
+tells_above None p l r h k e = λ n. h n.0
+tells_above (Some g) None l r h k e = λ n. k n.1
+tells_above (Some g) (Some d) l r h k e = ((h.0, k.0, e), omega (arith, h.1, k.1))
+
+tells : (t : IdTree) → Tells (height (part_of t)) t
+tells Zero = (tt, refl)
+tells One = (tt, refl)
+tells (Pair l r) =
+    elim (cases_Bool (are_one (part_of l) (part_of r))) [
+      | inl e ↦ rw e (λ n. both_ways (are_equal_leaves l r) n.2 (sym (same_leaves l r) ∙ e))
+      | inr e ↦ rw e (tells_above (height (part_of l)) (height (part_of r)) l r (tells l) (tells r) (sym (same_leaves l r) ∙ e))
     ]
 
-to_test : (t : IdTree) → IsNormal t → normal t ≡ true
-unfolding normal
-to_test Zero n = refl
-to_test One n = refl
-to_test (Pair l r) n = rw n.2 (and_from _ _ (to_test l n.0) (to_test r n.1))
+tells_of : (part : Part) (bytes : List ℕ) (s : Spells part bytes) → Tells (height part) s.tree
+tells_of part bytes s = subst (λ (p : Part). Tells (height p) s.tree) (sym s.part_is) (tells s.tree)
 
 -- ---- what parsing finds
 
-tree_is : (ms : List Mark) (bytes : List ℕ) (s : Spells ms bytes) → tree_of ms ≡ s.tree
-tree_is ms bytes s = tree_of_preorder s.tree ms s.marks
+found_unnormal : (bytes : List ℕ) → Spells parts.NotNormal bytes → SpellsUnnormal bytes
+found_unnormal bytes s = record { tree = s.tree; spelled = spelled bytes s.tree s.ran; unnormal = tells_of parts.NotNormal bytes s }
 
-test_is : (ms : List Mark) (bytes : List ℕ) (s : Spells ms bytes) → are_normal ms ≡ normal s.tree
-test_is ms bytes s = ap are_normal s.marks ∙ of_preorder s.tree
+found_deep : (bytes : List ℕ) (d : ℕ) → Spells (parts.Pair d) bytes → depth_limit < d → SpellsDeep bytes
+found_deep bytes d s deep =
+    let told = tells_of (parts.Pair d) bytes s in
+    record { tree = s.tree; spelled = spelled bytes s.tree s.ran; normal = told.0; deep = omega (arith, told.1, deep) }
 
-pub found_id : (ms : List Mark) (bytes : List ℕ) → Spells ms bytes → true ≡ are_normal ms → depth (tree_of ms) ≤ depth_limit → AreMarksOf (tree_of ms) ms
-found_id ms bytes s e d = are_of s.tree ms s.marks (record { normal = from_test s.tree (sym (test_is ms bytes s) ∙ sym e); shallow = omega (arith, ap depth (tree_is ms bytes s)) })
+-- what spells an id is neither
+not_unnormal : (bytes : List ℕ) (t : IdTree) → Spells parts.NotNormal bytes → bytes ≡ spelling t → ¬ IsId t
+not_unnormal bytes t s e n =
+    let same : s.tree ≡ t = one_spelling s.tree t (sym (spelled bytes s.tree s.ran) ∙ e) in
+    tells_of parts.NotNormal bytes s (subst IsNormal (sym same) n.normal)
 
-pub found_spelling : (ms : List Mark) (bytes : List ℕ) → Spells ms bytes → bytes ≡ spelling (tree_of ms)
-found_spelling ms bytes s = spelled bytes s.tree s.ran ∙ ap spelling (sym (tree_is ms bytes s))
-
-pub found_unnormal : (ms : List Mark) (bytes : List ℕ) → Spells ms bytes → false ≡ are_normal ms → SpellsUnnormal bytes
-found_unnormal ms bytes s e = record { tree = s.tree; spelled = spelled bytes s.tree s.ran; unnormal = λ n. both_ways (normal s.tree) (sym (test_is ms bytes s) ∙ sym e) (to_test s.tree n) }
-
-pub found_deep : (ms : List Mark) (bytes : List ℕ) → Spells ms bytes → true ≡ are_normal ms → depth_limit < depth (tree_of ms) → SpellsDeep bytes
-found_deep ms bytes s e d = record { tree = s.tree; spelled = spelled bytes s.tree s.ran; normal = from_test s.tree (sym (test_is ms bytes s) ∙ sym e); deep = omega (arith, ap depth (tree_is ms bytes s)) }
-
--- what spells an id is read as that id
-pub found_tree : (ms : List Mark) (bytes : List ℕ) (t : IdTree) → Spells ms bytes → bytes ≡ spelling t → tree_of ms ≡ t
-found_tree ms bytes t s e = one_spelling (tree_of ms) t (sym (found_spelling ms bytes s) ∙ e)
-
-pub not_unnormal : (ms : List Mark) (bytes : List ℕ) (t : IdTree) → Spells ms bytes → bytes ≡ spelling t → IsId t → false ≢ are_normal ms
-unfolding found_unnormal
-not_unnormal ms bytes t s e n h =
-    let same : s.tree ≡ t = sym (tree_is ms bytes s) ∙ found_tree ms bytes t s e in
-    (found_unnormal ms bytes s h).unnormal (subst IsNormal (sym same) n.normal)
-
-pub not_deep : (ms : List Mark) (bytes : List ℕ) (t : IdTree) → Spells ms bytes → bytes ≡ spelling t → IsId t → ¬ (depth_limit < depth (tree_of ms))
-not_deep ms bytes t s e n h = omega (arith, ap depth (found_tree ms bytes t s e), n.shallow)
+not_deep : (bytes : List ℕ) (d : ℕ) (t : IdTree) → Spells (parts.Pair d) bytes → bytes ≡ spelling t → IsId t → ¬ (depth_limit < d)
+not_deep bytes d t s e n deep =
+    let same : s.tree ≡ t = one_spelling s.tree t (sym (spelled bytes s.tree s.ran) ∙ e) in
+    let told = tells_of (parts.Pair d) bytes s in
+    omega (arith, told.1, deep, ap depth same, n.shallow)
 
 -- a fault of the run is one that the bytes have
 pub fault_found : (fault : IdFault) (bytes : List ℕ) → IsRunFault fault (run start bytes) → IsFaultOf fault bytes
@@ -115,12 +107,16 @@ fault_of_id NotNormal bytes t n e h = absurd h
 fault_of_id TooDeep bytes t n e h = absurd h
 fault_of_id Memory bytes t n e h = refl
 
--- what the test of the depth tells
-pub told_deep : (b : Bool) (i j : IdTree) → (IsTrue b → depth i ≤ depth_limit) × (depth i ≤ depth_limit → IsTrue b) → b ≡ false → i ≡ j → depth_limit < depth j
-told_deep b i j h e f = rw (← f) (beyond (depth i) (λ k. both_ways b e (h.1 k)))
-  where
-    beyond : (n : ℕ) → ¬ (n ≤ depth_limit) → depth_limit < n
-    beyond n h = omega arith
+-- ---- the fault of what was not read straight
 
-pub told_shallow : (b : Bool) (i j : IdTree) → (IsTrue b → depth i ≤ depth_limit) × (depth i ≤ depth_limit → IsTrue b) → b ≡ true → i ≡ j → depth j ≤ depth_limit
-told_shallow b i j h e f = rw (← f) (h.0 e)
+pub part_fault : (fault : IdFault) (part : Part) (bytes : List ℕ) → Spells part bytes → IsPartFault fault part → IsFaultOf fault bytes
+part_fault Syntax part bytes s h = absurd h
+part_fault NotNormal part bytes s h = found_unnormal bytes (subst (λ (p : Part). Spells p bytes) h s)
+part_fault TooDeep part bytes s h = found_deep bytes h.0 (subst (λ (p : Part). Spells p bytes) h.1 s) h.2
+part_fault Memory part bytes s h = tt
+
+pub part_only : (fault : IdFault) (part : Part) (bytes : List ℕ) (t : IdTree) → Spells part bytes → IsPartFault fault part → IsId t → bytes ≡ spelling t → fault ≡ Memory
+part_only Syntax part bytes t s h n e = absurd h
+part_only NotNormal part bytes t s h n e = absurd (not_unnormal bytes t (subst (λ (p : Part). Spells p bytes) h s) e n)
+part_only TooDeep part bytes t s h n e = absurd (not_deep bytes h.0 t (subst (λ (p : Part). Spells p bytes) h.1 s) e n h.2)
+part_only Memory part bytes t s h n e = refl

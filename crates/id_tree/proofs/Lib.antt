@@ -14,4 +14,3 @@ pub mod Steps
 pub mod Forms
 pub mod Takes
 pub mod Lengths
-pub mod Balanced

@@ -1,23 +1,23 @@
 -- The steps of a run over bytes, and what a run over a spelling comes to.
-use Rattle.std.proofs.Common.{◌≡◌, ◌≢◌, ◌⊎◌, inl, inr, ℕ, ◌+◌, ◌<◌, ◌≤◌, ◌==◌, Bool, true, false, cond, List, [], ◌∷◌, ◌++◌, length, get_or, take, drop, Some, None, Option, refl, sym, ap, ◌∙◌, arith, add-one, drop-cons, append_assoc, append-nil, length-append}
-use Rattle.std.specs.Prelude.{option_and_then, is_some}
+use Rattle.std.proofs.Common.{◌≡◌, ◌≢◌, ◌⊎◌, inl, inr, ℕ, ◌+◌, ◌<◌, ◌≤◌, ◌==◌, Bool, true, false, cond, List, [], ◌∷◌, ◌++◌, length, get_or, drop, Some, None, Option, refl, sym, ap, ◌∙◌, arith, add-one, drop-cons, append_assoc, append-nil, length-append}
+use Rattle.std.specs.Prelude.{option_and_then}
 use Rattle.std.proofs.lemmas.Bool.{eqb-true}
-use Rattle.std.proofs.Math.ListN.{drop_of_length-le, take-append-drop}
+use Rattle.std.proofs.Math.ListN.{drop_of_length-le}
 use Rattle.id_tree.specs.IdTree.{IdTree, Zero, One, Pair}
 use Rattle.id_tree.specs.Spelling.{spelling}
-use Rattle.id_tree.specs.Reading.{IsStepFault, IsRunFault, State, Shows, StepsTo, RunsTo, Spells, half_of, halves_of_pairs, step_of, leaf_read, opened, halved, closed, run, start, whole}
-use Rattle.id_tree.specs.declared.marks.Mark.{Mark}
+use Rattle.id_tree.specs.Reading.{IsStepFault, IsRunFault, State, Shows, StepsTo, Spells, half_of, halves_of_pairs, last_of, part_of, step_of, leaf_read, opened, halved, closed, run, start, whole}
+use Rattle.id_tree.specs.declared.reader.Part.{Part}
 use Rattle.id_tree.specs.declared.fault.IdFault.{IdFault}
 use Rattle.id_tree.specs.declared.fault.IdFault.TheVariants.{Syntax, NotNormal, TooDeep, Memory}
 use Rattle.id_tree.specs.declared.reader.Half.{Half}
 
 -- ---- a loop over the bytes
 
--- what is left from a byte on leads from the state that is shown to where the whole leads from the first one
-pub record Reads (s : State) (ms : List Mark) (hs : List Half) (complete : Bool) (i : ℕ) (bytes : List ℕ) : Type 0 where
+-- what is left from a byte on leads from the state that is shown to where the whole leads
+pub record Reads (hs : List Half) (last : Option Part) (i : ℕ) (bytes : List ℕ) : Type 0 where
   pub state : State
-  pub shows : Shows ms hs complete state
-  pub leads : run state (drop i bytes) ≡ run s bytes
+  pub shows : Shows hs last state
+  pub leads : run state (drop i bytes) ≡ run start bytes
 
 -- a run over what is left from a byte on goes on behind that byte
 run_next : (s t : State) (bytes : List ℕ) (i : ℕ) → i < length bytes → step_of s (get_or bytes i 0) ≡ Some t → run s (drop i bytes) ≡ run t (drop (i + 1) bytes)
@@ -29,93 +29,60 @@ run_fails : (s : State) (bytes : List ℕ) (i : ℕ) → i < length bytes → st
 unfolding run
 run_fails s bytes i h e = rw (drop-cons bytes i 0) (rw e refl)
 
-pub reads_on : (s : State) (ms ns : List Mark) (hs ks : List Half) (complete next : Bool) (i : ℕ) (bytes : List ℕ) (r : Reads s ms hs complete i bytes) → i < length bytes → StepsTo r.state (get_or bytes i 0) ns ks next → Reads s ns ks next (i + 1) bytes
-reads_on s ms ns hs ks complete next i bytes r h step = record { state = step.next; shows = step.shows; leads = sym (run_next r.state step.next bytes i h step.steps) ∙ r.leads }
+pub reads_on : (hs ks : List Half) (last next : Option Part) (i : ℕ) (bytes : List ℕ) (r : Reads hs last i bytes) → i < length bytes → StepsTo r.state (get_or bytes i 0) ks next → Reads ks next (i + 1) bytes
+reads_on hs ks last next i bytes r h s = record { state = s.next; shows = s.shows; leads = sym (run_next r.state s.next bytes i h s.steps) ∙ r.leads }
 
-pub reads_start : (s : State) (ms : List Mark) (hs : List Half) (complete : Bool) (bytes : List ℕ) → Shows ms hs complete s → Reads s ms hs complete 0 bytes
-reads_start s ms hs complete bytes shows = record { state = s; shows = shows; leads = refl }
+pub reads_start : (hs : List Half) (bytes : List ℕ) → hs ≡ [] → Reads hs None 0 bytes
+reads_start hs bytes f = record { state = start; shows = record { halves = f; last_is = refl }; leads = refl }
 
 -- a step's fault is the run's
-pub reads_fault : (fault : IdFault) (s : State) (ms : List Mark) (hs : List Half) (complete : Bool) (i : ℕ) (bytes : List ℕ) (r : Reads s ms hs complete i bytes) → i < length bytes → IsStepFault fault (step_of r.state (get_or bytes i 0)) → IsStepFault fault (run s bytes)
-reads_fault Syntax s ms hs complete i bytes r h f = sym r.leads ∙ run_fails r.state bytes i h f
-reads_fault NotNormal s ms hs complete i bytes r h f = f
-reads_fault TooDeep s ms hs complete i bytes r h f = f
-reads_fault Memory s ms hs complete i bytes r h f = f
+pub run_fault : (fault : IdFault) (s : State) (bytes : List ℕ) (i : ℕ) → i < length bytes → run s (drop i bytes) ≡ run start bytes → IsStepFault fault (step_of s (get_or bytes i 0)) → IsRunFault fault (run start bytes)
+run_fault Syntax s bytes i h e f = λ v g. let none : run s (drop i bytes) ≡ None = run_fails s bytes i h f in cc
+run_fault NotNormal s bytes i h e f = f
+run_fault TooDeep s bytes i h e f = f
+run_fault Memory s bytes i h e f = f
 
 -- with nothing left a run is where it ends
-pub reads_end : (s : State) (ms : List Mark) (hs : List Half) (complete : Bool) (i : ℕ) (bytes : List ℕ) → Reads s ms hs complete i bytes → length bytes ≤ i → RunsTo s bytes ms hs complete
+run_ends : (s : State) (bytes : List ℕ) (i : ℕ) → length bytes ≤ i → run s (drop i bytes) ≡ run start bytes → run start bytes ≡ Some s
 unfolding run
-reads_end s ms hs complete i bytes r h = record { next = r.state; shows = r.shows; runs = sym r.leads ∙ ap (run r.state) (drop_of_length-le bytes h) }
+run_ends s bytes i h e = sym e ∙ ap (run s) (drop_of_length-le bytes h)
 
--- ---- a run over one part and then over the other
-
-step_joins : (o : Option State) (front rest : List ℕ) → ((t : State) → run t (front ++ rest) ≡ option_and_then (λ u. run u rest) (run t front)) → option_and_then (λ t. run t (front ++ rest)) o ≡ option_and_then (λ u. run u rest) (option_and_then (λ t. run t front) o)
-step_joins None front rest joins = refl
-step_joins (Some t) front rest joins = joins t
-
-run-append : (s : State) (front rest : List ℕ) → run s (front ++ rest) ≡ option_and_then (λ t. run t rest) (run s front)
-unfolding run
-run-append s [] rest = refl
-run-append s (byte ∷ front) rest = step_joins (step_of s byte) front rest (λ t. run-append t front rest)
-
--- where a text is cut, the run over it is that over its parts
-parts_run : (n : ℕ) (s : State) (bytes : List ℕ) → run s bytes ≡ option_and_then (λ t. run t (drop n bytes)) (run s (take n bytes))
-parts_run n s bytes = ap (run s) (sym (take-append-drop n bytes)) ∙ run-append s (take n bytes) (drop n bytes)
-
-pub start_shown : (ms : List Mark) (hs : List Half) → ms ≡ [] → hs ≡ [] → Shows ms hs false start
-start_shown ms hs e f = record { marks = e; halves = f; complete_is = refl }
-
--- a fault of the first part is the whole run's
-pub front_fault : (fault : IdFault) (n : ℕ) (bytes front : List ℕ) → front ≡ take n bytes → IsStepFault fault (run start front) → IsRunFault fault (run start bytes)
-front_fault Syntax n bytes front e f = λ t g. let none : run start bytes ≡ None = parts_run n start bytes ∙ ap (λ o. option_and_then (λ s. run s (drop n bytes)) o) (ap (run start) (sym e) ∙ f) in cc
-front_fault NotNormal n bytes front e f = f
-front_fault TooDeep n bytes front e f = f
-front_fault Memory n bytes front e f = f
-
--- behind the first part the run goes on from there
-runs_behind : (n : ℕ) (bytes front rest : List ℕ) (s : State) → front ≡ take n bytes → rest ≡ drop n bytes → run start front ≡ Some s → run start bytes ≡ run s rest
-runs_behind n bytes front rest s e f h = parts_run n start bytes ∙ ap (λ o. option_and_then (λ t. run t (drop n bytes)) o) (ap (run start) (sym e) ∙ h) ∙ ap (run s) (sym f)
-
-pub rest_fault : (fault : IdFault) (n : ℕ) (bytes front rest : List ℕ) (s : State) → front ≡ take n bytes → rest ≡ drop n bytes → run start front ≡ Some s → IsStepFault fault (run s rest) → IsRunFault fault (run start bytes)
-rest_fault Syntax n bytes front rest s e f h g = λ t k. let none : run start bytes ≡ None = runs_behind n bytes front rest s e f h ∙ g in cc
-rest_fault NotNormal n bytes front rest s e f h g = g
-rest_fault TooDeep n bytes front rest s e f h g = g
-rest_fault Memory n bytes front rest s e f h g = g
-
-pub runs_whole : (n : ℕ) (bytes front rest : List ℕ) (s : State) (ms : List Mark) (hs : List Half) (complete : Bool) → front ≡ take n bytes → rest ≡ drop n bytes → run start front ≡ Some s → RunsTo s rest ms hs complete → RunsTo start bytes ms hs complete
-runs_whole n bytes front rest s ms hs complete e f h r = record { next = r.next; runs = runs_behind n bytes front rest s e f h ∙ r.runs; shows = r.shows }
-
--- ---- where a run ends
+same_state : (s : State) (t : IdTree) (bytes : List ℕ) (i : ℕ) → length bytes ≤ i → run s (drop i bytes) ≡ run start bytes → run start bytes ≡ Some (whole t) → s ≡ whole t
+same_state s t bytes i h e f =
+    let ends : run start bytes ≡ Some s = run_ends s bytes i h e in
+    cc
 
 length-halves : (ps : List (Option IdTree)) → length (halves_of_pairs ps) ≡ length ps
 length-halves [] = refl
 length-halves (p ∷ ps) = omega (arith, length-append (halves_of_pairs ps) (half_of p ∷ []), length-halves ps)
 
 -- with an open pair it is none of a whole spelling
-pub run_open : (ms : List Mark) (hs : List Half) (complete : Bool) (bytes : List ℕ) → RunsTo start bytes ms hs complete → 0 < length hs → (t : IdTree) → run start bytes ≢ Some (whole t)
-run_open ms hs complete bytes r some t f =
-    let ends = r.runs in
-    let same : r.next ≡ whole t = cc in
-    let none : r.next.open_pairs ≡ [] = ap (λ (s : State). s.open_pairs) same in
-    let closed_all : length r.next.open_pairs ≡ 0 = ap length none in
-    omega (arith, ap length r.shows.halves, length-halves r.next.open_pairs)
+pub run_open : (hs : List Half) (last : Option Part) (i : ℕ) (bytes : List ℕ) → Reads hs last i bytes → 0 < length hs → length bytes ≤ i → (t : IdTree) → run start bytes ≢ Some (whole t)
+run_open hs last i bytes r some h t f =
+    let same : r.state ≡ whole t = same_state r.state t bytes i h r.leads f in
+    let none : r.state.open_pairs ≡ [] = ap (λ (s : State). s.open_pairs) same in
+    let closed_all : length r.state.open_pairs ≡ 0 = ap length none in
+    omega (arith, ap length r.shows.halves, length-halves r.state.open_pairs)
 
 -- nor with no tree
-pub run_empty : (ms : List Mark) (hs : List Half) (complete : Bool) (bytes : List ℕ) → RunsTo start bytes ms hs complete → complete ≡ false → (t : IdTree) → run start bytes ≢ Some (whole t)
-run_empty ms hs complete bytes r none t f =
-    let ends = r.runs in
-    let same : r.next ≡ whole t = cc in
-    let some : is_some r.next.last ≡ true = ap (λ (s : State). is_some s.last) same in
-    let is = r.shows.complete_is in
+pub run_empty : (hs : List Half) (last : Option Part) (i : ℕ) (bytes : List ℕ) → Reads hs last i bytes → last ≡ None → length bytes ≤ i → (t : IdTree) → run start bytes ≢ Some (whole t)
+run_empty hs last i bytes r none h t f =
+    let same : r.state ≡ whole t = same_state r.state t bytes i h r.leads f in
+    let some : last_of r.state.last ≡ Some (part_of t) = ap (λ (s : State). last_of s.last) same in
+    let is = r.shows.last_is in
     absurd (cc)
 
-spells_whole : (ms : List Mark) (hs : List Half) (complete : Bool) (bytes : List ℕ) (ps : List (Option IdTree)) (last : Option IdTree) → Shows ms hs complete (record { open_pairs = ps; last = last }) → length hs ≡ 0 → complete ≡ true → run start bytes ≡ Some (record { open_pairs = ps; last = last }) → Spells ms bytes
-spells_whole ms hs complete bytes [] (Some t) s n c e = record { tree = t; marks = s.marks; ran = e }
-spells_whole ms hs complete bytes [] None s n c e = absurd (let is = s.complete_is in cc)
-spells_whole ms hs complete bytes (p ∷ ps) last s n c e = absurd (omega (arith, ap length s.halves, length-halves (p ∷ ps)))
+same_part : (o : Option Part) (p q : Part) → o ≡ Some p → o ≡ Some q → p ≡ q
+same_part o p q e f = cc
 
-pub run_whole : (ms : List Mark) (hs : List Half) (complete : Bool) (bytes : List ℕ) → RunsTo start bytes ms hs complete → length hs ≡ 0 → complete ≡ true → Spells ms bytes
-run_whole ms hs complete bytes r n c = spells_whole ms hs complete bytes r.next.open_pairs r.next.last r.shows n c r.runs
+spells_whole : (hs : List Half) (last : Option Part) (part : Part) (bytes : List ℕ) (ps : List (Option IdTree)) (tree : Option IdTree) → Shows hs last (record { open_pairs = ps; last = tree }) → length hs ≡ 0 → last ≡ Some part
+    → run start bytes ≡ Some (record { open_pairs = ps; last = tree }) → Spells part bytes
+spells_whole hs last part bytes [] (Some t) s n c e = record { tree = t; part_is = same_part last part (part_of t) c s.last_is; ran = e }
+spells_whole hs last part bytes [] None s n c e = absurd (let is = s.last_is in cc)
+spells_whole hs last part bytes (p ∷ ps) tree s n c e = absurd (omega (arith, ap length s.halves, length-halves (p ∷ ps)))
+
+pub run_whole : (hs : List Half) (last : Option Part) (part : Part) (i : ℕ) (bytes : List ℕ) → Reads hs last i bytes → length hs ≡ 0 → last ≡ Some part → length bytes ≤ i → Spells part bytes
+run_whole hs last part i bytes r n c h = spells_whole hs last part bytes r.state.open_pairs r.state.last r.shows n c (run_ends r.state bytes i h r.leads)
 
 -- ---- a spelling is read
 

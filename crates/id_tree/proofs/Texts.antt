@@ -14,14 +14,14 @@ plain Zero = refl
 plain One = refl
 plain (Pair l r) = list_all-append_true is_tree_byte (spelling l) (44 ∷ (spelling r ++ 41 ∷ [])) (plain l) (list_all-append_true is_tree_byte (spelling r) (41 ∷ []) (plain r) refl)
 
-cons_first : (x y : ℕ) (xs ys : List ℕ) → x ∷ xs ≡ y ∷ ys → x ≡ y
+pub cons_first : (x y : ℕ) (xs ys : List ℕ) → x ∷ xs ≡ y ∷ ys → x ≡ y
 cons_first x y xs ys e = cc
 
-cons_rest : (x y : ℕ) (xs ys : List ℕ) → x ∷ xs ≡ y ∷ ys → xs ≡ ys
+pub cons_rest : (x y : ℕ) (xs ys : List ℕ) → x ∷ xs ≡ y ∷ ys → xs ≡ ys
 cons_rest x y xs ys e = cc
 
 -- no spelling begins another
-spelling_front : (a b : IdTree) (x y : List ℕ) → spelling a ++ x ≡ spelling b ++ y → (a ≡ b) × (x ≡ y)
+pub spelling_front : (a b : IdTree) (x y : List ℕ) → spelling a ++ x ≡ spelling b ++ y → (a ≡ b) × (x ≡ y)
 spelling_front Zero Zero x y e = (refl, cons_rest 48 48 x y e)
 spelling_front Zero One x y e = absurd (let h : 48 ≡ 49 = cons_first 48 49 x y e in omega arith)
 spelling_front Zero (Pair c d) x y e = absurd (let h : 48 ≡ 40 = cons_first 48 40 _ _ e in omega arith)

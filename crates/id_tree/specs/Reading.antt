@@ -1,11 +1,11 @@
 -- Working definitions: how a spelling is read, a byte at a time.
-use Rattle.std.specs.Prelude.{◌≡◌, ◌≢◌, ⊤, ℕ, ◌==◌, Bool, if◌then◌else◌, List, [], ◌∷◌, ◌++◌, Option, Some, None, option_and_then, is_some}
+use Rattle.std.specs.Prelude.{◌≡◌, ◌≢◌, ⊤, ℕ, ◌+◌, ◌<◌, ◌==◌, min, max, Bool, true, false, cond, if◌then◌else◌, List, [], ◌∷◌, ◌++◌, Option, Some, None, option_and_then}
 use Rattle.id_tree.specs.IdTree.{IdTree, Zero, One, Pair}
-use Rattle.id_tree.specs.Marks.{preorder}
-use Rattle.id_tree.specs.declared.marks.Mark.{Mark}
-use Rattle.id_tree.specs.declared.marks.Mark.TheVariants as marks
+use Rattle.id_tree.specs.NormalForm.{depth_limit}
 use Rattle.id_tree.specs.declared.fault.IdFault.{IdFault}
 use Rattle.id_tree.specs.declared.fault.IdFault.TheVariants as faults
+use Rattle.id_tree.specs.declared.reader.Part.{Part}
+use Rattle.id_tree.specs.declared.reader.Part.TheVariants as parts
 use Rattle.id_tree.specs.declared.reader.Half.{Half}
 use Rattle.id_tree.specs.declared.reader.Half.TheVariants as halves
 
@@ -54,40 +54,71 @@ run s (byte ∷ bytes) = option_and_then (λ next. run next bytes) (step_of s by
 abbrev pub whole : IdTree → State
 whole t = record { open_pairs = []; last = Some t }
 
--- what the reader's values stand for
-abbrev pub marks_of_pairs : List (Option IdTree) → List Mark
-marks_of_pairs [] = []
-marks_of_pairs (None ∷ ps) = marks_of_pairs ps ++ marks.Pair ∷ []
-marks_of_pairs (Some l ∷ ps) = marks_of_pairs ps ++ marks.Pair ∷ preorder l
+-- ---- what the reader's values stand for
 
-abbrev pub marks_of_last : Option IdTree → List Mark
-marks_of_last None = []
-marks_of_last (Some t) = preorder t
+-- both are one leaf
+abbrev pub are_one : Part → Part → Bool
+are_one parts.Zero parts.Zero = true
+are_one parts.One parts.One = true
+are_one _ _ = false
+
+-- the depth of a tree in normal form, where 41 stands for all that is deeper
+abbrev pub height : Part → Option ℕ
+height parts.Zero = Some 0
+height parts.One = Some 0
+height (parts.Pair d) = Some d
+height parts.NotNormal = None
+
+abbrev pub above : Option ℕ → Option ℕ → Part
+above None h = parts.NotNormal
+above (Some g) None = parts.NotNormal
+above (Some g) (Some h) = parts.Pair (min (max g h) depth_limit + 1)
+
+-- what is known of a pair of these halves
+abbrev pub pair_of : Part → Part → Part
+pair_of p q = cond (are_one p q) parts.NotNormal (above (height p) (height q))
+
+-- what is known of a tree
+abbrev pub part_of : IdTree → Part
+part_of Zero = parts.Zero
+part_of One = parts.One
+part_of (Pair l r) = pair_of (part_of l) (part_of r)
+
+-- the right half of a pair, behind a left one of which this is known
+abbrev pub right_of : Part → Half
+right_of parts.Zero = halves.BehindZero
+right_of parts.One = halves.BehindOne
+right_of (parts.Pair d) = halves.BehindPair d
+right_of parts.NotNormal = halves.BehindNotNormal
+
+abbrev pub left_of : Half → Option Part
+left_of halves.Left = None
+left_of halves.BehindZero = Some parts.Zero
+left_of halves.BehindOne = Some parts.One
+left_of (halves.BehindPair d) = Some (parts.Pair d)
+left_of halves.BehindNotNormal = Some parts.NotNormal
 
 abbrev pub half_of : Option IdTree → Half
 half_of None = halves.Left
-half_of (Some l) = halves.Right
+half_of (Some l) = right_of (part_of l)
 
 abbrev pub halves_of_pairs : List (Option IdTree) → List Half
 halves_of_pairs [] = []
 halves_of_pairs (p ∷ ps) = halves_of_pairs ps ++ half_of p ∷ []
 
-pub record Shows (ms : List Mark) (hs : List Half) (complete : Bool) (s : State) : Type 0 where
-  pub marks : ms ≡ marks_of_pairs s.open_pairs ++ marks_of_last s.last
+abbrev pub last_of : Option IdTree → Option Part
+last_of None = None
+last_of (Some t) = Some (part_of t)
+
+pub record Shows (hs : List Half) (last : Option Part) (s : State) : Type 0 where
   pub halves : hs ≡ halves_of_pairs s.open_pairs
-  pub complete_is : complete ≡ is_some s.last
+  pub last_is : last ≡ last_of s.last
 
 -- a state after a byte, which is shown
-pub record StepsTo (s : State) (byte : ℕ) (ms : List Mark) (hs : List Half) (complete : Bool) : Type 0 where
+pub record StepsTo (s : State) (byte : ℕ) (hs : List Half) (last : Option Part) : Type 0 where
   pub next : State
   pub steps : step_of s byte ≡ Some next
-  pub shows : Shows ms hs complete next
-
--- a state after these bytes, which is shown
-pub record RunsTo (s : State) (bytes : List ℕ) (ms : List Mark) (hs : List Half) (complete : Bool) : Type 0 where
-  pub next : State
-  pub runs : run s bytes ≡ Some next
-  pub shows : Shows ms hs complete next
+  pub shows : Shows hs last next
 
 -- the only faults of a step: there is no state after it, or no memory
 abbrev pub IsStepFault : {A : Type 0} → IdFault → Option A → Type 0
@@ -103,8 +134,15 @@ IsRunFault faults.NotNormal after = ⊥
 IsRunFault faults.TooDeep after = ⊥
 IsRunFault faults.Memory after = ⊤
 
--- marks of the tree that the bytes spell
-pub record Spells (ms : List Mark) (bytes : List ℕ) : Type 0 where
+-- what is known of the tree that the bytes spell
+pub record Spells (part : Part) (bytes : List ℕ) : Type 0 where
   pub tree : IdTree
-  pub marks : ms ≡ preorder tree
+  pub part_is : part ≡ part_of tree
   pub ran : run start bytes ≡ Some (whole tree)
+
+-- the fault of a tree of which this is known
+abbrev pub IsPartFault : IdFault → Part → Type 0
+IsPartFault faults.Syntax part = ⊥
+IsPartFault faults.NotNormal part = part ≡ parts.NotNormal
+IsPartFault faults.TooDeep part = (d : ℕ) × (part ≡ parts.Pair d) × (depth_limit < d)
+IsPartFault faults.Memory part = ⊤

@@ -14,12 +14,12 @@ ghost use Rattle.id_tree.specs.Marks.{tree_of, IsLeaf, AreMarksOf};
 ghost use Rattle.id_tree.specs.NormalForm.{IsId, IsNormal, depth, depth_limit};
 ghost use Rattle.id_tree.specs.Spelling.{spelling, is_tree_byte};
 ghost use Rattle.id_tree.specs.Faults.{IsFaultOf};
+ghost use Rattle.id_tree.specs.Reading.{IsPartFault};
+ghost use Rattle.id_tree.specs.Taking.{IsHaltOfWhole};
 ghost use Rattle.id_tree.specs.Split.{left_part, right_part, parts_depth, IsSplit};
 ghost use Rattle.id_tree.specs.Sum.{sum_of};
 
-mod balance;
 mod fault;
-mod form;
 mod marks;
 mod parts;
 mod reader;
@@ -29,14 +29,14 @@ mod together;
 mod view;
 mod way;
 
-pub use balance::is_unbalanced;
 pub use fault::{IdFault, SplitFault, SumFault};
-use form::{are_normal, fits};
 use marks::{Mark, Marks, are_apart, are_same, cover, own_any, sum_into};
 use parts::{left_into, parts_fit, right_into};
+use reader::Part;
 use smallvec::SmallVec;
 use std::alloc::{AllocError, Global};
 use std::marker::Model;
+use straight::Halt;
 use text::{text_length, write_first};
 use together::is_sum_by;
 pub use view::{IdPart, IdView};
@@ -218,25 +218,17 @@ impl Id {
     }
 
     /// The id that the bytes spell, all of the bytes. The stack that it takes does not grow with how deeply brackets are
-    /// nested beyond the depth limit. The memory that it takes is one byte for every two, or one for each node, leaf and
-    /// open bracket, whichever is more.
+    /// nested; the memory that it takes is a byte for each node and leaf, and one for each open bracket.
     pub fn parse(alloc: Global, bytes: &[u8]) -> Result<Id, IdFault>
         ensures ok { IfOk result (λ id. bytes.now ≡ spelling id) }
         ensures err { IfErr result (λ fault. IsFaultOf fault bytes.now) }
         ensures only { (t : IdTree) → IsId t → bytes.now ≡ spelling t → MatchResult result (λ id. id ≡ t) (λ fault. fault ≡ IdFault.Memory) }
     {
-        // What is spelled right is mostly read so; which fault a text has, and what memory is wanting for, the reader says.
-        if let Some(marks) = straight::read(alloc, bytes) {
-            return Ok(Id { marks });
+        // What is spelled right is read so, if there is memory; which fault a text has, the reader says, where this has not.
+        match straight::read(alloc, bytes) {
+            Ok(marks) => Ok(Id { marks }),
+            Err(halt) => Err(fault_of(alloc, bytes, halt)),
         }
-        let marks = reader::read(alloc, bytes)?;
-        if !are_normal(marks.as_slice()) {
-            return Err(IdFault::NotNormal);
-        }
-        if !fits(&IdView::of(marks.as_slice()), 40) {
-            return Err(IdFault::TooDeep);
-        }
-        Ok(Id { marks })
     }
 
     /// Appends the one text of the id. On a refused growth `out` is as it was.
@@ -248,6 +240,38 @@ impl Id {
         out.reserve(text_length(marks))?;
         write_first(marks, out);
         Ok(())
+    }
+}
+
+// What is known of a tree tells its fault.
+fn fault_of_part(part: Part) -> IdFault
+    ensures { IsPartFault result part }
+{
+    match part {
+        Part::Zero | Part::One => IdFault::Memory,
+        Part::Pair(depth) => {
+            if depth > 40 {
+                IdFault::TooDeep
+            } else {
+                IdFault::Memory
+            }
+        }
+        Part::NotNormal => IdFault::NotNormal,
+    }
+}
+
+// The fault of bytes of which no id was read.
+fn fault_of(alloc: Global, bytes: &[u8], halt: Halt) -> IdFault
+    requires { IsHaltOfWhole halt bytes.now }
+    ensures err { IsFaultOf result bytes.now }
+    ensures only { (t : IdTree) → IsId t → bytes.now ≡ spelling t → result ≡ IdFault.Memory }
+{
+    match halt {
+        Halt::NoTree => IdFault::Syntax,
+        Halt::Other => match reader::read(alloc, bytes) {
+            Ok(part) => fault_of_part(part),
+            Err(fault) => fault,
+        },
     }
 }
 

@@ -1,108 +1,150 @@
-//! Reads a spelling of any depth in a loop.
+//! Reads a spelling of any depth in a loop, for the fault that it has. No marks are kept, only what is told of the trees around it.
 
-ghost use Rattle.std.specs.Prelude.{◌≡◌, ◌++◌, ◌∷◌, [], IfOk, IfErr, OnOk};
-ghost use Rattle.id_tree.specs.Reading.{State, Shows, StepsTo, RunsTo, Spells, IsStepFault, IsRunFault, step_of, run, start};
+ghost use Rattle.std.specs.Prelude.{◌≡◌, ◌++◌, ◌∷◌, [], IfOk, IfErr};
+ghost use Rattle.id_tree.specs.Reading.{State, Shows, StepsTo, Spells, IsStepFault, IsRunFault, step_of, run, start};
+ghost use Rattle.id_tree.specs.Reading as reading;
 
-use crate::balance::is_unbalanced;
 use crate::fault::IdFault;
-use crate::marks::{Mark, Marks};
-use smallvec::SmallVec;
 use std::alloc::Global;
 
-/// Which half of a pair is being read.
+/// What is known of a tree that was read: which leaf it is, or the depth of a pair in normal form, where 41 stands for all that is
+/// deeper.
+#[derive(Clone, Copy)]
+pub enum Part {
+    Zero,
+    One,
+    Pair(u8),
+    NotNormal,
+}
+
+/// Which half of a pair is being read: the left one, or the right one, with what is known of the left. Two bytes for each open bracket.
 #[derive(Clone, Copy, Drop)]
 pub enum Half {
     Left,
-    Right,
+    BehindZero,
+    BehindOne,
+    BehindPair(u8),
+    BehindNotNormal,
 }
 
-fn append(marks: &mut Marks, mark: Mark) -> Result<(), IdFault>
-    ensures ok { OnOk result (marks.new.items ≡ marks.old.items ++ mark ∷ []) }
-    ensures err { IfErr result (λ fault. fault ≡ IdFault.Memory) }
+// The right half behind this left one.
+#[inline(always)]
+fn right_of(left: Part) -> Half
+    ensures { result ≡ reading.right_of left }
 {
-    marks.extend_from_slice(&[mark])?;
-    Ok(())
+    match left {
+        Part::Zero => Half::BehindZero,
+        Part::One => Half::BehindOne,
+        Part::Pair(depth) => Half::BehindPair(depth),
+        Part::NotNormal => Half::BehindNotNormal,
+    }
 }
 
-// Whether a tree is complete after one more byte.
-fn step(
-    marks: &mut Marks,
-    halves: &mut Vec<Half>,
-    complete: bool,
-    byte: u8,
-) -> Result<bool, IdFault>
-    ensures ok { (s : State) → Shows marks.old.items halves.old.items complete s
-        → IfOk result (λ next. StepsTo s byte marks.new.items halves.new.items next) }
-    ensures err { (s : State) → Shows marks.old.items halves.old.items complete s
-        → IfErr result (λ fault. IsStepFault fault (step_of s byte)) }
+// What is known of the left half, once that was read.
+#[inline(always)]
+fn left_of(half: Half) -> Option<Part>
+    ensures { result ≡ reading.left_of half }
 {
-    match (byte, complete) {
-        (b'0', false) => {
-            append(marks, Mark::Zero)?;
-            Ok(true)
-        }
-        (b'1', false) => {
-            append(marks, Mark::One)?;
-            Ok(true)
-        }
-        (b'(', false) => {
-            append(marks, Mark::Pair)?;
+    match half {
+        Half::Left => None,
+        Half::BehindZero => Some(Part::Zero),
+        Half::BehindOne => Some(Part::One),
+        Half::BehindPair(depth) => Some(Part::Pair(depth)),
+        Half::BehindNotNormal => Some(Part::NotNormal),
+    }
+}
+
+// Whether both are one leaf.
+#[inline(always)]
+fn are_one(left: Part, right: Part) -> bool
+    ensures { result ≡ reading.are_one left right }
+{
+    match (left, right) {
+        (Part::Zero, Part::Zero) | (Part::One, Part::One) => true,
+        _ => false,
+    }
+}
+
+// The depth of a tree in normal form.
+#[inline(always)]
+fn height(part: Part) -> Option<u8>
+    ensures { result ≡ reading.height part }
+{
+    match part {
+        Part::Zero | Part::One => Some(0),
+        Part::Pair(depth) => Some(depth),
+        Part::NotNormal => None,
+    }
+}
+
+// The pair of two halves that are not one leaf, of these depths.
+#[inline(always)]
+fn above(left: Option<u8>, right: Option<u8>) -> Part
+    ensures { result ≡ reading.above left right }
+{
+    match (left, right) {
+        (Some(g), Some(h)) => Part::Pair(g.max(h).min(40) + 1),
+        _ => Part::NotNormal,
+    }
+}
+
+// The pair of two halves.
+#[inline(always)]
+fn pair_of(left: Part, right: Part) -> Part
+    ensures { result ≡ reading.pair_of left right }
+{
+    if are_one(left, right) {
+        return Part::NotNormal;
+    }
+    above(height(left), height(right))
+}
+
+// What was read last after one more byte, if a tree was.
+#[inline(always)]
+fn step(halves: &mut Vec<Half>, last: Option<Part>, byte: u8) -> Result<Option<Part>, IdFault>
+    ensures ok { (s : State) → Shows halves.old.items last s → IfOk result (λ next. StepsTo s byte halves.new.items next) }
+    ensures err { (s : State) → Shows halves.old.items last s → IfErr result (λ fault. IsStepFault fault (step_of s byte)) }
+{
+    match (byte, last) {
+        (b'0', None) => Ok(Some(Part::Zero)),
+        (b'1', None) => Ok(Some(Part::One)),
+        (b'(', None) => {
             halves.push(Half::Left)?;
-            Ok(false)
+            Ok(None)
         }
-        (b',', true) => match halves.pop() {
+        (b',', Some(part)) => match halves.pop() {
             Some(Half::Left) => {
-                halves.push(Half::Right)?;
-                Ok(false)
+                halves.push(right_of(part))?;
+                Ok(None)
             }
             _ => Err(IdFault::Syntax),
         },
-        (b')', true) => match halves.pop() {
-            Some(Half::Right) => Ok(true),
-            _ => Err(IdFault::Syntax),
+        (b')', Some(part)) => match halves.pop() {
+            Some(half) => match left_of(half) {
+                Some(left) => Ok(Some(pair_of(left, part))),
+                None => Err(IdFault::Syntax),
+            },
+            None => Err(IdFault::Syntax),
         },
         _ => Err(IdFault::Syntax),
     }
 }
 
-// Whether a tree is complete after all of these bytes, where one was `before` them or not.
-fn read_on(
-    marks: &mut Marks,
-    halves: &mut Vec<Half>,
-    before: bool,
-    bytes: &[u8],
-) -> Result<bool, IdFault>
-    ensures ok { (s : State) → Shows marks.old.items halves.old.items before s
-        → IfOk result (λ next. RunsTo s bytes.now marks.new.items halves.new.items next) }
-    ensures err { (s : State) → Shows marks.old.items halves.old.items before s
-        → IfErr result (λ fault. IsStepFault fault (run s bytes.now)) }
-{
-    let mut complete = before;
-    for byte in bytes {
-        complete = step(marks, halves, complete, *byte)?;
-    }
-    Ok(complete)
-}
-
-// The marks of the tree that the bytes spell. Most texts with a fault are cut short or garbled, which a look at all bytes tells;
-// it comes behind a 64th of the steps, so that a text with a fault near its front is not looked over.
-pub fn read(alloc: Global, bytes: &[u8]) -> Result<Marks, IdFault>
-    ensures ok { IfOk result (λ marks. Spells marks.items bytes.now) }
+// What is known of the tree that the bytes spell.
+pub fn read(alloc: Global, bytes: &[u8]) -> Result<Part, IdFault>
+    ensures ok { IfOk result (λ part. Spells part bytes.now) }
     ensures err { IfErr result (λ fault. IsRunFault fault (run start bytes.now)) }
 {
-    let mut marks = SmallVec::new(alloc);
     let mut halves = Vec::new(alloc);
-    let (front, rest) = bytes.split_at(bytes.len() / 64);
-    let begun = read_on(&mut marks, &mut halves, false, front)?;
-    if is_unbalanced(bytes) {
-        return Err(IdFault::Syntax);
+    let mut last = None;
+    for byte in bytes {
+        last = step(&mut halves, last, *byte)?;
     }
-    let complete = read_on(&mut marks, &mut halves, begun, rest)?;
     if halves.len() > 0 {
         return Err(IdFault::Syntax);
     }
-    if !complete {
-        return Err(IdFault::Syntax);
+    match last {
+        Some(part) => Ok(part),
+        None => Err(IdFault::Syntax),
     }
-    Ok(marks)
 }

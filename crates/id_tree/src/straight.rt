@@ -1,7 +1,8 @@
-//! Reads the text of an id in one pass, straight into its marks. Of a text with a fault it only says that it has one.
+//! Reads the text of an id in one pass, straight into its marks. Of a text with a fault it says whether it is no tree's, where that
+//! stops the pass.
 
-ghost use Rattle.std.specs.Prelude.{◌≡◌, ◌∷◌, ◌++◌, IsTrue, IfSome, []};
-ghost use Rattle.id_tree.specs.Taking.{IsTaken, IsWhole};
+ghost use Rattle.std.specs.Prelude.{◌≡◌, ◌∷◌, ◌++◌, MatchOption, IfOk, IfErr, OnOk, []};
+ghost use Rattle.id_tree.specs.Taking.{BeginsNot, IsLeafPut, IsTaken, IsHalt, IsWhole, IsHaltOfWhole};
 ghost use Rattle.id_tree.specs.Taking as taking;
 
 use crate::marks::{Mark, Marks};
@@ -18,31 +19,79 @@ pub struct Taken<'a> {
     pub mark: Mark,
 }
 
+/// Why no id was read: no tree's text stands there, or something else, as that memory is wanting.
+#[derive(Clone, Copy, Drop)]
+pub enum Halt {
+    NoTree,
+    Other,
+}
+
 // What stands behind this byte.
 #[inline(always)]
 fn behind(byte: u8, text: &[u8]) -> Option<&[u8]>
-    ensures { IfSome result (λ rest. text.now ≡ byte ∷ rest.now) }
+    ensures { MatchOption result (BeginsNot byte text.now) (λ rest. text.now ≡ byte ∷ rest.now) }
 {
-    match text {
-        [first, rest @ ..] if *first == byte => Some(rest),
-        _ => None,
+    match text.split_first() {
+        Some((first, rest)) => { if *first == byte { Some(rest) } else { None } }
+        None => None,
     }
 }
 
-// The leaf that stands at the front.
-#[inline(always)]
-fn take_leaf<'a>(text: &'a [u8], levels: u32, out: &mut Marks) -> Option<Taken<'a>>
-    ensures { IfSome result (λ taken. IsTaken levels text.now out.old.items out.new.items taken) }
+// Appends a mark where there is no room for it yet, and makes room for four times as many.
+#[cold]
+#[inline(never)]
+fn put_beyond(out: &mut Marks, mark: Mark) -> Result<(), Halt>
+    ensures ok { OnOk result (out.new.items ≡ out.old.items ++ mark ∷ []) }
+    ensures err { IfErr result (λ halt. halt ≡ Halt.Other) }
 {
-    let (mark, rest) = match text {
-        [b'0', rest @ ..] => (Mark::Zero, rest),
-        [b'1', rest @ ..] => (Mark::One, rest),
-        _ => return None,
+    let Ok(()) = out.reserve(out.len().saturating_mul(3)) else {
+        return Err(Halt::Other);
     };
     let Ok(()) = out.push(mark) else {
-        return None;
+        return Err(Halt::Other);
     };
-    Some(Taken { rest, mark })
+    Ok(())
+}
+
+// Appends a mark.
+#[inline(always)]
+fn put(out: &mut Marks, mark: Mark) -> Result<(), Halt>
+    ensures ok { OnOk result (out.new.items ≡ out.old.items ++ mark ∷ []) }
+    ensures err { IfErr result (λ halt. halt ≡ Halt.Other) }
+{
+    if out.len() == out.capacity() {
+        return put_beyond(out, mark);
+    }
+    out.push_reserved(mark);
+    Ok(())
+}
+
+// A leaf before this text.
+#[inline(always)]
+fn put_leaf<'a>(rest: &'a [u8], mark: Mark, out: &mut Marks) -> Result<Taken<'a>, Halt>
+    ensures ok { IfOk result (λ taken. IsLeafPut rest.now mark out.old.items out.new.items taken) }
+    ensures err { IfErr result (λ halt. halt ≡ Halt.Other) }
+{
+    let Ok(()) = put(out, mark) else {
+        return Err(Halt::Other);
+    };
+    Ok(Taken { rest, mark })
+}
+
+// The leaf that stands at the front, where no pair does.
+#[inline(always)]
+fn take_leaf<'a>(text: &'a [u8], levels: u32, out: &mut Marks) -> Result<Taken<'a>, Halt>
+    requires { BeginsNot 40 text.now }
+    ensures ok { IfOk result (λ taken. IsTaken levels text.now out.old.items out.new.items taken) }
+    ensures err { IfErr result (λ halt. IsHalt halt text.now) }
+{
+    match behind(b'0', text) {
+        Some(rest) => put_leaf(rest, Mark::Zero, out),
+        None => match behind(b'1', text) {
+            Some(rest) => put_leaf(rest, Mark::One, out),
+            None => Err(Halt::NoTree),
+        },
+    }
 }
 
 // Whether both are one leaf.
@@ -59,8 +108,9 @@ fn are_one_leaf(left: Mark, right: Mark) -> bool
 // The id that stands at the front, at most so deep. Half of all marks are leaves, which take no call.
 #[inline(always)]
 #[cycle(take)]
-fn take_id<'a>(text: &'a [u8], levels: u32, out: &mut Marks) -> Option<Taken<'a>>
-    ensures { IfSome result (λ taken. IsTaken levels text.now out.old.items out.new.items taken) }
+fn take_id<'a>(text: &'a [u8], levels: u32, out: &mut Marks) -> Result<Taken<'a>, Halt>
+    ensures ok { IfOk result (λ taken. IsTaken levels text.now out.old.items out.new.items taken) }
+    ensures err { IfErr result (λ halt. IsHalt halt text.now) }
 {
     match behind(b'(', text) {
         Some(inside) => take_pair(inside, levels, out),
@@ -70,49 +120,78 @@ fn take_id<'a>(text: &'a [u8], levels: u32, out: &mut Marks) -> Option<Taken<'a>
 
 // The pair whose bracket stands before this text, at most so deep.
 #[cycle(take)]
-fn take_pair<'a>(inside: &'a [u8], levels: u32, out: &mut Marks) -> Option<Taken<'a>>
-    ensures { IfSome result (λ taken. IsTaken levels (40 ∷ inside.now) out.old.items out.new.items taken) }
+fn take_pair<'a>(inside: &'a [u8], levels: u32, out: &mut Marks) -> Result<Taken<'a>, Halt>
+    ensures ok { IfOk result (λ taken. IsTaken levels (40 ∷ inside.now) out.old.items out.new.items taken) }
+    ensures err { IfErr result (λ halt. IsHalt halt (40 ∷ inside.now)) }
 {
     if levels == 0 {
-        return None;
+        return Err(Halt::Other);
     }
-    let Ok(()) = out.push(Mark::Pair) else {
-        return None;
+    let Ok(()) = put(out, Mark::Pair) else {
+        return Err(Halt::Other);
     };
-    let left = take_id(inside, levels - 1, out)?;
-    let right = take_id(behind(b',', left.rest)?, levels - 1, out)?;
-    let rest = behind(b')', right.rest)?;
+    let left = match take_id(inside, levels - 1, out) {
+        Ok(left) => left,
+        Err(halt) => return Err(halt),
+    };
+    let second = match behind(b',', left.rest) {
+        Some(second) => second,
+        None => return Err(Halt::NoTree),
+    };
+    let right = match take_id(second, levels - 1, out) {
+        Ok(right) => right,
+        Err(halt) => return Err(halt),
+    };
+    let rest = match behind(b')', right.rest) {
+        Some(rest) => rest,
+        None => return Err(Halt::NoTree),
+    };
     if are_one_leaf(left.mark, right.mark) {
-        return None;
+        return Err(Halt::Other);
     }
-    Some(Taken {
+    Ok(Taken {
         rest,
         mark: Mark::Pair,
     })
 }
 
-// Whether the whole text is that of an id, whose marks come then.
-fn take_all(text: &[u8], out: &mut Marks) -> bool
+// The marks of the id that the whole text spells come then.
+fn take_all(text: &[u8], out: &mut Marks) -> Result<(), Halt>
     requires { out.old.items ≡ [] }
-    ensures { IsTrue result → IsWhole text.now out.new.items }
+    ensures ok { OnOk result (IsWhole text.now out.new.items) }
+    ensures err { IfErr result (λ halt. IsHaltOfWhole halt text.now) }
 {
     match take_id(text, MOST_LEVELS, out) {
-        Some(taken) => taken.rest.is_empty(),
-        None => false,
+        Ok(taken) => {
+            if taken.rest.is_empty() {
+                return Ok(());
+            }
+            Err(Halt::NoTree)
+        }
+        Err(halt) => Err(halt),
     }
 }
 
-// The marks of the id that the bytes spell; `None` where they have a fault, or memory is wanting. A text has a byte less than twice as
-// many as marks.
-pub fn read(alloc: Global, text: &[u8]) -> Option<Marks>
-    ensures { IfSome result (λ marks. IsWhole text.now marks.items) }
+// Whether an id may begin so: with a bracket, or with a leaf alone.
+#[inline(always)]
+fn may_begin(text: &[u8]) -> bool {
+    match text {
+        [b'(', ..] | [_] => true,
+        _ => false,
+    }
+}
+
+// The marks of the id that the bytes spell, or why there are none.
+pub fn read(alloc: Global, text: &[u8]) -> Result<Marks, Halt>
+    ensures ok { IfOk result (λ marks. IsWhole text.now marks.items) }
+    ensures err { IfErr result (λ halt. IsHaltOfWhole halt text.now) }
 {
-    let Ok(mut out) = SmallVec::with_capacity(alloc, text.len() / 2 + 1) else {
-        return None;
-    };
-    if take_all(text, &mut out) {
-        Some(out)
-    } else {
-        None
+    if !may_begin(text) {
+        return Err(Halt::Other);
+    }
+    let mut out = SmallVec::new(alloc);
+    match take_all(text, &mut out) {
+        Ok(()) => Ok(out),
+        Err(halt) => Err(halt),
     }
 }

@@ -1,6 +1,12 @@
 use Rattle.std.proofs.Common.{sym, ◌∙◌, eqb-true}
-use Rattle.id_tree.proofs.Takes.{whole}
+use Rattle.id_tree.proofs.Takes.{whole, no_whole, halt_of_whole}
 use Rattle.id_tree.proofs.straight.take_all.Goals as goal
 
-pub returns-in-Some : goal.returns-in-Some
-returns-in-Some c = λ ends. whole c.args.text.now c.args.out.now.items _ c.in-Some.taken c.in-Some.ensures c.requires (eqb-true _ _ (sym c.is_empty.ensures ∙ ends))
+pub returns-then-is_empty-clause-ok : goal.returns-then-is_empty-clause-ok
+returns-then-is_empty-clause-ok c = whole c.args.text.now c.args.out.now.items _ c.in-Ok.taken c.in-Ok.ensures.ok c.requires (eqb-true _ _ (sym c.is_empty.ensures ∙ c.if-is_empty.true))
+
+pub returns-else-is_empty-clause-err : goal.returns-else-is_empty-clause-err
+returns-else-is_empty-clause-err c = no_whole 40 c.args.text.now c.args.out.now.items _ c.in-Ok.taken c.in-Ok.ensures.ok (sym c.is_empty.ensures ∙ c.if-is_empty.false)
+
+pub returns-in-Err-clause-err : goal.returns-in-Err-clause-err
+returns-in-Err-clause-err c = halt_of_whole c.in-Err.halt c.args.text.now c.in-Err.ensures.err

@@ -1,5 +1,5 @@
 -- What the join and the meet of the code are.
-use Rattle.std.proofs.Common.{◌≡◌, ℕ, ◌+◌, ◌-◌, ◌≤◌, max, true, false, [], ◌∷◌, refl, sym, ◌∙◌, arith}
+use Rattle.std.proofs.Common.{◌≡◌, ℕ, ◌+◌, ◌-◌, ◌≤◌, max, true, false, [], ◌∷◌, refl, sym, ap, ◌∙◌, arith}
 use Rattle.id_tree.specs.Points.{Point}
 use Rattle.event_tree.specs.EventTree.{EventTree, Leaf, Node}
 use Rattle.event_tree.specs.Values.{value_at}
@@ -129,3 +129,20 @@ pub combined_leaf : (c : Pick) (x : ℕ) (e : EventTree) (y n : ℕ) → combine
 combined_leaf c x e y n =
     equal_values (combined_from c x e y (Leaf n)) (clipped c (y + n) x e) (IsNormal-combined c x e y (Leaf n)) (IsNormal-clipped c (y + n) x e)
     (λ p. value_at-combined c x e y (Leaf n) p ∙ pick_swapped c (x + value_at e p) (y + n) ∙ sym (value_at-clipped c (y + n) x e p))
+
+-- ---- a join with a leaf at or below the other tree
+
+pub lifted_none : (e : EventTree) → lifted 0 e ≡ e
+lifted_none (Leaf n) = ap Leaf (omega arith)
+lifted_none (Node n a b) = ap (λ (m : ℕ). Node m a b) (omega arith)
+
+raised_none : (k : ℕ) (f : EventTree) → IsNormal f → k ≤ root f → clipped Greater k 0 f ≡ f
+raised_none k f h low = raised_low k 0 f h (omega (arith, low)) ∙ lifted_none f
+
+pub joined_beside : (e f : EventTree) → e ≡ Leaf (root e) → root e ≤ root f → IsNormal f → combined_from Greater 0 e 0 f ≡ f
+joined_beside (Leaf m) f is low h = raised_none (0 + m) f h (omega (arith, low))
+joined_beside (Node m a b) f is low h = absurd cc
+
+pub joined_behind : (e f : EventTree) → f ≡ Leaf (root f) → root f ≤ root e → IsNormal e → combined_from Greater 0 e 0 f ≡ e
+joined_behind e (Leaf n) is low h = combined_leaf Greater 0 e 0 n ∙ raised_none (0 + n) e h (omega (arith, low))
+joined_behind e (Node n a b) is low h = absurd cc

@@ -1,8 +1,10 @@
 //! The join and the meet of two event trees, each in one pass over both. A join goes over all of both, so its room is made first; a meet
 //! passes over what is greater everywhere, however large that is, so its list grows.
 
-ghost use Rattle.std.specs.Prelude.{◌≡◌, ◌+◌, ◌<◌, ◌≤◌, ◌^◌, ◌++◌, length, IfOk, OnOk};
+ghost use Rattle.std.specs.Prelude.{◌≡◌, ◌+◌, ◌<◌, ◌≤◌, ◌^◌, ◌++◌, length, IsTrue, IfOk, OnOk};
+ghost use Rattle.event_tree.specs.EventTree.{Leaf};
 ghost use Rattle.event_tree.specs.NormalForm.{greatest, IsNormal};
+ghost use Rattle.event_tree.specs.Halves.{root};
 ghost use Rattle.event_tree.specs.Entries.{preorder};
 ghost use Rattle.event_tree.specs.Size.{size};
 ghost use Rattle.event_tree.specs.Writing.{IsWritten};
@@ -183,8 +185,8 @@ fn joined_by(
     Ok(Node::of(out))
 }
 
-// The join, in normal form.
-pub fn joined(alloc: Global, e: EventView, f: EventView) -> Result<Node, AllocError>
+// The join, in normal form, by way of room for both.
+fn joined_in_room(alloc: Global, e: EventView, f: EventView) -> Result<Node, AllocError>
     requires e_fits { greatest e < 2 ^ 32 }
     requires e_normal { IsNormal e }
     requires f_fits { greatest f < 2 ^ 32 }
@@ -202,6 +204,42 @@ pub fn joined(alloc: Global, e: EventView, f: EventView) -> Result<Node, AllocEr
     room.extend_from_slice(entries)?;
     room.extend_from_slice(others)?;
     joined_by(alloc, room.as_mut_slice(), e, f)
+}
+
+// Whether `e` is a leaf at or below `f` everywhere: the least value of that, in normal form, stands at its root.
+#[inline(always)]
+fn is_leaf_below(e: &EventView, f: &EventView) -> bool
+    ensures { IsTrue result → ((e.now ≡ Leaf (root e.now)) × (root e.now ≤ root f.now)) }
+{
+    match e.leaf() {
+        Some(n) => n <= f.root(),
+        None => false,
+    }
+}
+
+// The same tree once more.
+fn copied(alloc: Global, e: EventView) -> Result<Node, AllocError>
+    ensures { IfOk result (λ node. node ≡ e.entry) }
+{
+    let out = entries::copied(alloc, e.entries())?;
+    Ok(Node::of(out))
+}
+
+// The join, in normal form. A leaf at or below the other tree changes nothing of that.
+pub fn joined(alloc: Global, e: EventView, f: EventView) -> Result<Node, AllocError>
+    requires e_fits { greatest e < 2 ^ 32 }
+    requires e_normal { IsNormal e }
+    requires f_fits { greatest f < 2 ^ 32 }
+    requires f_normal { IsNormal f }
+    ensures { IfOk result (λ node. node ≡ walks.combined_from Pick.Greater 0 e.entry 0 f.entry) }
+{
+    if is_leaf_below(&e, &f) {
+        return copied(alloc, f);
+    }
+    if is_leaf_below(&f, &e) {
+        return copied(alloc, e);
+    }
+    joined_in_room(alloc, e, f)
 }
 
 // ---- the meet

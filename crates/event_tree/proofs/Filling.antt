@@ -1,5 +1,5 @@
 -- A node whose halves were filled, in the order of the walk.
-use Rattle.std.proofs.Common.{◌≡◌, ℕ, ◌+◌, ◌≤◌, ◌<◌, max, List, ◌∷◌, ◌++◌, refl, ap, ◌∙◌, arith}
+use Rattle.std.proofs.Common.{◌≡◌, ◌↔◌, ℕ, Bool, true, IsTrue, [], ◌+◌, ◌≤◌, ◌<◌, max, List, ◌∷◌, ◌++◌, length, take, get_or, refl, sym, ap, subst, ◌∙◌, arith, append_assoc, append-nil, length-append}
 use Rattle.id_tree.specs.IdTree.{IdTree, Zero, One, Pair}
 use Rattle.id_tree.specs.NormalForm.{IsNormal as IsNormalId}
 use Rattle.event_tree.specs.EventTree.{EventTree, Leaf, Node}
@@ -7,13 +7,22 @@ use Rattle.event_tree.specs.NormalForm.{least, greatest, IsNormal}
 use Rattle.event_tree.specs.Halves.{root}
 use Rattle.event_tree.specs.Norm.{normal_node}
 use Rattle.event_tree.specs.Size.{size}
-use Rattle.event_tree.specs.Entries.{preorder}
-use Rattle.event_tree.specs.Walks.{filled, filled_node, left_raised, right_raised, AreFilled}
+use Rattle.event_tree.specs.Entries.{entry, blank, preorder}
+use Rattle.event_tree.specs.Writing.{IsWritten}
+use Rattle.event_tree.specs.Walks.{filled, filled_node, left_raised, right_raised, AreFilled, IsFilled}
+use Rattle.event_tree.specs.Filled.{IsHere, IsMade, AreMade, Tells}
+use Rattle.event_tree.specs.declared.event.Look.{Look}
+use Rattle.event_tree.specs.declared.event.Look.TheVariants.{Kept, Changed}
+use Rattle.event_tree.specs.declared.event.FilledEnd.{FilledEnd}
 use Rattle.event_tree.specs.declared.entries.Entry.{Entry}
+use Rattle.std.specs.List.{refill}
+use Rattle.std.proofs.Math.Seq.{take-append_seam}
+use Rattle.event_tree.proofs.Preorder.{length_preorder, some_size}
 use Rattle.event_tree.proofs.Trees.{root_least, least_le_greatest}
 use Rattle.event_tree.proofs.Normal.{norm-normal, root_le_greatest}
-use Rattle.event_tree.proofs.Fills.{topped, filled_node-topped, IsNormal-filled, greatest_filled}
+use Rattle.event_tree.proofs.Fills.{topped, filled_node-topped, IsNormal-filled, greatest_filled, kept_inside}
 use Rattle.event_tree.proofs.Closed.{HalvesAt}
+use Rattle.event_tree.proofs.Places.{written_both, EndsInNode, refilled}
 
 owned_leaf : (i : IdTree) (e : EventTree) → i ≡ One → filled i e ≡ Leaf (greatest (filled i e))
 owned_leaf i e h = rw h refl
@@ -93,3 +102,161 @@ filled_kept l r n a b hi he above beside sa sb =
     ∙ ap (λ t. normal_node n t (topped r b (least a))) ta
     ∙ ap (λ t. normal_node n a t) tb
     ∙ normal_node-kept n a b he
+
+-- ---- a node that was filled, as it is written
+
+pub raised_closed : (old one both raised new : List Entry) (start middle stop end n : ℕ) (l r : IdTree) (a b : EventTree) → start < length old → IsWritten old one (start + 1) middle a → IsWritten one both middle stop b
+    → AreFilled l r a b → length raised ≡ length both → take stop raised ≡ take start old ++ get_or old start blank ∷ (preorder (left_raised l r a b) ++ preorder (right_raised l r a b))
+    → length new ≡ length raised
+    → ((front : List Entry) (e : Entry) (c d : EventTree) → length front ≡ start → middle ≡ start + 1 + size c → take stop raised ≡ front ++ e ∷ (preorder c ++ preorder d) → EndsInNode new front (normal_node n c d) end stop)
+    → IsWritten old new start end (filled_node l r n a b) × (end ≤ stop)
+raised_closed old one both raised new start middle stop end n l r a b lt w v f along is long closed =
+    let h = written_both old one both start middle stop a b lt w v in
+    let g = halves_raised (take stop both) (take stop raised) _ _ l r a b start middle h f is in
+    let there = closed (take start old) (get_or old start blank) (left_raised l r a b) (right_raised l r a b) g.begins g.halved g.are in (
+      record {
+        as_long = long ∙ along ∙ v.as_long ∙ w.as_long;
+        within = omega (arith, there.0, v.within, w.as_long);
+        are = there.1 ∙ ap (λ (t : EventTree). take start old ++ preorder t) (filled_is l r n a b);
+      },
+      there.0,
+    )
+
+-- ---- what filling leaves as it is, level by level
+
+pub nothing_kept : (k : ℕ) (e : EventTree) → IsFilled k Zero e
+nothing_kept k e = record { kept = refl; above = λ o. absurd cc }
+
+pub leaf_kept : (l r : IdTree) (k n : ℕ) → IsFilled k (Pair l r) (Leaf n)
+leaf_kept l r k n = record { kept = refl; above = λ o. absurd cc }
+
+pub whole_kept : (k n : ℕ) → (k ≤ n) ↔ IsFilled k One (Leaf n)
+whole_kept k n = (λ low. record { kept = refl; above = λ o. low }, λ h. h.above refl)
+
+pub whole_node : (k n : ℕ) (a b : EventTree) → ¬ IsFilled k One (Node n a b)
+whole_node k n a b h = let same = h.kept in absurd cc
+
+pub halves_kept : (l r : IdTree) (k n : ℕ) (a b : EventTree) → IsNormalId (Pair l r) → IsNormal (Node n a b) → IsFilled (root b) l a → IsFilled (root a) r b → IsFilled k (Pair l r) (Node n a b)
+halves_kept l r k n a b hi he x y = record { kept = filled_kept l r n a b hi he x.above y.above x.kept y.kept; above = λ o. absurd cc }
+
+-- and the halves of what it leaves
+pub kept_halves : (l r : IdTree) (k n : ℕ) (a b : EventTree) → IsNormalId (Pair l r) → IsNormal (Node n a b) → IsFilled k (Pair l r) (Node n a b) → IsFilled (root b) l a × IsFilled (root a) r b
+kept_halves l r k n a b hi he h =
+    let inside = kept_inside l r n a b hi he h.kept in
+    let ra = root_least a he.0 in
+    let rb = root_least b he.1 in
+    (record { kept = inside.left_same; above = λ o. omega (arith, ra, rb, inside.left_above o) }, record { kept = inside.right_same; above = λ o. omega (arith, ra, rb, inside.right_above o) })
+
+pub halves_told : (i : IdTree) (e : EventTree) (l r : IdTree) (k n x y : ℕ) (a b : EventTree) → IsNormalId i → IsNormal e → i ≡ Pair l r → e ≡ Node n a b → x ≡ root b → y ≡ root a → (IsFilled x l a × IsFilled y r b) ↔ IsFilled k i e
+halves_told i e l r k n x y a b hi he id_is tree_is first second =
+    let hp : IsNormalId (Pair l r) = rw id_is at hi in
+    let hn : IsNormal (Node n a b) = rw tree_is at he in
+    rw (first, second, id_is, tree_is) (λ p. halves_kept l r k n a b hp hn p.0 p.1, λ h. kept_halves l r k n a b hp hn h)
+
+-- ---- what was made, in a copy or in room for it
+
+abbrev pub are_made : (n start : ℕ) (one other : FilledEnd) (old between now : List Entry) (l r : IdTree) (a b : EventTree) → IsNormalId (Pair l r) → IsNormal (Node n a b) → greatest (Node n a b) < 4294967296 → start + size (Node n a b) ≤ length old
+    → IsMade l a old between (start + 1) one → IsMade r b between now one.stop other → AreMade n start one other now
+are_made n start one other old between now l r a b hi he f room x y = record {
+  old = old;
+  between = between;
+  l = l;
+  r = r;
+  a = a;
+  b = b;
+  id_normal = hi;
+  tree_normal = he;
+  fits = f;
+  room = room;
+  first_made = x;
+  second_made = y;
+}
+
+-- a leaf in place of what is owned whole
+pub made_whole : (e : EventTree) (old new : List Entry) (start stop g : ℕ) → g ≡ greatest e → IsWritten old new start stop (Leaf g) → stop ≡ start + 1 → IsMade One e old new start (record { stop = stop; whole = true })
+made_whole e old new start stop g most w next = record { written = rw most at w; next = omega (arith, next, some_size e); whole = (λ t. refl, λ o. refl) }
+
+-- where the halves of a part stand
+pub here_first : (es : List Entry) (start n : ℕ) (a b : EventTree) → IsHere es start (Node n a b) → IsHere es (start + 1) a
+here_first es start n a b h =
+    let own = entry n (size a + size b + 1) in
+    record {
+      front = h.front ++ own ∷ [];
+      rest = preorder b ++ h.rest;
+      begins = length-append h.front (own ∷ []) ∙ ap (λ (k : ℕ). k + 1) h.begins;
+      are = h.are ∙ ap (λ (xs : List Entry). h.front ++ own ∷ xs) (append_assoc (preorder a) (preorder b) h.rest) ∙ sym (append_assoc h.front (own ∷ []) (preorder a ++ (preorder b ++ h.rest)));
+    }
+
+here_behind : (es : List Entry) (start n : ℕ) (a b : EventTree) → IsHere es start (Node n a b) → IsHere es (start + 1 + size a) b
+unfolding here_first
+here_behind es start n a b h =
+    let f = here_first es start n a b h in
+    record {
+      front = f.front ++ preorder a;
+      rest = h.rest;
+      begins = omega (arith, length-append f.front (preorder a), length_preorder a, f.begins);
+      are = f.are ∙ sym (append_assoc f.front (preorder a) (preorder b ++ h.rest));
+    }
+
+pub here_left : (es : List Entry) (start n : ℕ) (e a b : EventTree) → IsHere es start e → e ≡ Node n a b → IsHere es (start + 1) a
+here_left es start n e a b h is = here_first es start n a b (rw is at h)
+
+pub here_right : (es : List Entry) (start n m : ℕ) (e a b : EventTree) → IsHere es start e → e ≡ Node n a b → m ≡ size a → IsHere es (start + 1 + m) b
+here_right es start n m e a b h is long = rw long (here_behind es start n a b (rw is at h))
+
+-- the whole of it
+pub here_whole : (e : EventTree) → IsHere (preorder e) 0 e
+here_whole e = record { front = []; rest = []; begins = refl; are = sym (append-nil (preorder e)) }
+
+pub here_within : (es : List Entry) (start : ℕ) (e : EventTree) → IsHere es start e → start + size e ≤ length es
+here_within es start e h = omega (arith, ap length h.are, length-append h.front (preorder e ++ h.rest), length-append (preorder e) h.rest, length_preorder e, h.begins)
+
+-- what stays as it is stands written there
+pub here_written : (es : List Entry) (start : ℕ) (e : EventTree) → IsHere es start e → IsWritten es es start (start + size e) e
+here_written es start e h =
+    let before = h.front ++ preorder e in
+    let long : start + size e ≡ length before = omega (arith, length-append h.front (preorder e), length_preorder e, h.begins) in
+    let parted : es ≡ before ++ h.rest = h.are ∙ sym (append_assoc h.front (preorder e) h.rest) in
+    let first : take start es ≡ h.front = ap (λ (k : ℕ). take k es) (sym h.begins) ∙ ap (take (length h.front)) h.are ∙ take-append_seam h.front (preorder e ++ h.rest) in
+    record {
+      as_long = refl;
+      within = here_within es start e h;
+      are = ap (λ (k : ℕ). take k es) long ∙ ap (take (length before)) parted ∙ take-append_seam before h.rest ∙ ap (λ (xs : List Entry). xs ++ preorder e) (sym first);
+    }
+
+-- a half that filling leaves as it is was made where it stands
+pub kept_made : (k : ℕ) (i : IdTree) (e : EventTree) (es : List Entry) (start stop : ℕ) (whole : Bool) → IsHere es start e → IsFilled k i e → IsTrue whole ↔ (i ≡ One) → stop ≡ start + size e → IsMade i e es es start (record { stop = stop; whole = whole })
+kept_made k i e es start stop whole h f w next = record {
+  written = rw (next, f.kept) (here_written es start e h);
+  next = omega (arith, next);
+  whole = w;
+}
+
+-- what a look tells
+pub changed_of : (k : ℕ) (i : IdTree) (e : EventTree) (old new : List Entry) (start : ℕ) (look : Look) (end : FilledEnd) → Tells k i e old new start look → look ≡ Changed end → (¬ IsFilled k i e) × IsMade i e old new start end
+changed_of k i e old new start look end told is = rw is at told
+
+pub kept_of : (k : ℕ) (i : IdTree) (e : EventTree) (old new : List Entry) (start : ℕ) (look : Look) (whole : Bool) → Tells k i e old new start look → look ≡ Kept whole → IsFilled k i e × (IsTrue whole ↔ (i ≡ One))
+kept_of k i e old new start look whole told is = rw is at told
+
+-- behind a half that was made there is room for the other one
+pub room_behind : (i : IdTree) (e a b : EventTree) (old new : List Entry) (start n : ℕ) (end : FilledEnd) → IsHere old start e → e ≡ Node n a b → IsMade i a old new (start + 1) end → end.stop + size b ≤ length new
+room_behind i e a b old new start n end h is m = omega (arith, here_within old start e h, ap size is, m.next, m.written.as_long)
+
+-- what was made by way of a slice
+pub made_in_copy : (i : IdTree) (e : EventTree) (items slice new : List Entry) (start : ℕ) (end : FilledEnd) → slice ≡ items → IsMade i e slice new start end → IsMade i e items (refill (length items) items new) start end
+made_in_copy i e items slice new start end lent m = rw (refilled items slice new lent m.written.as_long) (rw lent at m)
+
+pub closed_in_copy : (n start : ℕ) (one other end : FilledEnd) (items slice new : List Entry) → slice ≡ items → ((h : AreMade n start one other slice) → IsMade (Pair h.l h.r) (Node n h.a h.b) h.old new start end)
+    → (h : AreMade n start one other items) → IsMade (Pair h.l h.r) (Node n h.a h.b) h.old (refill (length items) items new) start end
+closed_in_copy n start one other end items slice new lent f h =
+    let m = (rw lent at f) h in
+    let long : length new ≡ length slice = omega (arith, m.written.as_long, h.second_made.written.as_long, h.first_made.written.as_long, ap length lent) in
+    rw (refilled items slice new lent long) m
+
+-- the first leaf, in the copy that was made for it
+pub begun : (e : EventTree) (tree items slice new : List Entry) (start stop g : ℕ) → items ≡ tree → slice ≡ items → g ≡ greatest e → IsWritten slice new start stop (Leaf g) → stop ≡ start + 1
+    → IsMade One e tree (refill (length items) items new) start (record { stop = stop; whole = true })
+begun e tree items slice new start stop g copied lent most w next =
+    subst (λ (es : List Entry). IsMade One e es (refill (length items) items new) start (record { stop = stop; whole = true })) copied
+    (made_in_copy One e items slice new start (record { stop = stop; whole = true }) lent (made_whole e slice new start stop g most w next))

@@ -1,6 +1,5 @@
 -- An id that owns one part alone, at which the tree has a leaf: filling leaves the tree as it is, and growth raises that leaf.
-use Rattle.std.proofs.Common.{◌≡◌, ◌≢◌, ◌↔◌, ℕ, ◌+◌, ◌≤◌, ◌<◌, max, Bool, true, false, List, [], ◌∷◌, ◌++◌, length, set, Option, Some, None, refl, sym, ap, ◌∙◌, arith, append_assoc, length-append, length-set}
-use Rattle.std.specs.Prelude.{MatchOption}
+use Rattle.std.proofs.Common.{◌≡◌, ◌≢◌, ◌↔◌, ℕ, ◌+◌, ◌≤◌, ◌<◌, max, Bool, true, false, List, [], ◌∷◌, ◌++◌, length, set, refl, sym, ap, ◌∙◌, arith, append_assoc, length-append, length-set}
 use Rattle.std.specs.List.{refill}
 use Rattle.id_tree.specs.IdTree.{IdTree, Zero, One, Pair}
 use Rattle.id_tree.specs.Points.{Point}
@@ -12,15 +11,17 @@ use Rattle.event_tree.specs.Halves.{root, left, right}
 use Rattle.event_tree.specs.Size.{size}
 use Rattle.event_tree.specs.Entries.{entry, preorder}
 use Rattle.event_tree.specs.Event.{Cost, cost, grow, grows_left}
-use Rattle.event_tree.specs.Walks.{filled}
+use Rattle.event_tree.specs.Walks.{filled, IsFilled}
 use Rattle.event_tree.specs.Beside.{half_of, part_at, base_at}
-use Rattle.event_tree.specs.OwnLeaf.{other_of, before, place_at, EndsAtLeaf, IsBelow, IsEndOf, IsOwnLeaf}
+use Rattle.event_tree.specs.OwnLeaf.{other_of, before, place_at, EndsAtLeaf, EndsAbove, EndsLow, IsBelow, IsEndOf, IsOwnLeaf, IsThere, IsOwnPart}
+use Rattle.event_tree.specs.declared.own_leaf.Found.{Found}
+use Rattle.event_tree.specs.declared.own_leaf.Found.TheVariants.{Own, Above, Low}
 use Rattle.event_tree.specs.declared.own_leaf.OwnLeaf.{OwnLeaf}
 use Rattle.event_tree.specs.declared.own_leaf.Below.{Below}
 use Rattle.event_tree.specs.declared.entries.Entry.{Entry}
 use Rattle.event_tree.proofs.Preorder.{length_preorder}
 use Rattle.event_tree.proofs.Places.{refilled}
-use Rattle.event_tree.proofs.Filling.{filled_kept}
+use Rattle.event_tree.proofs.Filling.{filled_kept, kept_halves, whole_node}
 use Rattle.event_tree.proofs.Closed.{written}
 
 -- ---- the walk down
@@ -28,6 +29,8 @@ use Rattle.event_tree.proofs.Closed.{written}
 -- what is left of the way leads from this part where the whole leads from the tree
 pub record IsOnTheWay (way : Point) (e : EventTree) (rest : Point) (part : EventTree) (at base beside : ℕ) : Type 0 where
   pub ends : EndsAtLeaf beside rest part ↔ EndsAtLeaf 0 way e
+  pub ends_above : EndsAbove rest part → EndsAbove way e
+  pub ends_low : EndsLow beside rest part → EndsLow 0 way e
   pub place : at + place_at rest part ≡ place_at way e
   pub above : base_at rest base part ≡ base_at way 0 e
   pub there : part_at rest part ≡ part_at way e
@@ -35,7 +38,7 @@ pub record IsOnTheWay (way : Point) (e : EventTree) (rest : Point) (part : Event
   pub within : at + size part ≤ size e
 
 pub at_the_top : (way : Point) (e : EventTree) → greatest e < 4294967296 → IsOnTheWay way e way e 0 0 0
-at_the_top way e small = record { ends = (λ h. h, λ h. h); place = omega arith; above = refl; there = refl; small = omega (arith, small); within = omega arith }
+at_the_top way e small = record { ends = (λ h. h, λ h. h); ends_above = λ h. h; ends_low = λ h. h; place = omega arith; above = refl; there = refl; small = omega (arith, small); within = omega arith }
 
 half_within : (turn : Bool) (n : ℕ) (a b : EventTree) → (n + greatest (half_of turn (Node n a b)) ≤ greatest (Node n a b)) × (before turn (Node n a b) + size (half_of turn (Node n a b)) ≤ size (Node n a b))
 half_within false n a b = (omega arith, omega arith)
@@ -57,12 +60,26 @@ farther way e rest behind turn part at base beside b turns h on =
         let on_node : IsOnTheWay way e (turn ∷ behind) (Node n l r) at base beside = rw (turns, is) at on in
         rw (half_is, base_is, before_is, beside_is) (record {
           ends = on_node.ends;
+          ends_above = on_node.ends_above;
+          ends_low = on_node.ends_low;
           place = omega (arith, on_node.place);
           above = on_node.above;
           there = on_node.there;
           small = omega (arith, on_node.small, size_is.0);
           within = omega (arith, on_node.within, size_is.1);
         })
+
+-- a leaf that the way goes on below, and what is no leaf of its own at the end
+
+pub on_above : (way : Point) (e : EventTree) (rest behind : Point) (turn : Bool) (part : EventTree) (at base beside : ℕ) → rest ≡ turn ∷ behind → part ≡ Leaf (root part) → IsOnTheWay way e rest part at base beside → EndsAbove way e
+on_above way e rest behind turn (Leaf n) at base beside turns leaf on = let h = rw turns at on in h.ends_above tt
+on_above way e rest behind turn (Node n a b) at base beside turns leaf on = absurd cc
+
+pub on_low_leaf : (way : Point) (e : EventTree) (rest : Point) (part : EventTree) (at base beside own : ℕ) → rest ≡ [] → part ≡ Leaf own → own < beside → IsOnTheWay way e rest part at base beside → EndsLow 0 way e
+on_low_leaf way e rest part at base beside own ended leaf low on = let h = rw (ended, leaf) at on in h.ends_low (omega (arith, low))
+
+pub on_low_node : (way : Point) (e : EventTree) (rest : Point) (part : EventTree) (at base beside n : ℕ) (a b : EventTree) → rest ≡ [] → part ≡ Node n a b → IsOnTheWay way e rest part at base beside → EndsLow 0 way e
+on_low_node way e rest part at base beside n a b ended node on = let h = rw (ended, node) at on in h.ends_low tt
 
 -- ---- growth there
 
@@ -211,28 +228,38 @@ raised_there i e seen leaf items entries slice new own view are copied lent put 
           ∙ h.written_is,
     )
 
--- ---- the leaf that is found, or none
+-- ---- what the id owns alone
 
--- a way owns something
-owns_something : (p : Point) → id_of_way p ≢ Zero
-owns_something [] = λ e. cc
-owns_something (false ∷ p) = λ e. cc
-owns_something (true ∷ p) = λ e. cc
+-- below a leaf nothing fills
+none_above : (p : Point) (e : EventTree) → EndsAbove p e → id_of_way p ≢ One
+none_above [] e h = absurd h
+none_above (false ∷ p) e h = λ o. cc
+none_above (true ∷ p) e h = λ o. cc
 
--- an id has one way
-same_way : (p q : Point) → id_of_way p ≡ id_of_way q → p ≡ q
-same_way [] [] h = refl
-same_way [] (false ∷ q) h = absurd cc
-same_way [] (true ∷ q) h = absurd cc
-same_way (false ∷ p) [] h = absurd cc
-same_way (true ∷ p) [] h = absurd cc
-same_way (false ∷ p) (false ∷ q) h = ap (λ (r : Point). false ∷ r) (same_way p q cc)
-same_way (false ∷ p) (true ∷ q) h = let none : id_of_way p ≡ Zero = cc in absurd (owns_something p none)
-same_way (true ∷ p) (false ∷ q) h = let none : id_of_way q ≡ Zero = cc in absurd (owns_something q none)
-same_way (true ∷ p) (true ∷ q) h = ap (λ (r : Point). true ∷ r) (same_way p q cc)
+filled_above : (p : Point) (e : EventTree) → IsNormalId (id_of_way p) → IsNormal e → EndsAbove p e → filled (id_of_way p) e ≡ e
+filled_above [] e hi he h = absurd h
+filled_above (false ∷ p) (Leaf n) hi he h = refl
+filled_above (true ∷ p) (Leaf n) hi he h = refl
+filled_above (false ∷ p) (Node n a b) hi he h =
+    filled_kept (id_of_way p) Zero n a b hi he (λ o. absurd (none_above p a h o)) (λ o. absurd cc) (filled_above p a hi.0 he.0 h) refl
+filled_above (true ∷ p) (Node n a b) hi he h =
+    filled_kept Zero (id_of_way p) n a b hi he (λ o. absurd cc) (λ o. absurd (none_above p b h o)) refl (filled_above p b hi.1 he.1 h)
 
--- what stands at the end of that way is what the id owns alone
-pub owned_alone : (i : IdTree) (e : EventTree) (p : Point) (found : Option OwnLeaf) → i ≡ id_of_way p → MatchOption found (¬ EndsAtLeaf 0 p e) (λ leaf. IsEndOf p e leaf)
-    → MatchOption found ((leaf : OwnLeaf) → ¬ IsOwnLeaf i e leaf) (λ leaf. IsOwnLeaf i e leaf)
-owned_alone i e p None alone none = λ leaf h. none (rw (same_way h.way p (sym h.alone ∙ alone)) at h.end_of.ends)
-owned_alone i e p (Some leaf) alone h = record { way = p; alone = alone; end_of = h }
+-- and what is low there does
+low_fills : (k : ℕ) (p : Point) (e : EventTree) → IsNormalId (id_of_way p) → IsNormal e → EndsLow k p e → ¬ IsFilled k (id_of_way p) e
+low_fills k [] (Leaf n) hi he h f = absurd (omega (arith, h, f.above refl))
+low_fills k [] (Node n a b) hi he h f = whole_node k n a b f
+low_fills k (turn ∷ p) (Leaf n) hi he h f = absurd h
+low_fills k (false ∷ p) (Node n a b) hi he h f = low_fills (root b) p a hi.0 he.0 h (kept_halves (id_of_way p) Zero k n a b hi he f).0
+low_fills k (true ∷ p) (Node n a b) hi he h f = low_fills (root a) p b hi.1 he.1 h (kept_halves Zero (id_of_way p) k n a b hi he f).1
+
+pub own_leaf_found : (i : IdTree) (e : EventTree) (f : Found) (leaf : OwnLeaf) → IsOwnPart i e f → f ≡ Own leaf → IsOwnLeaf i e leaf
+own_leaf_found i e f leaf h is = let there : IsThere h.way e (Own leaf) = rw is at h.there in record { way = h.way; alone = h.alone; end_of = there }
+
+pub above_found : (i : IdTree) (e : EventTree) (f : Found) → IsNormalId i → IsNormal e → IsOwnPart i e f → f ≡ Above → filled i e ≡ e
+above_found i e f hi he h is = let there : IsThere h.way e Above = rw is at h.there in rw h.alone (filled_above h.way e (rw h.alone at hi) he there)
+
+pub low_found : (i : IdTree) (e : EventTree) (f : Found) → IsNormalId i → IsNormal e → IsOwnPart i e f → f ≡ Low → filled i e ≢ e
+low_found i e f hi he h is =
+    let there : IsThere h.way e Low = rw is at h.there in
+    λ same. low_fills 0 h.way e (rw h.alone at hi) he there (record { kept = rw h.alone at same; above = λ o. omega arith })

@@ -1,19 +1,21 @@
 -- Trees that are written into a list of entries, in place of those that stood there.
-use Rattle.std.proofs.Common.{◌≡◌, ◌≢◌, ℕ, ◌+◌, ◌-◌, ◌≤◌, ◌<◌, min, List, [], ◌∷◌, ◌++◌, length, take, drop, get_or, set, refl, sym, ap, ◌∙◌, arith, append_assoc, length-append, length-set, take-take}
+use Rattle.std.proofs.Common.{◌≡◌, ◌≢◌, ℕ, ◌+◌, ◌-◌, ◌≤◌, ◌<◌, min, max, List, [], ◌∷◌, ◌++◌, length, take, drop, get_or, set, refl, sym, ap, ◌∙◌, arith, append_assoc, length-append, length-set, take-take}
 use Rattle.std.proofs.lemmas.List.{take_more, take_more_set, get_or-take, length-take-le, take_all, take_at}
 use Rattle.std.specs.List.{refill}
 use Rattle.std.specs.Prelude.{Result, Ok, Err, IfOk}
 use Rattle.std.proofs.lemmas.Grind.{take-set_at}
 use Rattle.std.proofs.Math.Seq.{take-set-lt, take-append_seam}
+use Rattle.id_tree.specs.IdTree.{IdTree, One}
 use Rattle.event_tree.specs.EventTree.{EventTree, Leaf, Node}
 use Rattle.event_tree.specs.Halves.{root}
 use Rattle.event_tree.specs.Norm.{lifted, normal_node}
 use Rattle.event_tree.specs.Size.{size}
 use Rattle.event_tree.specs.Entries.{entry, blank, preorder, EndsInHalves}
 use Rattle.event_tree.specs.Writing.{IsWritten}
+use Rattle.event_tree.specs.Walks.{AreFilled}
 use Rattle.event_tree.specs.declared.entries.Entry.{Entry}
 use Rattle.event_tree.proofs.Preorder.{below, preorder_root, preorder_lifted, length_preorder, some_size}
-use Rattle.event_tree.proofs.Closed.{HalvesAt, Read, AreLeaves, middle_within, halves_here, closes, node_closed, pushed_leaves, written}
+use Rattle.event_tree.proofs.Closed.{HalvesAt, Read, AreLeaves, AreRaised, raises_left, raises_right, middle_within, halves_here, closes, node_closed, pushed_leaves, written}
 
 pub leaf_written : (old new : List Entry) (start stop n : ℕ) → start < length old → new ≡ set old start (entry n 1) → stop ≡ start + 1 → IsWritten old new start stop (Leaf n)
 leaf_written old new start stop n lt is next =
@@ -135,6 +137,40 @@ put_closed out new front e one other a b n k size_here start middle stop h r unl
           ∙ ap (λ (es : List Entry). set es start (entry (n + k) size_here))
           (take-set-lt stop (set out (start + 1) x) middle y other_lt ∙ ap (λ (es : List Entry). set es middle y) (take-set-lt stop out (start + 1) x one_lt))),
     )
+
+pub halves_within : (old one both : List Entry) (start middle stop : ℕ) (a b : EventTree) → start < length old → IsWritten old one (start + 1) middle a → IsWritten one both middle stop b
+    → (start + 1 < middle) × (middle < stop) × (stop ≤ length both)
+halves_within old one both start middle stop a b lt w v =
+    let h = written_both old one both start middle stop a b lt w v in
+    let within : stop ≤ length both = omega (arith, v.within, v.as_long) in
+    let places = middle_within _ _ _ _ _ _ _ h in
+    let long = length-take-le stop both within in
+    (omega (arith, h.halved, some_size a), omega (arith, places, long), within)
+
+-- ---- a half that is raised
+
+raised_read : (out front : List Entry) (e one other : Entry) (a b : EventTree) (start middle stop : ℕ) → start + 1 < middle → middle < stop → stop ≤ length out
+    → one ≡ get_or out (start + 1) blank → other ≡ get_or out middle blank → Read (take stop out) start middle one other
+raised_read out front e one other a b start middle stop begins inside within x y = record {
+  one_read = x ∙ sym (get_or-take stop out (start + 1) blank (omega (arith, begins, inside, within, length-take-le stop out within)));
+  other_read = y ∙ sym (get_or-take stop out middle blank (omega (arith, begins, inside, within, length-take-le stop out within)));
+}
+
+pub raised_at_left : (out new front : List Entry) (e one other : Entry) (l r : IdTree) (a b : EventTree) (start middle stop value : ℕ) → start + 1 < middle → middle < stop → stop ≤ length out
+    → HalvesAt (take stop out) front e a b start middle → one ≡ get_or out (start + 1) blank → other ≡ get_or out middle blank → AreFilled l r a b
+    → l ≡ One → value ≡ max one.value other.value → new ≡ set out (start + 1) (entry value 1) → AreRaised (take stop new) front e l r a b
+raised_at_left out new front e one other l r a b start middle stop value begins inside within h x y f owned v is =
+    raises_left (take stop out) (take stop new) front e one other l r a b start middle value h
+    (raised_read out front e one other a b start middle stop begins inside within x y)
+    f owned v (ap (take stop) is ∙ take-set-lt stop out (start + 1) (entry value 1) (omega (arith, begins, inside)))
+
+pub raised_at_right : (out new front : List Entry) (e one other : Entry) (l r : IdTree) (a b : EventTree) (start middle stop value : ℕ) → start + 1 < middle → middle < stop → stop ≤ length out
+    → HalvesAt (take stop out) front e a b start middle → one ≡ get_or out (start + 1) blank → other ≡ get_or out middle blank → AreFilled l r a b
+    → l ≢ One → r ≡ One → value ≡ max one.value other.value → new ≡ set out middle (entry value 1) → AreRaised (take stop new) front e l r a b
+raised_at_right out new front e one other l r a b start middle stop value begins inside within h x y f other_id owned v is =
+    raises_right (take stop out) (take stop new) front e one other l r a b start middle value h
+    (raised_read out front e one other a b start middle stop begins inside within x y)
+    f other_id owned v (ap (take stop) is ∙ take-set-lt stop out middle (entry value 1) inside)
 
 -- ---- the whole list, as a slice
 

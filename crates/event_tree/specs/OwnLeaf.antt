@@ -1,5 +1,5 @@
 -- Working definitions: an id that owns one part alone, at which the tree has a leaf.
-use Rattle.std.specs.Prelude.{◌≡◌, ◌≤◌, ◌+◌, ℕ, Bool, true, false, [], ◌∷◌}
+use Rattle.std.specs.Prelude.{◌≡◌, ◌≤◌, ◌<◌, ◌+◌, ℕ, Bool, true, false, [], ◌∷◌, ⊤}
 use Rattle.id_tree.specs.IdTree.{IdTree}
 use Rattle.id_tree.specs.Points.{Point}
 use Rattle.id_tree.specs.OneWay.{id_of_way}
@@ -9,6 +9,8 @@ use Rattle.event_tree.specs.Size.{size}
 use Rattle.event_tree.specs.Beside.{half_of, part_at, base_at}
 use Rattle.event_tree.specs.declared.own_leaf.OwnLeaf.{OwnLeaf}
 use Rattle.event_tree.specs.declared.own_leaf.Below.{Below}
+use Rattle.event_tree.specs.declared.own_leaf.Found.{Found}
+use Rattle.event_tree.specs.declared.own_leaf.Found.TheVariants.{Own, Above, Low}
 
 -- the half beside the one that a turn leads to, and how many entries stand before that one
 abbrev pub other_of : Bool → EventTree → EventTree
@@ -32,6 +34,20 @@ EndsAtLeaf k [] (Node n a b) = ⊥
 EndsAtLeaf k (turn ∷ p) (Leaf n) = ⊥
 EndsAtLeaf k (turn ∷ p) (Node n a b) = EndsAtLeaf (root (other_of turn (Node n a b))) p (half_of turn (Node n a b))
 
+-- the way goes on below a leaf
+abbrev pub EndsAbove : Point → EventTree → Type 0
+EndsAbove [] e = ⊥
+EndsAbove (turn ∷ p) (Leaf n) = ⊤
+EndsAbove (turn ∷ p) (Node n a b) = EndsAbove p (half_of turn (Node n a b))
+
+-- The way goes by nodes, and at its end stands a node, or a leaf that is below k, if the way has no turn, and else below the root of the
+-- half beside it.
+abbrev pub EndsLow : ℕ → Point → EventTree → Type 0
+EndsLow k [] (Leaf n) = n < k
+EndsLow k [] (Node n a b) = ⊤
+EndsLow k (turn ∷ p) (Leaf n) = ⊥
+EndsLow k (turn ∷ p) (Node n a b) = EndsLow (root (other_of turn (Node n a b))) p (half_of turn (Node n a b))
+
 -- the tree is a node, and this is the half that a turn leads to
 pub record IsBelow (turn : Bool) (e : EventTree) (b : Below) : Type 0 where
   pub base : b.base ≡ root e
@@ -52,3 +68,15 @@ pub record IsOwnLeaf (i : IdTree) (e : EventTree) (leaf : OwnLeaf) : Type 0 wher
   pub way : Point
   pub alone : i ≡ id_of_way way
   pub end_of : IsEndOf way e leaf
+
+-- this is what the tree has where the way leads to
+abbrev pub IsThere : Point → EventTree → Found → Type 0
+IsThere p e (Own leaf) = IsEndOf p e leaf
+IsThere p e Above = EndsAbove p e
+IsThere p e Low = EndsLow 0 p e
+
+-- the id owns one part alone, and this is what the tree has there
+pub record IsOwnPart (i : IdTree) (e : EventTree) (f : Found) : Type 0 where
+  pub way : Point
+  pub alone : i ≡ id_of_way way
+  pub there : IsThere way e f

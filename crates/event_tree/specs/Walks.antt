@@ -1,5 +1,5 @@
 -- Working definitions: the walks of the code, by cases in its order.
-use Rattle.std.specs.Prelude.{ℕ, ◌≡◌, ◌+◌, min, max}
+use Rattle.std.specs.Prelude.{ℕ, ◌≡◌, ◌+◌, ◌≤◌, min, max}
 use Rattle.id_tree.specs.IdTree.{IdTree, Zero, One, Pair}
 use Rattle.event_tree.specs.EventTree.{EventTree, Leaf, Node}
 use Rattle.event_tree.specs.NormalForm.{least, greatest, value_limit}
@@ -60,6 +60,11 @@ filled Zero e = e
 filled One e = Leaf (greatest e)
 filled (Pair l r) (Leaf n) = Leaf n
 filled (Pair l r) (Node n a b) = filled_node l r n (filled l a) (filled r b)
+
+-- filling leaves the tree as it is, and where all of it is owned it is at or above k
+pub record IsFilled (k : ℕ) (i : IdTree) (e : EventTree) : Type 0 where
+  pub kept : filled i e ≡ e
+  pub above : i ≡ One → k ≤ root e
 
 abbrev pub cost_of : GrowthCost → Cost
 cost_of c = record { opened = c.opened; levels = c.levels }

@@ -1,25 +1,17 @@
 //! How a node's own entry is written once both halves stand behind it.
 
-ghost use Rattle.std.specs.Prelude.{◌≡◌, ◌<◌, ◌≤◌, ◌+◌, slice_index_or, ◌-◌, ◌↔◌, ◌++◌, ◌∷◌, IsTrue, IfOk, OnOk, List, length, take};
+ghost use Rattle.std.specs.Prelude.{◌≡◌, ◌<◌, ◌≤◌, ◌+◌, ◌-◌, ◌↔◌, ◌++◌, ◌∷◌, IsTrue, IfOk, OnOk, List, ℕ, length, take};
 ghost use Rattle.std.proofs.Common.{set};
-ghost use Rattle.id_tree.specs.IdTree.{One};
+ghost use Rattle.id_tree.specs.IdTree.{IdTree, One};
 ghost use Rattle.event_tree.specs.EventTree.{EventTree, Leaf, Node};
 ghost use Rattle.event_tree.specs.Norm.{normal_node};
 ghost use Rattle.event_tree.specs.Size.{size};
-ghost use Rattle.event_tree.specs.Entries.{blank, preorder, EndsInHalves};
+ghost use Rattle.event_tree.specs.Entries.{preorder, EndsInHalves};
 ghost use Rattle.event_tree.specs.Walks.{left_raised, right_raised, AreFilled};
 
-use crate::entries::{Entries, Entry, look_in};
+use crate::entries::{self, Entries, Entry, look_in};
 use crate::written::put_leaf;
-use id_tree::{IdPart, IdView};
 use std::alloc::AllocError;
-
-fn look(out: &Entries, at: usize) -> Entry
-    requires { at < length out.now.items }
-    ensures { result ≡ slice_index_or out.now.items at blank }
-{
-    out[at]
-}
 
 fn put(out: &mut Entries, at: usize, entry: Entry)
     requires { at < length out.old.items }
@@ -123,27 +115,30 @@ pub fn close(out: &mut Entries, n: u32, start: usize, middle: usize) -> Result<(
     Ok(())
 }
 
-pub fn owns_all(id: &IdView) -> bool
-    ensures { IsTrue result ↔ (id.now ≡ One) }
-{
-    matches!(id.part(), IdPart::Everything)
-}
-
-// Raises the half that the id owns whole to the least value of the other one, both halves behind `start`.
-pub fn raise_owned(out: &mut Entries, l: &IdView, r: &IdView, start: usize, middle: usize)
+// Raises the half that is owned whole, if one is, to the least value of the other one, both halves behind `start`.
+#[inline(always)]
+pub fn raise_owned(
+    out: &mut [Entry],
+    left_whole: bool,
+    right_whole: bool,
+    start: usize,
+    middle: usize,
+)
     requires begins { start + 1 < middle }
-    requires within { middle < length out.old.items }
-    ensures { (front : List Entry) (e : Entry) (a b : EventTree) → length front ≡ start → middle ≡ start + 1 + size a
-        → AreFilled l.now r.now a b
-        → out.old.items ≡ front ++ e ∷ (preorder a ++ preorder b)
-        → out.new.items ≡ front ++ e ∷ (preorder (left_raised l.now r.now a b) ++ preorder (right_raised l.now r.now a b)) }
+    requires within { middle < length out.old }
+    ensures as_long { length out.new ≡ length out.old }
+    ensures raised { (l r : IdTree) (front : List Entry) (e : Entry) (a b : EventTree) (stop : ℕ) → (IsTrue left_whole ↔ (l ≡ One)) → (IsTrue right_whole ↔ (r ≡ One))
+        → length front ≡ start → middle ≡ start + 1 + size a → middle < stop → stop ≤ length out.old
+        → AreFilled l r a b
+        → take stop out.old ≡ front ++ e ∷ (preorder a ++ preorder b)
+        → take stop out.new ≡ front ++ e ∷ (preorder (left_raised l r a b) ++ preorder (right_raised l r a b)) }
 {
-    let left = look(out, start + 1);
-    let right = look(out, middle);
+    let left = look_in(out, start + 1);
+    let right = look_in(out, middle);
     let value = left.value.max(right.value);
-    if owns_all(l) {
-        put(out, start + 1, Entry { value, size: 1 });
-    } else if owns_all(r) {
-        put(out, middle, Entry { value, size: 1 });
+    if left_whole {
+        entries::put(out, start + 1, Entry { value, size: 1 });
+    } else if right_whole {
+        entries::put(out, middle, Entry { value, size: 1 });
     }
 }

@@ -1,12 +1,15 @@
 //! The step of an event: fill where that changes the tree, and grow otherwise.
 
-ghost use Rattle.std.specs.Prelude.{◌≡◌, ◌≢◌, ◌+◌, ◌≤◌, ◌<◌, ◌^◌, ◌++◌, true, false, max, IsTrue, IfOk, OnOk, MatchOption};
-ghost use Rattle.id_tree.specs.IdTree.{Zero, One};
+ghost use Rattle.std.specs.Prelude.{◌≡◌, ◌≢◌, ◌+◌, ◌≤◌, ◌<◌, ◌^◌, ◌++◌, ◌↔◌, ℕ, true, false, max, length, IsTrue, IfOk, OnOk, MatchOption};
+ghost use Rattle.id_tree.specs.IdTree.{Zero, One, Pair};
 ghost use Rattle.id_tree.specs.NormalForm.{IsNormal as IsNormalId, depth as id_depth};
 ghost use Rattle.event_tree.specs.EventTree as trees;
 ghost use Rattle.event_tree.specs.NormalForm.{greatest, IsNormal};
-ghost use Rattle.event_tree.specs.Halves.{root};
+ghost use Rattle.event_tree.specs.Size.{size};
 ghost use Rattle.event_tree.specs.Entries.{preorder};
+ghost use Rattle.event_tree.specs.Writing.{IsWritten};
+ghost use Rattle.event_tree.specs.Filled.{IsHere, IsMade, AreMade, Tells};
+ghost use Rattle.event_tree.specs.OwnLeaf.{IsOwnPart};
 ghost use Rattle.event_tree.specs.Event as events;
 ghost use Rattle.event_tree.specs.Walks as walks;
 ghost use Rattle.event_tree.specs.Walks.{cost_of};
@@ -14,9 +17,11 @@ ghost use Rattle.event_tree.specs.Walks.{cost_of};
 use crate::closing;
 use crate::entries::{self, Entries, Entry};
 use crate::node::Node;
-use crate::own_leaf::{own_leaf, raised};
+use crate::own_leaf::{Found, own_part, raised};
 use crate::part::{EventPart, EventView};
+use crate::written::{put_leaf, put_lifted};
 use id_tree::{Id, IdPart, IdView};
+use smallvec::SmallVec;
 use std::alloc::{AllocError, Global};
 
 // The greatest value.
@@ -30,26 +35,85 @@ fn greatest(e: &EventView) -> u32
     }
 }
 
-// Appends the tree, filled.
-fn filled_into(out: &mut Entries, id: &IdView, e: &EventView) -> Result<(), AllocError>
+/// Where a tree that was filled ends, and whether all of it is owned.
+#[derive(Clone, Copy)]
+pub struct FilledEnd {
+    pub stop: usize,
+    pub whole: bool,
+}
+
+/// What filling makes of a part.
+#[derive(Clone, Copy)]
+pub enum Look {
+    /// It leaves it as it is; and whether all of it is owned.
+    Kept(bool),
+    /// It changes it, or the half beside it shall raise it.
+    Changed(FilledEnd),
+}
+
+// Writes the entries of `e`. A leaf takes no call.
+#[inline(always)]
+fn put_same(out: &mut [Entry], start: usize, e: EventView) -> usize
+    requires fits { greatest e < 2 ^ 32 }
+    requires room { start + size e ≤ length out.old }
+    ensures written { IsWritten out.old out.new start result e.entry }
+    ensures next { result ≡ start + size e.entry }
+{
+    match e.leaf() {
+        Some(n) => put_leaf(out, start, n),
+        None => put_lifted(out, start, e, 0),
+    }
+}
+
+// Makes one node in normal form, above the base `n`, of two halves that were filled: the one that is owned whole, if one is, is raised
+// to the least value of the other one.
+#[inline(always)]
+fn close_filled(
+    out: &mut [Entry],
+    n: u32,
+    start: usize,
+    one: FilledEnd,
+    other: FilledEnd,
+) -> Result<FilledEnd, AllocError>
+    requires { AreMade n start one other out.old }
+    ensures { IfOk result (λ end. (h : AreMade n start one other out.old) → IsMade (Pair h.l h.r) (trees.Node n h.a h.b) h.old out.new start end) }
+{
+    closing::raise_owned(out, one.whole, other.whole, start, one.stop);
+    let stop = closing::close_at(out, n, start, one.stop, other.stop)?;
+    Ok(FilledEnd { stop, whole: false })
+}
+
+// Writes the tree, filled.
+fn filled_into(
+    out: &mut [Entry],
+    start: usize,
+    id: &IdView,
+    e: &EventView,
+) -> Result<FilledEnd, AllocError>
     requires normal { IsNormalId id.now }
     requires tree_normal { IsNormal e.now }
     requires fits { greatest e.now < 2 ^ 32 }
-    ensures { OnOk result (out.new.items ≡ out.old.items ++ preorder (walks.filled id.now e.now)) }
+    requires room { start + size e.now ≤ length out.old }
+    ensures { IfOk result (λ end. IsMade id.now e.now out.old out.new start end) }
 {
     match id.part() {
-        IdPart::Nothing => e.append(out),
-        IdPart::Everything => entries::push_leaf(out, greatest(e)),
+        IdPart::Nothing => Ok(FilledEnd {
+            stop: put_same(out, start, e.again()),
+            whole: false,
+        }),
+        IdPart::Everything => Ok(FilledEnd {
+            stop: put_leaf(out, start, greatest(e)),
+            whole: true,
+        }),
         IdPart::Halves(l, r) => match e.part() {
-            EventPart::Leaf(n) => entries::push_leaf(out, n),
+            EventPart::Leaf(n) => Ok(FilledEnd {
+                stop: put_leaf(out, start, n),
+                whole: false,
+            }),
             EventPart::Node(n, a, b) => {
-                let start = out.len();
-                entries::push(out, Entry::default())?;
-                filled_into(out, &l, &a)?;
-                let middle = out.len();
-                filled_into(out, &r, &b)?;
-                closing::raise_owned(out, &l, &r, start, middle);
-                closing::close(out, n, start, middle)
+                let one = filled_into(out, start + 1, &l, &a)?;
+                let other = filled_into(out, one.stop, &r, &b)?;
+                close_filled(out, n, start, one, other)
             }
         },
     }
@@ -178,37 +242,201 @@ fn filled(alloc: Global, id: &IdView, e: &EventView) -> Result<Node, AllocError>
     requires fits { greatest e.now < 2 ^ 32 }
     ensures { IfOk result (λ node. node ≡ walks.filled id.now e.now) }
 {
-    let mut out = entries::with_room(alloc, e.entries().len())?;
-    filled_into(&mut out, id, e)?;
+    // What stands in the room does not count, and a copy makes it at once.
+    let mut out = entries::copied(alloc, e.entries())?;
+    let made = filled_into(out.as_mut_slice(), 0, id, e)?;
+    out.truncate(made.stop);
     Ok(Node::of(out))
 }
 
-// Whether the half `e` of a node needs no raise to the least value of the other one, which in normal form stands at its root: it is
-// at or above that, or is not owned whole.
-fn is_raised(id: &IdView, e: &EventView, other: &EventView) -> bool
-    ensures { IsTrue result → id.now ≡ One → root other.now ≤ root e.now }
+// Whether filling leaves as it is what is owned whole, beside a half with this least value.
+#[inline(always)]
+fn is_kept(e: &EventView, beside: u32) -> bool
+    ensures { IsTrue result ↔ walks.IsFilled beside One e.now }
 {
-    e.root() >= other.root() || !closing::owns_all(id)
+    match e.part() {
+        EventPart::Leaf(n) => beside <= n,
+        EventPart::Node(_, _, _) => false,
+    }
 }
 
-// Whether filling leaves the tree as it is. Nothing is built, and the halves are walked only where both are raised.
-fn is_filled(id: &IdView, e: &EventView) -> bool
+// Makes the copy of all entries, and writes the leaf in it that filling makes of a part that is owned whole.
+fn begin_filled(
+    alloc: Global,
+    out: &mut Entries,
+    tree: &EventView,
+    start: usize,
+    e: &EventView,
+) -> Result<FilledEnd, AllocError>
+    requires here { IsHere (preorder tree.now) start e.now }
+    requires fits { greatest e.now < 2 ^ 32 }
+    ensures { IfOk result (λ end. IsMade One e.now (preorder tree.now) out.new.items start end) }
+{
+    *out = entries::copied(alloc, tree.entries())?;
+    let stop = put_leaf(out.as_mut_slice(), start, greatest(e));
+    Ok(FilledEnd { stop, whole: true })
+}
+
+// Writes the tree, filled, into a copy.
+#[inline(always)]
+fn fill_in_copy(
+    out: &mut Entries,
+    start: usize,
+    id: &IdView,
+    e: &EventView,
+) -> Result<FilledEnd, AllocError>
     requires normal { IsNormalId id.now }
     requires tree_normal { IsNormal e.now }
-    ensures { IsTrue result → walks.filled id.now e.now ≡ e.now }
+    requires fits { greatest e.now < 2 ^ 32 }
+    requires room { start + size e.now ≤ length out.old.items }
+    ensures { IfOk result (λ end. IsMade id.now e.now out.old.items out.new.items start end) }
+{
+    filled_into(out.as_mut_slice(), start, id, e)
+}
+
+// Makes one node in normal form of two halves that were filled in a copy.
+#[inline(always)]
+fn close_in_copy(
+    out: &mut Entries,
+    n: u32,
+    start: usize,
+    one: FilledEnd,
+    other: FilledEnd,
+) -> Result<FilledEnd, AllocError>
+    requires { AreMade n start one other out.old.items }
+    ensures { IfOk result (λ end. (h : AreMade n start one other out.old.items) → IsMade (Pair h.l h.r) (trees.Node n h.a h.b) h.old out.new.items start end) }
+{
+    close_filled(out.as_mut_slice(), n, start, one, other)
+}
+
+// What filling makes of a part of the tree, whose entries stand from `start` on. Where the first one changes a copy of all entries is
+// made, and what stands before stays in it as it is. What stays as it is without a look at its halves takes no call.
+#[inline(always)]
+#[cycle(fill)]
+fn fill_at(
+    alloc: Global,
+    out: &mut Entries,
+    tree: &EventView,
+    start: usize,
+    id: &IdView,
+    e: &EventView,
+    beside: u32,
+) -> Result<Look, AllocError>
+    requires normal { IsNormalId id.now }
+    requires tree_normal { IsNormal e.now }
+    requires fits { greatest e.now < 2 ^ 32 }
+    requires here { IsHere (preorder tree.now) start e.now }
+    requires counted { size tree.now < 2 ^ 64 }
+    ensures { IfOk result (λ look. Tells beside id.now e.now (preorder tree.now) out.new.items start look) }
 {
     match id.part() {
-        IdPart::Nothing => true,
-        IdPart::Everything => matches!(e.part(), EventPart::Leaf(_)),
-        IdPart::Halves(l, r) => match e.part() {
-            EventPart::Leaf(_) => true,
-            EventPart::Node(_, a, b) => {
-                is_raised(&l, &a, &b)
-                    && is_raised(&r, &b, &a)
-                    && is_filled(&l, &a)
-                    && is_filled(&r, &b)
+        IdPart::Nothing => Ok(Look::Kept(false)),
+        IdPart::Everything => {
+            if is_kept(e, beside) {
+                return Ok(Look::Kept(true));
             }
+            let end = begin_filled(alloc, out, tree, start, e)?;
+            Ok(Look::Changed(end))
+        }
+        IdPart::Halves(l, r) => match e.leaf() {
+            Some(_) => Ok(Look::Kept(false)),
+            None => fill_halves(alloc, out, tree, start, &l, &r, e),
         },
+    }
+}
+
+// The same, where the id owns some of both halves or of one.
+#[tactic(auto, using(crate::proofs::Filling::here_left, crate::proofs::Filling::here_right))]
+#[cycle(fill)]
+fn fill_halves(
+    alloc: Global,
+    out: &mut Entries,
+    tree: &EventView,
+    start: usize,
+    l: &IdView,
+    r: &IdView,
+    e: &EventView,
+) -> Result<Look, AllocError>
+    requires normal { IsNormalId (Pair l.now r.now) }
+    requires tree_normal { IsNormal e.now }
+    requires fits { greatest e.now < 2 ^ 32 }
+    requires here { IsHere (preorder tree.now) start e.now }
+    requires counted { size tree.now < 2 ^ 64 }
+    ensures { IfOk result (λ look. (k : ℕ) → Tells k (Pair l.now r.now) e.now (preorder tree.now) out.new.items start look) }
+{
+    match e.part() {
+        EventPart::Leaf(_) => Ok(Look::Kept(false)),
+        EventPart::Node(n, a, b) => {
+            let end = match fill_at(alloc, out, tree, start + 1, l, &a, b.root())? {
+                Look::Changed(one) => {
+                    let other = fill_in_copy(out, one.stop, r, &b)?;
+                    close_in_copy(out, n, start, one, other)?
+                }
+                Look::Kept(whole) => {
+                    let middle = start + 1 + a.entries().len();
+                    match fill_at(alloc, out, tree, middle, r, &b, a.root())? {
+                        Look::Kept(_) => return Ok(Look::Kept(false)),
+                        Look::Changed(other) => {
+                            let one = FilledEnd {
+                                stop: middle,
+                                whole,
+                            };
+                            close_in_copy(out, n, start, one, other)?
+                        }
+                    }
+                }
+            };
+            Ok(Look::Changed(end))
+        }
+    }
+}
+
+// The step where an event fills.
+fn filled_step(alloc: Global, id: &IdView, e: &Node) -> Result<Option<Node>, AllocError>
+    requires normal { IsNormalId id.now }
+    requires tree_normal { IsNormal e.now }
+    requires fits { greatest e.now < 2 ^ 32 }
+    requires other { walks.filled id.now e.now ≢ e.now }
+    ensures { IfOk result (λ o. MatchOption o (events.PassesLimit id.now e.now) (λ node. events.IsEventStep id.now e.now node × (greatest node < 2 ^ 32))) }
+{
+    let tree = filled(alloc, id, &e.view())?;
+    Ok(Some(tree))
+}
+
+// The same for any id, by walks over it and the tree.
+fn step_by_walks(alloc: Global, id: &IdView, e: &Node) -> Result<Option<Node>, AllocError>
+    requires normal { IsNormalId id.now }
+    requires tree_normal { IsNormal e.now }
+    requires depth { id_depth id.now < 2 ^ 32 }
+    requires fits { greatest e.now < 2 ^ 32 }
+    ensures { IfOk result (λ o. MatchOption o (events.PassesLimit id.now e.now) (λ node. events.IsEventStep id.now e.now node × (greatest node < 2 ^ 32))) }
+{
+    let view = e.view();
+    view.counted();
+    let mut out: Entries = SmallVec::new(alloc);
+    match fill_at(alloc, &mut out, &view, 0, id, &view, 0)? {
+        Look::Kept(_) => grown(alloc, id, &view),
+        Look::Changed(end) => {
+            out.truncate(end.stop);
+            Ok(Some(Node::of(out)))
+        }
+    }
+}
+
+// The same for an id that owns one part alone, by what the tree has there.
+#[inline(always)]
+fn step_there(alloc: Global, id: &Id, e: &Node, found: Found) -> Result<Option<Node>, AllocError>
+    requires normal { IsNormalId id.now }
+    requires tree_normal { IsNormal e.now }
+    requires depth { id_depth id.now < 2 ^ 32 }
+    requires fits { greatest e.now < 2 ^ 32 }
+    requires own { IsOwnPart id.now e.now found }
+    ensures { IfOk result (λ o. MatchOption o (events.PassesLimit id.now e.now) (λ node. events.IsEventStep id.now e.now node × (greatest node < 2 ^ 32))) }
+{
+    match found {
+        Found::Own(leaf) => raised(alloc, e, leaf, id),
+        Found::Above => grown(alloc, &id.view(), &e.view()),
+        Found::Low => filled_step(alloc, &id.view(), e),
     }
 }
 
@@ -220,29 +448,8 @@ pub fn event_step(alloc: Global, id: &Id, e: &Node) -> Result<Option<Node>, Allo
     requires fits { greatest e.now < 2 ^ 32 }
     ensures { IfOk result (λ o. MatchOption o (events.PassesLimit id.now e.now) (λ node. events.IsEventStep id.now e.now node × (greatest node < 2 ^ 32))) }
 {
-    match own_leaf(id, e.view()) {
-        Some(leaf) => raised(alloc, e, leaf, id),
+    match own_part(id, e.view()) {
+        Some(found) => step_there(alloc, id, e, found),
         None => step_by_walks(alloc, &id.view(), e),
-    }
-}
-
-// The same by walks over both, for any id and tree.
-fn step_by_walks(alloc: Global, id: &IdView, e: &Node) -> Result<Option<Node>, AllocError>
-    requires normal { IsNormalId id.now }
-    requires tree_normal { IsNormal e.now }
-    requires depth { id_depth id.now < 2 ^ 32 }
-    requires fits { greatest e.now < 2 ^ 32 }
-    ensures { IfOk result (λ o. MatchOption o (events.PassesLimit id.now e.now) (λ node. events.IsEventStep id.now e.now node × (greatest node < 2 ^ 32))) }
-{
-    let view = e.view();
-    if is_filled(id, &view) {
-        return grown(alloc, id, &view);
-    }
-    // That `is_filled` refuses says nothing of the tree, so what is built is compared.
-    let tree = filled(alloc, id, &view)?;
-    if tree.is_same(e) {
-        grown(alloc, id, &view)
-    } else {
-        Ok(Some(tree))
     }
 }

@@ -1,13 +1,14 @@
-//! The leaf that an id owns alone, where it owns one part, and the tree has a leaf there. An event then raises that leaf, and all other
-//! entries stay as they are.
+//! What a tree has where an id owns one part alone. A leaf there, at or above the half beside it, is raised by an event, and all other
+//! entries stay as they are; else the way there tells whether the event fills.
 
-ghost use Rattle.std.specs.Prelude.{◌≡◌, ◌<◌, ◌≤◌, ◌^◌, IfOk, MatchOption};
+ghost use Rattle.std.specs.Prelude.{◌≡◌, ◌≢◌, ◌<◌, ◌≤◌, ◌^◌, IfOk, MatchOption};
+ghost use Rattle.id_tree.specs.Points.{Point};
+ghost use Rattle.id_tree.specs.OneWay.{id_of_way};
 ghost use Rattle.event_tree.specs.EventTree.{Leaf};
 ghost use Rattle.event_tree.specs.NormalForm.{greatest};
 ghost use Rattle.event_tree.specs.Halves.{root};
 ghost use Rattle.event_tree.specs.Event.{grow};
-ghost use Rattle.event_tree.specs.declared.own_leaf.OwnLeaf as declared;
-ghost use Rattle.event_tree.specs.OwnLeaf.{EndsAtLeaf, IsBelow, IsOwnLeaf, IsEndOf};
+ghost use Rattle.event_tree.specs.OwnLeaf.{IsBelow, IsOwnLeaf, IsOwnPart, IsThere};
 
 use crate::entries::{self, Entry, put};
 use crate::node::Node;
@@ -21,6 +22,17 @@ pub struct OwnLeaf {
     at: usize,
     base: u32,
     own: u32,
+}
+
+/// What a tree has where a way leads to.
+#[derive(Clone, Copy)]
+pub enum Found {
+    /// A leaf at the end of the way, at or above the half beside it.
+    Own(OwnLeaf),
+    /// A leaf that the way goes on below.
+    Above,
+    /// A node at the end of the way, or a leaf below the half beside it.
+    Low,
 }
 
 /// The half that a turn leads to: the base of its node, how many entries stand before it, the root of the half beside it, and itself.
@@ -57,10 +69,10 @@ fn go_down<'a>(part: &EventView<'a>, turn: bool) -> Option<Below<'a>>
     }
 }
 
-// The leaf at the end of a way, if one stands there that is at or above the half beside it.
-fn end_of(way: Way, e: EventView) -> Option<OwnLeaf>
+// What a way leads to.
+fn end_of(way: Way, e: EventView) -> Found
     requires { greatest e < 2 ^ 32 }
-    ensures { MatchOption result (¬ EndsAtLeaf 0 way.entry e.entry) (λ leaf. IsEndOf way.entry e.entry leaf) }
+    ensures { IsThere way.entry e.entry result }
 {
     e.counted();
     let mut way = way;
@@ -70,7 +82,7 @@ fn end_of(way: Way, e: EventView) -> Option<OwnLeaf>
     let mut beside: u32 = 0;
     while let Some((turn, behind)) = way.turn() {
         let Some(next) = go_down(&part, turn) else {
-            return None;
+            return Found::Above;
         };
         at += next.before;
         base += next.base;
@@ -78,23 +90,25 @@ fn end_of(way: Way, e: EventView) -> Option<OwnLeaf>
         part = next.half;
         way = behind;
     }
-    let EventPart::Leaf(own) = part.part() else {
-        return None;
-    };
-    if beside <= own {
-        Some(OwnLeaf { at, base, own })
-    } else {
-        None
+    match part.part() {
+        EventPart::Leaf(own) => {
+            if beside <= own {
+                Found::Own(OwnLeaf { at, base, own })
+            } else {
+                Found::Low
+            }
+        }
+        EventPart::Node(_, _, _) => Found::Low,
     }
 }
 
-// The leaf that the id owns alone, if it does, and if filling leaves the tree as it is.
-pub fn own_leaf(id: &Id, e: EventView) -> Option<OwnLeaf>
+// What the tree has where the id owns one part alone, if it does.
+pub fn own_part(id: &Id, e: EventView) -> Option<Found>
     requires { greatest e < 2 ^ 32 }
-    ensures { MatchOption result ((leaf : declared.OwnLeaf) → ¬ IsOwnLeaf id.now e.entry leaf) (λ leaf. IsOwnLeaf id.now e.entry leaf) }
+    ensures { MatchOption result ((way : Point) → id.now ≢ id_of_way way) (λ found. IsOwnPart id.now e.entry found) }
 {
     match id.only_way() {
-        Some(way) => end_of(way, e),
+        Some(way) => Some(end_of(way, e)),
         None => None,
     }
 }

@@ -1,20 +1,25 @@
 use Rattle.std.proofs.Common.{◌≢◌}
 use Rattle.std.proofs.lemmas.Bool.{both_ways}
 use Rattle.id_tree.specs.IdTree.{One}
-use Rattle.event_tree.proofs.Closed.{raises_left, raises_right}
+use Rattle.event_tree.proofs.Places.{raised_at_left, raised_at_right}
+use Rattle.event_tree.proofs.Closed.{raises_none}
 use Rattle.event_tree.proofs.closing.raise_owned.Goals as goal
 
-pub returns-then-owns_all : goal.returns-then-owns_all
-returns-then-owns_all c = λ front e a b h m f are.
-    raises_left c.args.out.now.items _ front e c.look-left.result c.look-right.result _ _ a b c.args.start c.args.middle c.max-value.result
+pub returns-then-left_whole-clause-raised : goal.returns-then-left_whole-clause-raised
+returns-then-left_whole-clause-raised c = λ l r front e a b stop first second h m inside within f are.
+    raised_at_left c.args.out.now _ front e c.look_in-left.result c.look_in-right.result l r a b c.args.start c.args.middle stop c.max-value.result c.requires.begins inside within
     (record { begins = h; halved = m; are = are })
-    (record { one_read = c.look-left.ensures; other_read = c.look-right.ensures })
-    f (c.owns_all.ensures.0 c.if-owns_all.true) c.max-value.ensures c.put.ensures
+    c.look_in-left.ensures c.look_in-right.ensures f (first.0 c.if-left_whole.true) c.max-value.ensures c.put.ensures
 
-pub returns-then-owns_all-2 : goal.returns-then-owns_all-2
-returns-then-owns_all-2 c = λ front e a b h m f are.
-    let other_id : c.args.l.now ≢ One = λ one. both_ways _ c.if-owns_all.false (c.owns_all.ensures.1 one) in
-    raises_right c.args.out.now.items _ front e c.look-left.result c.look-right.result _ _ a b c.args.start c.args.middle c.max-value.result
+pub returns-then-right_whole-clause-raised : goal.returns-then-right_whole-clause-raised
+returns-then-right_whole-clause-raised c = λ l r front e a b stop first second h m inside within f are.
+    let other_id : l ≢ One = λ one. both_ways _ c.if-left_whole.false (first.1 one) in
+    raised_at_right c.args.out.now _ front e c.look_in-left.result c.look_in-right.result l r a b c.args.start c.args.middle stop c.max-value.result c.requires.begins inside within
     (record { begins = h; halved = m; are = are })
-    (record { one_read = c.look-left.ensures; other_read = c.look-right.ensures })
-    f other_id (c.owns_all-else-owns_all.ensures.0 c.if-owns_all-2.true) c.max-value.ensures c.put-then-owns_all-2.ensures
+    c.look_in-left.ensures c.look_in-right.ensures f other_id (second.0 c.if-right_whole.true) c.max-value.ensures c.put-then-right_whole.ensures
+
+pub returns-else-right_whole-clause-raised : goal.returns-else-right_whole-clause-raised
+returns-else-right_whole-clause-raised c = λ l r front e a b stop first second h m inside within f are.
+    let left_id : l ≢ One = λ one. both_ways _ c.if-left_whole.false (first.1 one) in
+    let right_id : r ≢ One = λ one. both_ways _ c.if-right_whole.false (second.1 one) in
+    raises_none _ front e l r a b left_id right_id are

@@ -1,26 +1,31 @@
-use Rattle.std.proofs.Common.{◌≡◌, ◌≢◌, sym, ap, ◌∙◌, arith}
-use Rattle.std.proofs.lemmas.Bool.{both_ways}
+use Rattle.std.proofs.Common.{◌≡◌, ap, ◌∙◌, arith}
 use Rattle.event_tree.specs.NormalForm.{greatest}
 use Rattle.event_tree.specs.Walks.{filled}
+use Rattle.event_tree.proofs.Preorder.{is_preorder, tree_of_preorder}
+use Rattle.event_tree.proofs.Places.{written_from_none}
+use Rattle.event_tree.proofs.Filling.{here_whole, changed_of, kept_of}
 use Rattle.event_tree.proofs.Fills.{greatest_filled}
 use Rattle.event_tree.proofs.Steps.{filled_is_step, grown_tells}
 use Rattle.event_tree.proofs.event.step_by_walks.Goals as goal
 
-pub returns-then-is_filled : goal.returns-then-is_filled
-returns-then-is_filled c =
-    let same = rw c.view-view.ensures at c.is_filled.ensures c.if-is_filled.true in
-    grown_tells _ _ _ _ c.requires.normal c.requires.tree_normal c.view-view.ensures same c.grown.ensures
+pub fill_at-requires-clause-here : goal.fill_at-requires-clause-here
+fill_at-requires-clause-here c = here_whole _
 
-pub returns-then-is_same : goal.returns-then-is_same
-returns-then-is_same c =
-    let i = c.args.id.now in
-    let made : c.in_ok-tree.tree ≡ filled i c.args.e.now = c.in_ok-tree.ensures ∙ ap (filled i) c.view-view.ensures in
-    grown_tells _ _ _ _ c.requires.normal c.requires.tree_normal c.view-view.ensures (sym made ∙ c.is_same.ensures.0 c.if-is_same.true) c.grown-then-is_same.ensures
+pub of-requires : goal.of-requires
+of-requires c =
+    let made = changed_of _ _ _ _ _ _ _ _ c.in_ok-fill_at.ensures c.in-Changed.is in
+    is_preorder _ _ (written_from_none _ _ _ _ _ made.1.written c.truncate.ensures.items)
 
-pub returns-else-is_same : goal.returns-else-is_same
-returns-else-is_same c =
+pub returns-in-Kept : goal.returns-in-Kept
+returns-in-Kept c =
+    let kept = rw c.view-view.ensures at (kept_of _ _ _ _ _ _ _ _ c.in_ok-fill_at.ensures c.in-Kept.is).0 in
+    grown_tells _ _ _ _ c.requires.normal c.requires.tree_normal c.view-view.ensures kept.kept c.grown.ensures
+
+pub returns-in-Changed : goal.returns-in-Changed
+returns-in-Changed c =
     let i = c.args.id.now in
     let e = c.args.e.now in
-    let made : c.in_ok-tree.tree ≡ filled i e = c.in_ok-tree.ensures ∙ ap (filled i) c.view-view.ensures in
-    let other : filled i e ≢ e = λ same. both_ways _ c.if-is_same.false (c.is_same.ensures.1 (made ∙ same)) in
-    (filled_is_step i e c.in_ok-tree.tree c.requires.normal c.requires.tree_normal other made, omega (arith, greatest_filled i e c.requires.normal, ap greatest made, c.requires.fits))
+    let told = changed_of _ _ _ _ _ _ _ _ c.in_ok-fill_at.ensures c.in-Changed.is in
+    let other = rw c.view-view.ensures at told.0 in
+    let made : c.of.result ≡ filled i e = c.of.ensures ∙ tree_of_preorder _ _ (written_from_none _ _ _ _ _ told.1.written c.truncate.ensures.items) ∙ ap (filled i) c.view-view.ensures in
+    (filled_is_step i e _ c.requires.normal c.requires.tree_normal (λ same. other (record { kept = same; above = λ o. omega arith })) made, omega (arith, greatest_filled i e c.requires.normal, ap greatest made, c.requires.fits))

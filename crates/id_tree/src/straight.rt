@@ -37,14 +37,23 @@ fn behind(byte: u8, text: &[u8]) -> Option<&[u8]>
     }
 }
 
-// Appends a mark where there is no room for it yet, and makes room for four times as many.
+// How many marks are still to come where a tree, at most so deep, stands at the front, with so much behind its first byte: each pair
+// around it ends in a byte, and the others are two for each mark and one less.
+fn marks_left(behind: usize, levels: u32) -> usize {
+    let around = MOST_LEVELS.saturating_sub(levels);
+    behind.saturating_add(2).saturating_sub(around as usize) / 2
+}
+
+// Appends a mark where there is no room for it yet. Room is made for all that are still to come, and at most for four times as many as
+// there are, so that it follows what was read.
 #[cold]
 #[inline(never)]
-fn put_beyond(out: &mut Marks, mark: Mark) -> Result<(), Halt>
+fn put_beyond(out: &mut Marks, mark: Mark, behind: usize, levels: u32) -> Result<(), Halt>
     ensures ok { OnOk result (out.new.items ≡ out.old.items ++ mark ∷ []) }
     ensures err { IfErr result (λ halt. halt ≡ Halt.Other) }
 {
-    let Ok(()) = out.reserve(out.len().saturating_mul(3)) else {
+    let more = out.len().saturating_mul(3).min(marks_left(behind, levels));
+    let Ok(()) = out.reserve_exact(more) else {
         return Err(Halt::Other);
     };
     let Ok(()) = out.push(mark) else {
@@ -53,26 +62,26 @@ fn put_beyond(out: &mut Marks, mark: Mark) -> Result<(), Halt>
     Ok(())
 }
 
-// Appends a mark.
+// Appends the first mark of a tree, at most so deep, with so much behind its first byte.
 #[inline(always)]
-fn put(out: &mut Marks, mark: Mark) -> Result<(), Halt>
+fn put(out: &mut Marks, mark: Mark, behind: usize, levels: u32) -> Result<(), Halt>
     ensures ok { OnOk result (out.new.items ≡ out.old.items ++ mark ∷ []) }
     ensures err { IfErr result (λ halt. halt ≡ Halt.Other) }
 {
     if out.len() == out.capacity() {
-        return put_beyond(out, mark);
+        return put_beyond(out, mark, behind, levels);
     }
     out.push_reserved(mark);
     Ok(())
 }
 
-// A leaf before this text.
+// A leaf before this text, where a tree may be so deep.
 #[inline(always)]
-fn put_leaf<'a>(rest: &'a [u8], mark: Mark, out: &mut Marks) -> Result<Taken<'a>, Halt>
+fn put_leaf<'a>(rest: &'a [u8], mark: Mark, levels: u32, out: &mut Marks) -> Result<Taken<'a>, Halt>
     ensures ok { IfOk result (λ taken. IsLeafPut rest.now mark out.old.items out.new.items taken) }
     ensures err { IfErr result (λ halt. halt ≡ Halt.Other) }
 {
-    let Ok(()) = put(out, mark) else {
+    let Ok(()) = put(out, mark, rest.len(), levels) else {
         return Err(Halt::Other);
     };
     Ok(Taken { rest, mark })
@@ -86,9 +95,9 @@ fn take_leaf<'a>(text: &'a [u8], levels: u32, out: &mut Marks) -> Result<Taken<'
     ensures err { IfErr result (λ halt. IsHalt halt text.now) }
 {
     match behind(b'0', text) {
-        Some(rest) => put_leaf(rest, Mark::Zero, out),
+        Some(rest) => put_leaf(rest, Mark::Zero, levels, out),
         None => match behind(b'1', text) {
-            Some(rest) => put_leaf(rest, Mark::One, out),
+            Some(rest) => put_leaf(rest, Mark::One, levels, out),
             None => Err(Halt::NoTree),
         },
     }
@@ -127,7 +136,7 @@ fn take_pair<'a>(inside: &'a [u8], levels: u32, out: &mut Marks) -> Result<Taken
     if levels == 0 {
         return Err(Halt::Other);
     }
-    let Ok(()) = put(out, Mark::Pair) else {
+    let Ok(()) = put(out, Mark::Pair, inside.len(), levels) else {
         return Err(Halt::Other);
     };
     let left = match take_id(inside, levels - 1, out) {

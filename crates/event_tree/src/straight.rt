@@ -17,11 +17,17 @@ use std::alloc::{AllocError, Global};
 /// Where the halves that are read (`Around`) come to this number, 40 nodes are open, and none may be begun in them.
 const TOO_DEEP: u64 = 1 << 41;
 
-/// The brackets of a text that is no longer are counted first.
+/// A text that is no longer has at most 3 nodes and 4 leaves.
+const SHORTEST: usize = 24;
+
+/// The brackets of a text that is longer than that, and no longer than this, are counted first.
 const SHORT: usize = 128;
 
 /// How many bytes are looked at, at least, where brackets of a longer one are counted.
 const LEAST_SEEN: usize = 512;
+
+/// How many bytes of a text each node takes at least: `(0,,)`, and a digit, since there is a leaf more than nodes.
+const LEAST_NODE: usize = 6;
 
 /// The nodes that are open, since their ends are not read yet. Which of their halves is read is one number: a binary digit for each node
 /// behind those of 2, the innermost last, and 1 in its second half. The innermost has its entry at `last`, and the bases have this sum.
@@ -296,13 +302,25 @@ fn count_few(text: &[u8]) -> u8 {
     count
 }
 
-// How many entries the tree of a text has: each node has a bracket, and there is a leaf more than nodes.
-fn count_entries(text: &[u8]) -> usize {
+// How many opening brackets a text has.
+fn count_nodes(text: &[u8]) -> usize {
     let mut nodes: usize = 0;
     for piece in text.chunks(128) {
         nodes = nodes.saturating_add(usize::from(count_few(piece)));
     }
-    nodes.saturating_mul(2).saturating_add(1)
+    nodes
+}
+
+// How many entries a tree has whose nodes all begin in this front of its text, or none has so many, where the text is so long. Six bytes
+// are taken by each node, but of those that are open in the front, at most 40, three by each, and of the last one its bracket alone may be
+// there.
+fn count_entries(front: &[u8], whole: usize) -> Option<usize> {
+    let nodes = count_nodes(front);
+    let most = (front.len() / LEAST_NODE + 21).min(whole / LEAST_NODE);
+    if nodes > most {
+        return None;
+    }
+    Some(nodes.saturating_mul(2).saturating_add(1))
 }
 
 // These entries, and blank ones up to so many.
@@ -316,14 +334,16 @@ fn widened(alloc: Global, entries: &[Entry], count: usize) -> Result<Entries, Al
     Ok(SmallVec::from_vec(block))
 }
 
-// Makes room for all brackets up to four times as far as this place; or there is room for them, or memory is wanting. So the room
-// follows what was read, and is the tree's where nothing is left to be counted.
+// Makes room for all brackets up to four times as far as this place; or there is room for them, or they are too many, or memory is
+// wanting. So the room follows what was read, and is the tree's where nothing is left to be counted.
 fn widen(alloc: Global, text: &[u8], at: usize, entries: &mut Entries) -> bool
     ensures { IsTrue result → IsWidened entries.old.items entries.new.items }
 {
     let seen = at.saturating_mul(4).max(LEAST_SEEN).min(text.len());
     let (front, _) = text.split_at(seen);
-    let count = count_entries(front);
+    let Some(count) = count_entries(front, text.len()) else {
+        return false;
+    };
     if count <= entries.len() || count > u32::MAX as usize {
         return false;
     }
@@ -373,21 +393,24 @@ fn read_leaf(alloc: Global, text: &[u8]) -> Option<Node>
     }
 }
 
-// How much room there is at first: for a short text as much as it needs, and for a longer one what takes no memory.
-fn first_room(text: &[u8]) -> usize
-    ensures { result < 2 ^ 32 }
+// How much room there is at first: for a short text as much as it needs, and for a longer or a very short one what takes no memory.
+// There is no answer where it has more brackets than any tree's.
+fn first_room(text: &[u8]) -> Option<usize>
+    ensures { IfSome result (λ room. room < 2 ^ 32) }
 {
-    if text.len() > SHORT {
-        return INLINE;
+    if text.len() > SHORT || text.len() <= SHORTEST {
+        return Some(INLINE);
     }
-    count_entries(text).min(2 * SHORT + 1)
+    let count = count_entries(text, text.len())?;
+    Some(count.min(2 * SHORT + 1))
 }
 
 // The tree that the whole text spells.
 fn read_node(alloc: Global, text: &[u8]) -> Option<Node>
     ensures { IfSome result (λ node. IsEvents node × (text.now ≡ spelling node)) }
 {
-    let Ok(mut entries) = repeated(alloc, first_room(text), Entry::default()) else {
+    let room = first_room(text)?;
+    let Ok(mut entries) = repeated(alloc, room, Entry::default()) else {
         return None;
     };
     let end = take_all(alloc, text, &mut entries)?;
@@ -402,6 +425,7 @@ fn may_begin(text: &[u8]) -> bool {
         [b'(', base, b',', part, ..] => {
             base.is_ascii_digit() && (*part == b'(' || part.is_ascii_digit())
         }
+        [b'(', b'0', ..] => false,
         [b'(', base, digit, ..] => base.is_ascii_digit() && digit.is_ascii_digit(),
         _ => false,
     }

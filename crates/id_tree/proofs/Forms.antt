@@ -87,6 +87,9 @@ not_unnormal bytes t s e n =
     let same : s.tree ≡ t = one_spelling s.tree t (sym (spelled bytes s.tree s.ran) ∙ e) in
     tells_of parts.NotNormal bytes s (subst IsNormal (sym same) n.normal)
 
+pub unnormal_is_no_id : (bytes : List ℕ) (t : IdTree) → SpellsUnnormal bytes → IsId t → ¬ (bytes ≡ spelling t)
+unnormal_is_no_id bytes t s n e = s.unnormal (subst IsNormal (sym (one_spelling s.tree t (sym s.spelled ∙ e))) n.normal)
+
 not_deep : (bytes : List ℕ) (d : ℕ) (t : IdTree) → Spells (parts.Pair d) bytes → bytes ≡ spelling t → IsId t → ¬ (depth_limit < d)
 not_deep bytes d t s e n deep =
     let same : s.tree ≡ t = one_spelling s.tree t (sym (spelled bytes s.tree s.ran) ∙ e) in

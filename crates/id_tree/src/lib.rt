@@ -268,6 +268,7 @@ fn fault_of(alloc: Global, bytes: &[u8], halt: Halt) -> IdFault
 {
     match halt {
         Halt::NoTree => IdFault::Syntax,
+        Halt::NotNormal => IdFault::NotNormal,
         Halt::Other => match reader::read(alloc, bytes) {
             Ok(part) => fault_of_part(part),
             Err(fault) => fault,

@@ -1,5 +1,5 @@
-//! Reads the text of an id in one pass, straight into its marks. Of a text with a fault it says whether it is no tree's, where that
-//! stops the pass.
+//! Reads the text of an id in one pass, straight into its marks. Of a text with a fault it says whether it is no tree's, or that of a tree
+//! which is not in normal form, where nothing else stops the pass.
 
 ghost use Rattle.std.specs.Prelude.{◌≡◌, ◌∷◌, ◌++◌, MatchOption, IfOk, IfErr, OnOk, []};
 ghost use Rattle.id_tree.specs.Taking.{BeginsNot, IsLeafPut, IsTaken, IsHalt, IsWhole, IsHaltOfWhole};
@@ -12,17 +12,28 @@ use std::alloc::Global;
 /// How deep an id may be.
 const MOST_LEVELS: u32 = 40;
 
-/// What is told of an id that was read: what stands behind it, and its first mark.
+/// What is told of the form of a tree: which leaf it is, that it is a pair in normal form, or that it is in none.
+#[derive(Clone, Copy)]
+pub enum Form {
+    Zero,
+    One,
+    Pair,
+    NotNormal,
+}
+
+/// What is told of a tree that was read: what stands behind it, and its form.
 #[derive(Clone, Copy)]
 pub struct Taken<'a> {
     pub rest: &'a [u8],
-    pub mark: Mark,
+    pub form: Form,
 }
 
-/// Why no id was read: no tree's text stands there, or something else, as that memory is wanting.
+/// Why no id was read: no tree's text stands there, that of a tree which is not in normal form, or something else, as that memory is
+/// wanting.
 #[derive(Clone, Copy, Drop)]
 pub enum Halt {
     NoTree,
+    NotNormal,
     Other,
 }
 
@@ -77,14 +88,20 @@ fn put(out: &mut Marks, mark: Mark, behind: usize, levels: u32) -> Result<(), Ha
 
 // A leaf before this text, where a tree may be so deep.
 #[inline(always)]
-fn put_leaf<'a>(rest: &'a [u8], mark: Mark, levels: u32, out: &mut Marks) -> Result<Taken<'a>, Halt>
-    ensures ok { IfOk result (λ taken. IsLeafPut rest.now mark out.old.items out.new.items taken) }
+fn put_leaf<'a>(
+    rest: &'a [u8],
+    mark: Mark,
+    form: Form,
+    levels: u32,
+    out: &mut Marks,
+) -> Result<Taken<'a>, Halt>
+    ensures ok { IfOk result (λ taken. IsLeafPut rest.now mark form out.old.items out.new.items taken) }
     ensures err { IfErr result (λ halt. halt ≡ Halt.Other) }
 {
     let Ok(()) = put(out, mark, rest.len(), levels) else {
         return Err(Halt::Other);
     };
-    Ok(Taken { rest, mark })
+    Ok(Taken { rest, form })
 }
 
 // The leaf that stands at the front, where no pair does.
@@ -95,26 +112,49 @@ fn take_leaf<'a>(text: &'a [u8], levels: u32, out: &mut Marks) -> Result<Taken<'
     ensures err { IfErr result (λ halt. IsHalt halt text.now) }
 {
     match behind(b'0', text) {
-        Some(rest) => put_leaf(rest, Mark::Zero, levels, out),
+        Some(rest) => put_leaf(rest, Mark::Zero, Form::Zero, levels, out),
         None => match behind(b'1', text) {
-            Some(rest) => put_leaf(rest, Mark::One, levels, out),
+            Some(rest) => put_leaf(rest, Mark::One, Form::One, levels, out),
             None => Err(Halt::NoTree),
         },
     }
 }
 
+// Whether a tree of this form is in normal form.
+#[inline(always)]
+fn is_normal(form: Form) -> bool
+    ensures { result ≡ taking.is_normal form }
+{
+    match form {
+        Form::Zero | Form::One | Form::Pair => true,
+        Form::NotNormal => false,
+    }
+}
+
 // Whether both are one leaf.
 #[inline(always)]
-fn are_one_leaf(left: Mark, right: Mark) -> bool
+fn are_one_leaf(left: Form, right: Form) -> bool
     ensures { result ≡ taking.are_one_leaf left right }
 {
     match (left, right) {
-        (Mark::Zero, Mark::Zero) | (Mark::One, Mark::One) => true,
+        (Form::Zero, Form::Zero) | (Form::One, Form::One) => true,
         _ => false,
     }
 }
 
-// The id that stands at the front, at most so deep. Half of all marks are leaves, which take no call.
+// The form of a pair of these.
+#[inline(always)]
+fn pair_form(left: Form, right: Form) -> Form
+    ensures { result ≡ taking.pair_form left right }
+{
+    if is_normal(left) && is_normal(right) && !are_one_leaf(left, right) {
+        Form::Pair
+    } else {
+        Form::NotNormal
+    }
+}
+
+// The tree that stands at the front, at most so deep. Half of all marks are leaves, which take no call.
 #[inline(always)]
 #[cycle(take)]
 fn take_id<'a>(text: &'a [u8], levels: u32, out: &mut Marks) -> Result<Taken<'a>, Halt>
@@ -155,12 +195,9 @@ fn take_pair<'a>(inside: &'a [u8], levels: u32, out: &mut Marks) -> Result<Taken
         Some(rest) => rest,
         None => return Err(Halt::NoTree),
     };
-    if are_one_leaf(left.mark, right.mark) {
-        return Err(Halt::Other);
-    }
     Ok(Taken {
         rest,
-        mark: Mark::Pair,
+        form: pair_form(left.form, right.form),
     })
 }
 
@@ -172,10 +209,14 @@ fn take_all(text: &[u8], out: &mut Marks) -> Result<(), Halt>
 {
     match take_id(text, MOST_LEVELS, out) {
         Ok(taken) => {
-            if taken.rest.is_empty() {
-                return Ok(());
+            if !taken.rest.is_empty() {
+                return Err(Halt::NoTree);
             }
-            Err(Halt::NoTree)
+            if is_normal(taken.form) {
+                Ok(())
+            } else {
+                Err(Halt::NotNormal)
+            }
         }
         Err(halt) => Err(halt),
     }

@@ -1,4 +1,4 @@
-use Rattle.std.proofs.Common.{refl, arith, sym, ◌∙◌, ◌∷◌}
+use Rattle.std.proofs.Common.{refl, arith, ◌∷◌}
 use Rattle.id_tree.proofs.Takes.{pair_taken, no_left, no_comma, no_right, no_end}
 use Rattle.id_tree.proofs.straight.+take.Goals as goal
 
@@ -28,7 +28,6 @@ take_pair-returns-clause-ok t c =
       comma = c.in-Some.ensures;
       end_bracket = c.in-Some-behind.ensures;
       opened_is = c.in-Ok.ensures.ok;
-      halves = sym c.are_one_leaf.ensures ∙ c.if-are_one_leaf.false;
       level = omega arith;
-      told_mark = refl;
+      told = c.pair_form.ensures;
     })

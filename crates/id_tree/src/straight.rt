@@ -49,10 +49,10 @@ fn behind(byte: u8, text: &[u8]) -> Option<&[u8]>
 }
 
 // How many marks are still to come where a tree, at most so deep, stands at the front, with so much behind its first byte: each pair
-// around it ends in a byte, and the others are two for each mark and one less.
+// around it ends in a byte, and the others are two for each mark and one less. So it is too where the last byte is cut off.
 fn marks_left(behind: usize, levels: u32) -> usize {
     let around = MOST_LEVELS.saturating_sub(levels);
-    behind.saturating_add(2).saturating_sub(around as usize) / 2
+    behind.saturating_add(3).saturating_sub(around as usize) / 2
 }
 
 // Appends a mark where there is no room for it yet. Room is made for all that are still to come, and at most for four times as many as

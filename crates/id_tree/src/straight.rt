@@ -131,26 +131,15 @@ fn is_normal(form: Form) -> bool
     }
 }
 
-// Whether both are one leaf.
-#[inline(always)]
-fn are_one_leaf(left: Form, right: Form) -> bool
-    ensures { result ≡ taking.are_one_leaf left right }
-{
-    match (left, right) {
-        (Form::Zero, Form::Zero) | (Form::One, Form::One) => true,
-        _ => false,
-    }
-}
-
 // The form of a pair of these.
 #[inline(always)]
 fn pair_form(left: Form, right: Form) -> Form
     ensures { result ≡ taking.pair_form left right }
 {
-    if is_normal(left) && is_normal(right) && !are_one_leaf(left, right) {
-        Form::Pair
-    } else {
-        Form::NotNormal
+    match (left, right) {
+        (Form::NotNormal, _) | (_, Form::NotNormal) => Form::NotNormal,
+        (Form::Zero, Form::Zero) | (Form::One, Form::One) => Form::NotNormal,
+        _ => Form::Pair,
     }
 }
 

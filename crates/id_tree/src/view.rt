@@ -1,6 +1,7 @@
 //! A read-only look at an id from outside of this crate, one level at a time.
 
-ghost use Rattle.std.specs.Prelude.{◌≡◌};
+ghost use Rattle.std.specs.Prelude.{◌≡◌, ◌↔◌, IsTrue};
+ghost use Rattle.id_tree.specs.IdTree.{Zero};
 ghost use Rattle.id_tree.specs.View.{Shows};
 ghost use Rattle.id_tree.specs.Marks.{tree_of};
 
@@ -53,6 +54,16 @@ impl<'a> IdView<'a> {
                 IdPart::Halves(IdView { marks: halves }, IdView { marks: right })
             }
             _ => IdPart::Nothing,
+        }
+    }
+
+    /// Whether nothing is owned there. It reads one mark, where a look at the halves seeks the end of the left one.
+    pub fn is_nothing(&self) -> bool
+        ensures { IsTrue result ↔ (self.now ≡ Zero) }
+    {
+        match self.marks.first() {
+            None | Some(Mark::Zero) => true,
+            Some(Mark::One | Mark::Pair) => false,
         }
     }
 }

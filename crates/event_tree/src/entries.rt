@@ -77,6 +77,16 @@ pub fn copied(alloc: Global, entries: &[Entry]) -> Result<Entries, AllocError>
     Ok(SmallVec::from_vec(block))
 }
 
+// Gives back room that is not used, where that is more than a quarter.
+pub fn fit(out: &mut Entries)
+    ensures { out.new.items ≡ out.old.items }
+{
+    let room = out.capacity();
+    if out.len() < room - room / 4 {
+        out.shrink_to_fit();
+    }
+}
+
 // Whether both are the same.
 pub fn are_same(entries: &[Entry], others: &[Entry]) -> bool
     ensures { IsTrue result ↔ (entries.now ≡ others.now) }

@@ -1,5 +1,6 @@
-//! The join and the meet of two event trees, each in one pass over both. A join goes over all of both, so its room is made first; a meet
-//! passes over what is greater everywhere, however large that is, so its list grows.
+//! The join and the meet of two event trees, each in one pass over both. A join goes over all of both, so it is written by place into
+//! room for both; where one tree is much smaller most of the other one is copied as it is, so a list grows. A meet has no more entries
+//! than the larger tree where it copies, and passes over what is greater everywhere, however large that is: its list grows as well.
 
 ghost use Rattle.std.specs.Prelude.{◌≡◌, ◌+◌, ◌<◌, ◌≤◌, ◌^◌, ◌++◌, length, IsTrue, IfOk, OnOk};
 ghost use Rattle.event_tree.specs.EventTree.{Leaf};
@@ -15,6 +16,7 @@ use crate::entries::{self, Entries, Entry};
 use crate::node::Node;
 use crate::part::{EventPart, EventView};
 use crate::written::{put_leaf, put_leaves, put_lifted};
+use smallvec::SmallVec;
 use std::alloc::{AllocError, Global};
 
 /// Which of two values is taken at a point.
@@ -185,8 +187,8 @@ fn joined_by(
     Ok(Node::of(out))
 }
 
-// The join, in normal form, by way of room for both.
-fn joined_in_room(alloc: Global, e: EventView, f: EventView) -> Result<Node, AllocError>
+// The join, in normal form, in a block with room for both, which stays as the block of the join.
+fn joined_in_block(alloc: Global, e: EventView, f: EventView) -> Result<Node, AllocError>
     requires e_fits { greatest e < 2 ^ 32 }
     requires e_normal { IsNormal e }
     requires f_fits { greatest f < 2 ^ 32 }
@@ -195,15 +197,106 @@ fn joined_in_room(alloc: Global, e: EventView, f: EventView) -> Result<Node, All
 {
     let entries = e.entries();
     let others = f.entries();
-    if entries.len() + others.len() <= FEW + 1 {
-        let mut few = [Entry::default(); FEW];
-        return joined_by(alloc, &mut few, e, f);
-    }
     // What stands in the room does not count, and a copy of both makes it at once.
     let mut room = Vec::with_capacity(alloc, entries.len() + others.len())?;
     room.extend_from_slice(entries)?;
     room.extend_from_slice(others)?;
-    joined_by(alloc, room.as_mut_slice(), e, f)
+    let mut out = SmallVec::from_vec(room);
+    let stop = joined_into(out.as_mut_slice(), 0, 0, e, 0, f)?;
+    out.truncate(stop);
+    entries::fit(&mut out);
+    Ok(Node::of(out))
+}
+
+// The join, in normal form, by way of room for both. Of few entries it takes no memory.
+fn joined_in_room(alloc: Global, e: EventView, f: EventView) -> Result<Node, AllocError>
+    requires e_fits { greatest e < 2 ^ 32 }
+    requires e_normal { IsNormal e }
+    requires f_fits { greatest f < 2 ^ 32 }
+    requires f_normal { IsNormal f }
+    ensures { IfOk result (λ node. node ≡ walks.combined_from Pick.Greater 0 e.entry 0 f.entry) }
+{
+    if e.entries().len() + f.entries().len() <= FEW + 1 {
+        let mut few = [Entry::default(); FEW];
+        return joined_by(alloc, &mut few, e, f);
+    }
+    joined_in_block(alloc, e, f)
+}
+
+// ---- the join with a much smaller tree
+
+// Appends `f` above the base `y` with `k` in place of each lesser value, in normal form.
+fn raised_onto(out: &mut Entries, k: u32, y: u32, f: EventView) -> Result<(), AllocError>
+    requires fits { y + greatest f < 2 ^ 32 }
+    requires normal { IsNormal f }
+    ensures { OnOk result (out.new.items ≡ out.old.items ++ preorder (walks.clipped Pick.Greater k y f.entry)) }
+{
+    if k <= y + f.root() {
+        return f.append_lifted(out, y);
+    }
+    match f.part() {
+        EventPart::Leaf(n) => entries::push_leaf(out, Pick::Greater.of(k, y + n)),
+        EventPart::Node(n, c, d) => {
+            let start = out.len();
+            entries::push(out, Entry::default())?;
+            raised_onto(out, k, y + n, c)?;
+            let middle = out.len();
+            raised_onto(out, k, y + n, d)?;
+            close(out, 0, start, middle)
+        }
+    }
+}
+
+// Appends the greater of `e` above the base `x` and `f` above the base `y`, in normal form.
+fn joined_onto(
+    out: &mut Entries,
+    x: u32,
+    e: EventView,
+    y: u32,
+    f: EventView,
+) -> Result<(), AllocError>
+    requires e_fits { x + greatest e < 2 ^ 32 }
+    requires e_normal { IsNormal e }
+    requires f_fits { y + greatest f < 2 ^ 32 }
+    requires f_normal { IsNormal f }
+    ensures { OnOk result (out.new.items ≡ out.old.items ++ preorder (walks.combined_from Pick.Greater x e.entry y f.entry)) }
+{
+    match e.part() {
+        EventPart::Leaf(m) => raised_onto(out, x + m, y, f),
+        EventPart::Node(m, a, b) => match f.part() {
+            EventPart::Leaf(n) => raised_onto(out, y + n, x, e),
+            EventPart::Node(n, c, d) => {
+                let start = out.len();
+                entries::push(out, Entry::default())?;
+                joined_onto(out, x + m, a, y + n, c)?;
+                let middle = out.len();
+                joined_onto(out, x + m, b, y + n, d)?;
+                close(out, 0, start, middle)
+            }
+        },
+    }
+}
+
+// Whether one tree is much smaller than the other.
+#[inline(always)]
+fn is_much_smaller(e: &EventView, f: &EventView) -> bool {
+    let one = e.entries().len();
+    let other = f.entries().len();
+    one.min(other) < one.max(other) / 4
+}
+
+// The join, in normal form, by way of a list with room for both. Most of what is copied needs no other room then.
+fn joined_in_list(alloc: Global, e: EventView, f: EventView) -> Result<Node, AllocError>
+    requires e_fits { greatest e < 2 ^ 32 }
+    requires e_normal { IsNormal e }
+    requires f_fits { greatest f < 2 ^ 32 }
+    requires f_normal { IsNormal f }
+    ensures { IfOk result (λ node. node ≡ walks.combined_from Pick.Greater 0 e.entry 0 f.entry) }
+{
+    let mut out = entries::with_room(alloc, e.entries().len() + f.entries().len())?;
+    joined_onto(&mut out, 0, e, 0, f)?;
+    entries::fit(&mut out);
+    Ok(Node::of(out))
 }
 
 // Whether `e` is a leaf at or below `f` everywhere: the least value of that, in normal form, stands at its root.
@@ -238,6 +331,9 @@ pub fn joined(alloc: Global, e: EventView, f: EventView) -> Result<Node, AllocEr
     }
     if is_leaf_below(&f, &e) {
         return copied(alloc, e);
+    }
+    if is_much_smaller(&e, &f) {
+        return joined_in_list(alloc, e, f);
     }
     joined_in_room(alloc, e, f)
 }

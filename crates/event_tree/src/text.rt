@@ -170,12 +170,25 @@ fn put_text(e: &EventView, out: &mut [u8], start: usize) -> usize
     }
 }
 
+// Appends the text of a leaf, by way of a few bytes: its length need not be known first.
+fn append_number(n: u32, out: &mut Vec<u8>) -> Result<(), AllocError>
+    ensures ok { OnOk result (out.new.items ≡ out.old.items ++ decimal n) }
+    ensures err { OnErr result (out.new.items ≡ out.old.items) }
+{
+    let mut digits: [u8; 10] = [0; 10];
+    let stop = put_number(n, &mut digits, 0);
+    out.extend_from_slice(digits.split_at(stop).0)
+}
+
 // Appends the text. On a refused growth `out` is as it was.
 pub fn append_text(e: &EventView, out: &mut Vec<u8>) -> Result<(), AllocError>
     requires { depth e.now ≤ depth_limit }
     ensures ok { OnOk result (out.new.items ≡ out.old.items ++ spelling e.now) }
     ensures err { OnErr result (out.new.items ≡ out.old.items) }
 {
+    if let Some(n) = e.leaf() {
+        return append_number(n, out);
+    }
     let start = out.len();
     let length = text_length(e);
     out.reserve(length)?;

@@ -32,6 +32,9 @@ pub everything_kept : (i : IdTree) (e : EventTree) → i ≡ One → restricted_
 everything_kept i (Leaf n) is = let same : n + 0 ≡ n = omega arith in rw is (ap Leaf same)
 everything_kept i (Node n a b) is = let same : n + 0 ≡ n = omega arith in rw is (ap (λ (m : ℕ). Node m a b) same)
 
+pub nothing_owned : (i : IdTree) (e : EventTree) → i ≡ Zero → restricted_from i 0 e ≡ Leaf value_limit
+nothing_owned i e is = rw is refl
+
 -- ---- of any id
 
 value_owned : (i : IdTree) (x : ℕ) (e : EventTree) (p : Point) → owns i p ≡ true → value_at (restricted_from i x e) p ≡ x + value_at e p

@@ -58,13 +58,17 @@ fn owns_everything(id: &Id) -> bool
     id.size() == 1 && id.owns_any()
 }
 
-// The tree where the id owns, and the limit elsewhere. Most ids own one part alone. Where that is everything, nothing stands beside it.
+// The tree where the id owns, and the limit elsewhere. Most ids own one part alone. Where that is everything, nothing stands beside it,
+// and where it is nothing, nothing else.
 pub fn restricted(alloc: Global, id: &Id, e: &Node) -> Result<Node, AllocError>
     requires { greatest e.now < 2 ^ 32 }
     ensures { IfOk result (λ node. node ≡ walks.restricted_from id.now 0 e.now) }
 {
     if owns_everything(id) {
         return e.copy(alloc);
+    }
+    if id.view().is_nothing() {
+        return Ok(Node::leaf(alloc, u32::MAX));
     }
     let size = id.size();
     match id.only_way() {
@@ -85,7 +89,18 @@ fn restricted_by_halves(
 {
     let mut out = room_beside(alloc, size)?;
     restricted_into(&mut out, id, 0, e)?;
+    leave_room(&mut out);
     Ok(Node::of(out))
+}
+
+// Gives the room back where there are so few entries that a list holds them itself: much of what stands beside may be one leaf in the end.
+#[inline(always)]
+fn leave_room(out: &mut Entries)
+    ensures { out.new.items ≡ out.old.items }
+{
+    if out.len() <= INLINE {
+        out.shrink_to_fit();
+    }
 }
 
 // No entries, and room for what stands beside an id of this size: mostly one for each of its nodes and leaves, and some more where

@@ -8,9 +8,9 @@ use Rattle.event_tree.proofs.restricted.restricted_by_halves.Goals as goal
 pub of-requires : goal.of-requires
 of-requires c =
     let t = restricted_from c.args.id 0 c.args.e in
-    is_preorder _ t (c.in_ok-restricted_into.ensures ∙ ap (λ (es : List Entry). es ++ preorder t) c.in_ok-out.ensures.items)
+    is_preorder _ t (c.leave_room.ensures ∙ c.in_ok-restricted_into.ensures ∙ ap (λ (es : List Entry). es ++ preorder t) c.in_ok-out.ensures.items)
 
 pub returns : goal.returns
 returns c =
     let t = restricted_from c.args.id 0 c.args.e in
-    c.of.ensures ∙ tree_of_preorder _ t (c.in_ok-restricted_into.ensures ∙ ap (λ (es : List Entry). es ++ preorder t) c.in_ok-out.ensures.items)
+    c.of.ensures ∙ tree_of_preorder _ t (c.leave_room.ensures ∙ c.in_ok-restricted_into.ensures ∙ ap (λ (es : List Entry). es ++ preorder t) c.in_ok-out.ensures.items)

@@ -242,6 +242,9 @@ fn filled(alloc: Global, id: &IdView, e: &EventView) -> Result<Node, AllocError>
     requires fits { greatest e.now < 2 ^ 32 }
     ensures { IfOk result (λ node. node ≡ walks.filled id.now e.now) }
 {
+    if let IdPart::Everything = id.part() {
+        return Ok(Node::leaf(alloc, greatest(e)));
+    }
     // What stands in the room does not count, and a copy makes it at once.
     let mut out = entries::copied(alloc, e.entries())?;
     let made = filled_into(out.as_mut_slice(), 0, id, e)?;

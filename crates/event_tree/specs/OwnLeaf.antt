@@ -1,4 +1,5 @@
--- Working definitions: an id that owns one part alone, at which the tree has a leaf.
+-- Working definitions: what a tree has where an id owns one part alone: a leaf at or above the half beside it, a leaf that the way there goes
+-- on below, or what is low, which is a node, or a leaf below the half beside it.
 use Rattle.std.specs.Prelude.{◌≡◌, ◌≤◌, ◌<◌, ◌+◌, ℕ, Bool, true, false, [], ◌∷◌, ⊤}
 use Rattle.id_tree.specs.IdTree.{IdTree}
 use Rattle.id_tree.specs.Points.{Point}

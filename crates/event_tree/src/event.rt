@@ -406,7 +406,7 @@ fn filled_step(alloc: Global, id: &IdView, e: &Node) -> Result<Option<Node>, All
     Ok(Some(tree))
 }
 
-// The same for any id, by walks over it and the tree.
+// The step of an event for any id, by walks over it and the tree.
 fn step_by_walks(alloc: Global, id: &IdView, e: &Node) -> Result<Option<Node>, AllocError>
     requires normal { IsNormalId id.now }
     requires tree_normal { IsNormal e.now }

@@ -1,6 +1,6 @@
 //! The join and the meet of two event trees, each in one pass over both. A join goes over all of both, so it is written by place into
-//! room for both; where one tree is much smaller most of the other one is copied as it is, so a list grows. A meet has no more entries
-//! than the larger tree where it copies, and passes over what is greater everywhere, however large that is: its list grows as well.
+//! room for both; where one tree is much smaller most of the other one is copied as it is, into a list. A meet passes over what is
+//! greater everywhere, however large that is: its list has room for the larger tree, and grows where that is not enough.
 
 ghost use Rattle.std.specs.Prelude.{◌≡◌, ◌+◌, ◌<◌, ◌≤◌, ◌^◌, ◌++◌, length, IsTrue, IfOk, OnOk};
 ghost use Rattle.event_tree.specs.EventTree.{Leaf};

@@ -1,10 +1,8 @@
 -- How the texts of trees are written, and how long they are.
-use Rattle.std.proofs.Common.{◌≡◌, ℕ, ◌+◌, ◌*◌, ◌/◌, ◌%◌, ◌^◌, ◌<◌, ◌≤◌, zero, suc, List, [], ◌∷◌, ◌++◌, length, length-append, take, take_all, refl, ap, ◌∙◌, arith, append_assoc, inl, inr}
+use Rattle.std.proofs.Common.{◌≡◌, ℕ, ◌+◌, ◌*◌, ◌/◌, ◌%◌, ◌^◌, ◌<◌, ◌≤◌, zero, suc, List, [], ◌∷◌, ◌++◌, length, length-append, take, take_all, refl, ap, ◌∙◌, arith, append_assoc}
 use Rattle.std.specs.List.{sum_by}
 use Rattle.std.specs.Fmt.{decimal}
 use Rattle.std.proofs.Math.Nat.{one-le-pow}
-use Rattle.std.specs.Prelude.{nat_le}
-use Rattle.std.proofs.lemmas.Bool.{cases_Bool, leb-true, leb-false}
 use Rattle.std.proofs.lemmas.Fmt.{decimal_digit, decimal_step}
 use Rattle.std.proofs.lemmas.List.Sums.{sum_by-append, sum_by-cons}
 use Rattle.event_tree.specs.EventTree.{EventTree, Leaf, Node}
@@ -55,15 +53,6 @@ digits_between zero n low high small = one_digit n (omega arith)
 digits_between (suc k) n low high small =
     let some : 1 ≤ 10 ^ k = one-le-pow k 10 (omega arith) in
     one_digit_more n (omega arith) small ∙ omega (arith, digits_between k (n / 10) (omega arith) (omega arith) (omega arith))
-
--- and below a power of ten they are no more than it has noughts
-pub digits_most : (k n : ℕ) → n < 10 ^ suc k → n < 2 ^ 64 → length (decimal n) ≤ suc k
-digits_most zero n h small = omega (arith, one_digit n (omega arith))
-digits_most (suc k) n h small =
-    elim (cases_Bool (nat_le 10 n)) [
-      | inl some ↦ omega (arith, one_digit_more n (leb-true 10 n some) small, digits_most k (n / 10) (omega arith) (omega arith))
-      | inr none ↦ omega (arith, one_digit n (leb-false 10 n none))
-    ]
 
 -- ---- how long a text is
 

@@ -1,6 +1,6 @@
 //! The entries that a tree is kept as: its nodes and leaves in preorder, each with its value and the size of its part.
 
-ghost use Rattle.std.specs.Prelude.{◌≡◌, ◌↔◌, ◌≤◌, ◌<◌, ◌++◌, ◌∷◌, [], IsTrue, IsOk, IfOk, OnOk, length, replicate, slice_index_or};
+ghost use Rattle.std.specs.Prelude.{◌≡◌, ◌↔◌, ◌≤◌, ◌<◌, ◌++◌, ◌∷◌, [], IsTrue, IsOk, IfOk, OnOk, length, take, replicate, slice_index_or};
 ghost use Rattle.std.proofs.Common.{set};
 ghost use Rattle.event_tree.specs.EventTree.{Leaf};
 ghost use Rattle.event_tree.specs.Entries.{blank, preorder};
@@ -75,6 +75,19 @@ pub fn copied(alloc: Global, entries: &[Entry]) -> Result<Entries, AllocError>
     }
     let block = Vec::from_slice(alloc, entries)?;
     Ok(SmallVec::from_vec(block))
+}
+
+// So many of these entries, the first ones: in the block that they have, or in one of their own where they take less than three quarters.
+pub fn first_of(alloc: Global, out: Entries, count: usize) -> Result<Entries, AllocError>
+    requires { count ≤ length out.items }
+    ensures { IfOk result (λ entries. entries.items ≡ take count out.items) }
+{
+    let mut out = out;
+    if count < out.len() - out.len() / 4 {
+        return copied(alloc, out.as_slice().split_at(count).0);
+    }
+    out.truncate(count);
+    Ok(out)
 }
 
 // Gives back room that is not used, where that is more than a quarter.

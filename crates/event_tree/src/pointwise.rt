@@ -1,6 +1,6 @@
 //! The join and the meet of two event trees, each in one pass over both. A join goes over all of both, so it is written by place into
-//! room for both; where one tree is much smaller most of the other one is copied as it is, into a list. A meet passes over what is
-//! greater everywhere, however large that is: its list has room for the larger tree, and grows where that is not enough.
+//! room for both; where most of it is copied as it is, it grows in a list. A meet passes over what is greater everywhere, however large
+//! that is: its list has room for the larger tree, and grows where that is not enough.
 
 ghost use Rattle.std.specs.Prelude.{◌≡◌, ◌+◌, ◌<◌, ◌≤◌, ◌^◌, ◌++◌, length, IsTrue, IfOk, OnOk};
 ghost use Rattle.event_tree.specs.EventTree.{Leaf};
@@ -39,6 +39,9 @@ impl Pick {
 
 // For how many entries a join has room without memory. It has one less than both trees at most.
 const FEW: usize = 16;
+
+// How many levels are looked at, at most, to see whether a join mostly copies.
+const DEPTH: usize = 40;
 
 // ---- the join
 
@@ -187,7 +190,7 @@ fn joined_by(
     Ok(Node::of(out))
 }
 
-// The join, in normal form, in a block with room for both, which stays as the block of the join.
+// The join, in normal form, in a block with room for both, which stays as the block of the join where it is mostly full.
 fn joined_in_block(alloc: Global, e: EventView, f: EventView) -> Result<Node, AllocError>
     requires e_fits { greatest e < 2 ^ 32 }
     requires e_normal { IsNormal e }
@@ -203,27 +206,11 @@ fn joined_in_block(alloc: Global, e: EventView, f: EventView) -> Result<Node, Al
     room.extend_from_slice(others)?;
     let mut out = SmallVec::from_vec(room);
     let stop = joined_into(out.as_mut_slice(), 0, 0, e, 0, f)?;
-    out.truncate(stop);
-    entries::fit(&mut out);
-    Ok(Node::of(out))
+    let made = entries::first_of(alloc, out, stop)?;
+    Ok(Node::of(made))
 }
 
-// The join, in normal form, by way of room for both. Of few entries it takes no memory.
-fn joined_in_room(alloc: Global, e: EventView, f: EventView) -> Result<Node, AllocError>
-    requires e_fits { greatest e < 2 ^ 32 }
-    requires e_normal { IsNormal e }
-    requires f_fits { greatest f < 2 ^ 32 }
-    requires f_normal { IsNormal f }
-    ensures { IfOk result (λ node. node ≡ walks.combined_from Pick.Greater 0 e.entry 0 f.entry) }
-{
-    if e.entries().len() + f.entries().len() <= FEW + 1 {
-        let mut few = [Entry::default(); FEW];
-        return joined_by(alloc, &mut few, e, f);
-    }
-    joined_in_block(alloc, e, f)
-}
-
-// ---- the join with a much smaller tree
+// ---- the join that mostly takes parts as they are
 
 // Appends `f` above the base `y` with `k` in place of each lesser value, in normal form.
 fn raised_onto(out: &mut Entries, k: u32, y: u32, f: EventView) -> Result<(), AllocError>
@@ -277,15 +264,69 @@ fn joined_onto(
     }
 }
 
-// Whether one tree is much smaller than the other.
+// Whether `e` above the base `x` is a node at or above the leaf that `f` above the base `y` is.
 #[inline(always)]
-fn is_much_smaller(e: &EventView, f: &EventView) -> bool {
-    let one = e.entries().len();
-    let other = f.entries().len();
-    one.min(other) < one.max(other) / 4
+fn is_node_above(x: u32, e: &EventView, y: u32, f: &EventView) -> bool {
+    match f.leaf() {
+        Some(n) => e.entries().len() > 1 && y.wrapping_add(n) <= x.wrapping_add(e.root()),
+        None => false,
+    }
 }
 
-// The join, in normal form, by way of a list with room for both. Most of what is copied needs no other room then.
+// How many entries a join takes as they are, where it takes a node so, beside a leaf.
+#[inline(always)]
+fn taken(x: u32, e: &EventView, y: u32, f: &EventView) -> usize {
+    if is_node_above(x, e, y, f) {
+        return e.entries().len();
+    }
+    if is_node_above(y, f, x, e) {
+        return f.entries().len();
+    }
+    0
+}
+
+// Whether a join takes most entries as they are: on the way down those of one half of each pair of nodes, or of both, until few are left.
+fn is_mostly_taken(e: EventView, f: EventView) -> bool {
+    let all = e.entries().len().wrapping_add(f.entries().len());
+    let few = all / 8 + 4;
+    let mut e = e;
+    let mut f = f;
+    let mut x: u32 = 0;
+    let mut y: u32 = 0;
+    let mut others = all;
+    for _ in 0..DEPTH {
+        let (m, a, b) = e.halves();
+        let (n, c, d) = f.halves();
+        x = x.wrapping_add(m);
+        y = y.wrapping_add(n);
+        let one = taken(x, &a, y, &c);
+        let two = taken(x, &b, y, &d);
+        others = others.wrapping_sub(one).wrapping_sub(two);
+        if one > 0 && two > 0 {
+            return others <= few;
+        }
+        if one == 0 && two == 0 {
+            return false;
+        }
+        if one > 0 {
+            e = b;
+            f = d;
+        } else {
+            e = a;
+            f = c;
+        }
+        let left = e.entries().len().wrapping_add(f.entries().len());
+        if others.wrapping_sub(left) > few {
+            return false;
+        }
+        if left <= few {
+            return true;
+        }
+    }
+    false
+}
+
+// The join, in normal form, by way of a list with room for both, where most is copied as it is.
 fn joined_in_list(alloc: Global, e: EventView, f: EventView) -> Result<Node, AllocError>
     requires e_fits { greatest e < 2 ^ 32 }
     requires e_normal { IsNormal e }
@@ -297,6 +338,26 @@ fn joined_in_list(alloc: Global, e: EventView, f: EventView) -> Result<Node, All
     joined_onto(&mut out, 0, e, 0, f)?;
     entries::fit(&mut out);
     Ok(Node::of(out))
+}
+
+// ---- any join
+
+// The join, in normal form, by way of room for both. Of few entries it takes no memory.
+fn joined_in_room(alloc: Global, e: EventView, f: EventView) -> Result<Node, AllocError>
+    requires e_fits { greatest e < 2 ^ 32 }
+    requires e_normal { IsNormal e }
+    requires f_fits { greatest f < 2 ^ 32 }
+    requires f_normal { IsNormal f }
+    ensures { IfOk result (λ node. node ≡ walks.combined_from Pick.Greater 0 e.entry 0 f.entry) }
+{
+    if e.entries().len() + f.entries().len() <= FEW + 1 {
+        let mut few = [Entry::default(); FEW];
+        return joined_by(alloc, &mut few, e, f);
+    }
+    if is_mostly_taken(e.again(), f.again()) {
+        return joined_in_list(alloc, e, f);
+    }
+    joined_in_block(alloc, e, f)
 }
 
 // Whether `e` is a leaf at or below `f` everywhere: the least value of that, in normal form, stands at its root.
@@ -331,9 +392,6 @@ pub fn joined(alloc: Global, e: EventView, f: EventView) -> Result<Node, AllocEr
     }
     if is_leaf_below(&f, &e) {
         return copied(alloc, e);
-    }
-    if is_much_smaller(&e, &f) {
-        return joined_in_list(alloc, e, f);
     }
     joined_in_room(alloc, e, f)
 }

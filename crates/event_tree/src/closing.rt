@@ -142,3 +142,21 @@ pub fn raise_owned(
         entries::put(out, middle, Entry { value, size: 1 });
     }
 }
+
+// The same in a list, at whose end both halves stand.
+pub fn raise_at_end(
+    out: &mut Entries,
+    left_whole: bool,
+    right_whole: bool,
+    start: usize,
+    middle: usize,
+)
+    requires begins { start + 1 < middle }
+    requires within { middle < length out.old.items }
+    ensures { (l r : IdTree) (front : List Entry) (e : Entry) (a b : EventTree) → (IsTrue left_whole ↔ (l ≡ One)) → (IsTrue right_whole ↔ (r ≡ One))
+        → length front ≡ start → middle ≡ start + 1 + size a → AreFilled l r a b
+        → out.old.items ≡ front ++ e ∷ (preorder a ++ preorder b)
+        → out.new.items ≡ front ++ e ∷ (preorder (left_raised l r a b) ++ preorder (right_raised l r a b)) }
+{
+    raise_owned(out.as_mut_slice(), left_whole, right_whole, start, middle);
+}

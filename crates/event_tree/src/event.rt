@@ -235,6 +235,42 @@ fn grown(alloc: Global, id: &IdView, e: &EventView) -> Result<Option<Node>, Allo
     }
 }
 
+// Appends the tree, filled, and says whether all of it is owned. Where the id owns one part alone most of the tree stays as it is.
+fn filled_onto(out: &mut Entries, id: &IdView, e: &EventView) -> Result<bool, AllocError>
+    requires normal { IsNormalId id.now }
+    requires tree_normal { IsNormal e.now }
+    requires fits { greatest e.now < 2 ^ 32 }
+    ensures filled { IfOk result (λ whole. out.new.items ≡ out.old.items ++ preorder (walks.filled id.now e.now)) }
+    ensures whole { IfOk result (λ whole. IsTrue whole ↔ (id.now ≡ One)) }
+{
+    match id.part() {
+        IdPart::Nothing => {
+            e.append(out)?;
+            Ok(false)
+        }
+        IdPart::Everything => {
+            entries::push_leaf(out, greatest(e))?;
+            Ok(true)
+        }
+        IdPart::Halves(l, r) => match e.part() {
+            EventPart::Leaf(n) => {
+                entries::push_leaf(out, n)?;
+                Ok(false)
+            }
+            EventPart::Node(n, a, b) => {
+                let start = out.len();
+                entries::push(out, Entry::default())?;
+                let one = filled_onto(out, &l, &a)?;
+                let middle = out.len();
+                let other = filled_onto(out, &r, &b)?;
+                closing::raise_at_end(out, one, other, start, middle);
+                closing::close(out, n, start, middle)?;
+                Ok(false)
+            }
+        },
+    }
+}
+
 // The tree, filled.
 fn filled(alloc: Global, id: &IdView, e: &EventView) -> Result<Node, AllocError>
     requires normal { IsNormalId id.now }
@@ -245,10 +281,8 @@ fn filled(alloc: Global, id: &IdView, e: &EventView) -> Result<Node, AllocError>
     if let IdPart::Everything = id.part() {
         return Ok(Node::leaf(alloc, greatest(e)));
     }
-    // What stands in the room does not count, and a copy makes it at once.
-    let mut out = entries::copied(alloc, e.entries())?;
-    let made = filled_into(out.as_mut_slice(), 0, id, e)?;
-    out.truncate(made.stop);
+    let mut out = entries::with_room(alloc, e.entries().len())?;
+    filled_onto(&mut out, id, e)?;
     Ok(Node::of(out))
 }
 

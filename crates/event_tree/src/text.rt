@@ -10,6 +10,7 @@ ghost use Rattle.event_tree.specs.Pieces.{closing, turned, piece, behind, pieces
 
 use crate::entries::Entry;
 use crate::part::{EventPart, EventView};
+use itoa::Buffer;
 use std::alloc::AllocError;
 
 // How many digits a number of more than one digit has beside its first.
@@ -170,14 +171,13 @@ fn put_text(e: &EventView, out: &mut [u8], start: usize) -> usize
     }
 }
 
-// Appends the text of a leaf, by way of a few bytes: its length need not be known first.
+// Appends the text of a leaf, whose length need not be known first.
 fn append_number(n: u32, out: &mut Vec<u8>) -> Result<(), AllocError>
     ensures ok { OnOk result (out.new.items ≡ out.old.items ++ decimal n) }
     ensures err { OnErr result (out.new.items ≡ out.old.items) }
 {
-    let mut digits: [u8; 10] = [0; 10];
-    let stop = put_number(n, &mut digits, 0);
-    out.extend_from_slice(digits.split_at(stop).0)
+    let mut buffer = Buffer::new();
+    out.extend_from_slice(buffer.format(n).as_bytes())
 }
 
 // Appends the text. On a refused growth `out` is as it was.

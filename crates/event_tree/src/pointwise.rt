@@ -334,7 +334,8 @@ fn joined_in_list(alloc: Global, e: EventView, f: EventView) -> Result<Node, All
     requires f_normal { IsNormal f }
     ensures { IfOk result (λ node. node ≡ walks.combined_from Pick.Greater 0 e.entry 0 f.entry) }
 {
-    let mut out = entries::with_room(alloc, e.entries().len() + f.entries().len())?;
+    let room = e.entries().len().max(f.entries().len());
+    let mut out = entries::with_room(alloc, room)?;
     joined_onto(&mut out, 0, e, 0, f)?;
     entries::fit(&mut out);
     Ok(Node::of(out))

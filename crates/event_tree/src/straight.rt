@@ -9,7 +9,7 @@ ghost use Rattle.event_tree.specs.Entries.{blank};
 ghost use Rattle.event_tree.specs.Taking.{IsBegun, IsLeafTaken, IsClosed, HasTreeRead, AreClosed, IsHalted, Reaches, IsWidened, IsWhole};
 ghost use Rattle.event_tree.specs.Taking as taking;
 
-use crate::entries::{Entries, Entry, INLINE, repeated};
+use crate::entries::{Entries, Entry, INLINE};
 use crate::node::Node;
 use smallvec::SmallVec;
 use std::alloc::{AllocError, Global};
@@ -17,13 +17,7 @@ use std::alloc::{AllocError, Global};
 /// Where the halves that are read (`Around`) come to this number, 40 nodes are open, and none may be begun in them.
 const TOO_DEEP: u64 = 1 << 41;
 
-/// A text that is no longer has at most 3 nodes and 4 leaves.
-const SHORTEST: usize = 24;
-
-/// The brackets of a text that is longer than that, and no longer than this, are counted first.
-const SHORT: usize = 128;
-
-/// How many bytes are looked at, at least, where brackets of a longer one are counted.
+/// How many bytes are looked at, at least, where brackets are counted.
 const LEAST_SEEN: usize = 512;
 
 /// How many bytes of a text each node takes at least: `(0,,)`, and a digit, since there is a leaf more than nodes.
@@ -393,32 +387,25 @@ fn read_leaf(alloc: Global, text: &[u8]) -> Option<Node>
     }
 }
 
-// How much room there is at first: for a short text as much as it needs, and for a longer or a very short one what takes no memory.
-// There is no answer where it has more brackets than any tree's.
-fn first_room(text: &[u8]) -> Option<usize>
-    ensures { IfSome result (λ room. room < 2 ^ 32) }
+// The room that there is at first, which takes no memory.
+#[inline(always)]
+fn first_room(alloc: Global) -> Entries
+    ensures { result.items ≡ replicate 8 blank }
 {
-    if text.len() > SHORT || text.len() <= SHORTEST {
-        return Some(INLINE);
-    }
-    let count = count_entries(text, text.len())?;
-    Some(count.min(2 * SHORT + 1))
+    SmallVec::from_buf_and_len(alloc, [Entry::default(); INLINE], INLINE)
 }
 
 // The tree that the whole text spells.
 fn read_node(alloc: Global, text: &[u8]) -> Option<Node>
     ensures { IfSome result (λ node. IsEvents node × (text.now ≡ spelling node)) }
 {
-    let room = first_room(text)?;
-    let Ok(mut entries) = repeated(alloc, room, Entry::default()) else {
-        return None;
-    };
+    let mut entries = first_room(alloc);
     let end = take_all(alloc, text, &mut entries)?;
     entries.truncate(end);
     Some(Node::of(entries))
 }
 
-// Whether a node may begin so: with a bracket and a number, and most have one of one digit and then a part.
+// Whether a node may begin so: with a bracket, a number and a comma. Most numbers have one digit, behind which a part is looked for, too.
 #[inline(always)]
 fn may_begin(text: &[u8]) -> bool {
     match text {
@@ -426,7 +413,7 @@ fn may_begin(text: &[u8]) -> bool {
             base.is_ascii_digit() && (*part == b'(' || part.is_ascii_digit())
         }
         [b'(', b'0', ..] => false,
-        [b'(', base, digit, ..] => base.is_ascii_digit() && digit.is_ascii_digit(),
+        [b'(', _, ..] => take_base(text).is_some(),
         _ => false,
     }
 }

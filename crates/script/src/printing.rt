@@ -1,6 +1,6 @@
 //! What a script prints, line by line.
 
-ghost use Rattle.std.specs.Prelude.{◌≡◌, ◌≢◌, ◌+◌, ◌<◌, ◌++◌, List, [], All, OnOk, OnErr, IfOk};
+ghost use Rattle.std.specs.Prelude.{◌≡◌, ◌≢◌, ◌+◌, ◌<◌, ◌++◌, ◌∷◌, List, [], All, OnOk, OnErr, IfOk};
 ghost use Rattle.report_line.specs.Cutting.{ended};
 ghost use Rattle.report_line.specs.Spelling.{spelling};
 ghost use Rattle.report_line.specs.declared.call.Call.{Call};
@@ -197,6 +197,18 @@ fn may_wait(printout: &Printout, report: &PackedReport) -> bool {
     known < PROCESS_LIMIT || !is_birth(report)
 }
 
+// Appends a report that waits. The room grows by an eighth, so that it is never much more than what waits takes.
+fn put_waiting(pending: &mut Vec<MarkedReport>, report: MarkedReport) -> Result<(), AllocError>
+    ensures { OnOk result (pending.new.items ≡ pending.old.items ++ report ∷ []) }
+{
+    let count = pending.len();
+    if count == pending.capacity() {
+        pending.reserve_exact(count / 8 + 32)?;
+    }
+    pending.push(report)?;
+    Ok(())
+}
+
 // Prints a report, which waits for its turn on the chains.
 fn print_waiting(
     alloc: Global,
@@ -210,7 +222,7 @@ fn print_waiting(
     let line = report_line(alloc, epoch, &report)?;
     let births = births_with(printout.births, &report);
     let report = Shared::new(alloc, report)?;
-    printout.pending.push(MarkedReport { epoch, report })?;
+    put_waiting(&mut printout.pending, MarkedReport { epoch, report })?;
     printout.births = births;
     add_line(&mut printout.text, &mut printout.lines, &line)
 }

@@ -20,7 +20,7 @@ use Rattle.std.proofs.Math.Seq.{take-append_seam}
 use Rattle.event_tree.proofs.Preorder.{length_preorder, some_size}
 use Rattle.event_tree.proofs.Trees.{root_least, least_le_greatest}
 use Rattle.event_tree.proofs.Normal.{norm-normal, root_le_greatest}
-use Rattle.event_tree.proofs.Fills.{topped, filled_node-topped, IsNormal-filled, greatest_filled, kept_inside}
+use Rattle.event_tree.proofs.Fills.{filled_leaf, topped, filled_node-topped, IsNormal-filled, greatest_filled, kept_inside}
 use Rattle.event_tree.proofs.Closed.{HalvesAt}
 use Rattle.event_tree.proofs.Places.{written_both, EndsInNode, refilled}
 
@@ -171,6 +171,10 @@ are_made n start one other old between now l r a b hi he f room x y = record {
   first_made = x;
   second_made = y;
 }
+
+-- a leaf that stays
+pub made_leaf : (i : IdTree) (n : ℕ) (old new : List Entry) (start stop : ℕ) (whole : Bool) → (IsTrue whole ↔ (i ≡ One)) → IsWritten old new start stop (Leaf n) → stop ≡ start + 1 → IsMade i (Leaf n) old new start (record { stop = stop; whole = whole })
+made_leaf i n old new start stop whole told w next = record { written = rw (filled_leaf i n) w; next = omega (arith, next); whole = told }
 
 -- a leaf in place of what is owned whole
 pub made_whole : (e : EventTree) (old new : List Entry) (start stop g : ℕ) → g ≡ greatest e → IsWritten old new start stop (Leaf g) → stop ≡ start + 1 → IsMade One e old new start (record { stop = stop; whole = true })

@@ -2,7 +2,7 @@
 
 ghost use Rattle.std.specs.Prelude.{◌≡◌, ◌↔◌, ◌≤◌, ◌<◌, ◌++◌, ◌∷◌, [], IsTrue, IsOk, IfOk, OnOk, length, take, replicate, slice_index_or};
 ghost use Rattle.std.proofs.Common.{set};
-ghost use Rattle.event_tree.specs.EventTree.{Leaf};
+ghost use Rattle.event_tree.specs.EventTree.{Leaf, Node};
 ghost use Rattle.event_tree.specs.Entries.{blank, preorder};
 
 use smallvec::SmallVec;
@@ -51,6 +51,18 @@ pub fn with_room(alloc: Global, room: usize) -> Result<Entries, AllocError>
     }
     let block = Vec::with_capacity(alloc, room)?;
     Ok(SmallVec::from_vec(block))
+}
+
+// Makes room for so many entries in a list that has none. Of more than it holds itself they stand in one block from the start.
+pub fn make_room(alloc: Global, out: &mut Entries, room: usize) -> Result<(), AllocError>
+    requires { out.old.items ≡ [] }
+    ensures { OnOk result (out.new.items ≡ []) }
+{
+    if room > INLINE {
+        let block = Vec::with_capacity(alloc, room)?;
+        *out = SmallVec::from_vec(block);
+    }
+    Ok(())
 }
 
 // This entry, so many times.
@@ -134,4 +146,13 @@ pub fn push_leaf(out: &mut Entries, n: u32) -> Result<(), AllocError>
     ensures { OnOk result (out.new.items ≡ out.old.items ++ preorder (Leaf n)) }
 {
     push(out, Entry { value: n, size: 1 })
+}
+
+// Appends a node of two leaves.
+pub fn push_leaf_pair(out: &mut Entries, n: u32, p: u32, q: u32) -> Result<(), AllocError>
+    ensures { OnOk result (out.new.items ≡ out.old.items ++ preorder (Node n (Leaf p) (Leaf q))) }
+{
+    push(out, Entry { value: n, size: 3 })?;
+    push_leaf(out, p)?;
+    push_leaf(out, q)
 }

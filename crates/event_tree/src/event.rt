@@ -1,6 +1,6 @@
 //! The step of an event: fill where that changes the tree, and grow otherwise.
 
-ghost use Rattle.std.specs.Prelude.{◌≡◌, ◌≢◌, ◌+◌, ◌≤◌, ◌<◌, ◌^◌, ◌++◌, ◌↔◌, ℕ, true, false, max, length, IsTrue, IfOk, OnOk, MatchOption};
+ghost use Rattle.std.specs.Prelude.{◌≡◌, ◌≢◌, ◌+◌, ◌≤◌, ◌<◌, ◌^◌, ◌++◌, ◌↔◌, [], ℕ, true, false, max, length, IsTrue, IfOk, OnOk, MatchOption};
 ghost use Rattle.id_tree.specs.IdTree.{Zero, One, Pair};
 ghost use Rattle.id_tree.specs.NormalForm.{IsNormal as IsNormalId, depth as id_depth};
 ghost use Rattle.event_tree.specs.EventTree as trees;
@@ -9,6 +9,7 @@ ghost use Rattle.event_tree.specs.Size.{size};
 ghost use Rattle.event_tree.specs.Entries.{preorder};
 ghost use Rattle.event_tree.specs.Writing.{IsWritten};
 ghost use Rattle.event_tree.specs.Filled.{IsHere, IsMade, AreMade, Tells};
+ghost use Rattle.event_tree.specs.Stepping.{IsFitted, IsStepped};
 ghost use Rattle.event_tree.specs.OwnLeaf.{IsOwnPart};
 ghost use Rattle.event_tree.specs.Event as events;
 ghost use Rattle.event_tree.specs.Walks as walks;
@@ -24,14 +25,29 @@ use id_tree::{Id, IdPart, IdView};
 use smallvec::SmallVec;
 use std::alloc::{AllocError, Global};
 
-// The greatest value.
+// The greatest value. A node of two leaves takes no call more.
 fn greatest(e: &EventView) -> u32
     requires { greatest e.now < 2 ^ 32 }
     ensures { result ≡ greatest e.now }
 {
+    if let Some((n, p, q)) = e.leaf_pair() {
+        return n + p.max(q);
+    }
     match e.part() {
         EventPart::Leaf(n) => n,
         EventPart::Node(n, a, b) => n + greatest(&a).max(greatest(&b)),
+    }
+}
+
+// The same. A leaf takes no call.
+#[inline(always)]
+fn greatest_of(e: &EventView) -> u32
+    requires { greatest e.now < 2 ^ 32 }
+    ensures { result ≡ greatest e.now }
+{
+    match e.leaf() {
+        Some(n) => n,
+        None => greatest(e),
     }
 }
 
@@ -49,20 +65,6 @@ pub enum Look {
     Kept(bool),
     /// It changes it, or the half beside it shall raise it.
     Changed(FilledEnd),
-}
-
-// Writes the entries of `e`. A leaf takes no call.
-#[inline(always)]
-fn put_same(out: &mut [Entry], start: usize, e: EventView) -> usize
-    requires fits { greatest e < 2 ^ 32 }
-    requires room { start + size e ≤ length out.old }
-    ensures written { IsWritten out.old out.new start result e.entry }
-    ensures next { result ≡ start + size e.entry }
-{
-    match e.leaf() {
-        Some(n) => put_leaf(out, start, n),
-        None => put_lifted(out, start, e, 0),
-    }
 }
 
 // Makes one node in normal form, above the base `n`, of two halves that were filled: the one that is owned whole, if one is, is raised
@@ -83,7 +85,7 @@ fn close_filled(
     Ok(FilledEnd { stop, whole: false })
 }
 
-// Writes the tree, filled.
+// Writes the tree, filled. A leaf stays as it is, whatever of it is owned.
 fn filled_into(
     out: &mut [Entry],
     start: usize,
@@ -96,21 +98,21 @@ fn filled_into(
     requires room { start + size e.now ≤ length out.old }
     ensures { IfOk result (λ end. IsMade id.now e.now out.old out.new start end) }
 {
-    match id.part() {
-        IdPart::Nothing => Ok(FilledEnd {
-            stop: put_same(out, start, e.again()),
-            whole: false,
+    match e.part() {
+        EventPart::Leaf(n) => Ok(FilledEnd {
+            stop: put_leaf(out, start, n),
+            whole: id.is_everything(),
         }),
-        IdPart::Everything => Ok(FilledEnd {
-            stop: put_leaf(out, start, greatest(e)),
-            whole: true,
-        }),
-        IdPart::Halves(l, r) => match e.part() {
-            EventPart::Leaf(n) => Ok(FilledEnd {
-                stop: put_leaf(out, start, n),
+        EventPart::Node(n, a, b) => match id.part() {
+            IdPart::Nothing => Ok(FilledEnd {
+                stop: put_lifted(out, start, e.again(), 0),
                 whole: false,
             }),
-            EventPart::Node(n, a, b) => {
+            IdPart::Everything => Ok(FilledEnd {
+                stop: put_leaf(out, start, greatest(e)),
+                whole: true,
+            }),
+            IdPart::Halves(l, r) => {
                 let one = filled_into(out, start + 1, &l, &a)?;
                 let other = filled_into(out, one.stop, &r, &b)?;
                 close_filled(out, n, start, one, other)
@@ -221,18 +223,14 @@ fn grown_into(out: &mut Entries, id: &IdView, base: u32, e: &EventView) -> Resul
     }
 }
 
-// The tree grown at the least cost, or `None` where a value would pass the limit.
-fn grown(alloc: Global, id: &IdView, e: &EventView) -> Result<Option<Node>, AllocError>
+// Writes the tree grown at the least cost; or says that a value would pass the limit.
+fn grown(alloc: Global, out: &mut Entries, id: &IdView, e: &EventView) -> Result<bool, AllocError>
     requires depth { id_depth id.now < 2 ^ 32 }
     requires fits { greatest e.now < 2 ^ 32 }
-    ensures { IfOk result (λ o. MatchOption o (2 ^ 32 ≤ greatest (events.grow id.now e.now)) (λ node. (node ≡ events.grow id.now e.now) × (greatest (events.grow id.now e.now) < 2 ^ 32))) }
+    ensures { IfOk result (λ fits. IsFitted fits (events.grow id.now e.now) out.new.items) }
 {
-    let mut out = entries::with_room(alloc, e.entries().len())?;
-    if grown_into(&mut out, id, 0, e)? {
-        Ok(Some(Node::of(out)))
-    } else {
-        Ok(None)
-    }
+    *out = entries::with_room(alloc, e.entries().len())?;
+    grown_into(out, id, 0, e)
 }
 
 // Appends the tree, filled, and says whether all of it is owned. Where the id owns one part alone most of the tree stays as it is.
@@ -243,21 +241,21 @@ fn filled_onto(out: &mut Entries, id: &IdView, e: &EventView) -> Result<bool, Al
     ensures filled { IfOk result (λ whole. out.new.items ≡ out.old.items ++ preorder (walks.filled id.now e.now)) }
     ensures whole { IfOk result (λ whole. IsTrue whole ↔ (id.now ≡ One)) }
 {
-    match id.part() {
-        IdPart::Nothing => {
-            e.append(out)?;
-            Ok(false)
+    match e.part() {
+        EventPart::Leaf(n) => {
+            entries::push_leaf(out, n)?;
+            Ok(id.is_everything())
         }
-        IdPart::Everything => {
-            entries::push_leaf(out, greatest(e))?;
-            Ok(true)
-        }
-        IdPart::Halves(l, r) => match e.part() {
-            EventPart::Leaf(n) => {
-                entries::push_leaf(out, n)?;
+        EventPart::Node(n, a, b) => match id.part() {
+            IdPart::Nothing => {
+                e.append(out)?;
                 Ok(false)
             }
-            EventPart::Node(n, a, b) => {
+            IdPart::Everything => {
+                entries::push_leaf(out, greatest(e))?;
+                Ok(true)
+            }
+            IdPart::Halves(l, r) => {
                 let start = out.len();
                 entries::push(out, Entry::default())?;
                 let one = filled_onto(out, &l, &a)?;
@@ -271,19 +269,20 @@ fn filled_onto(out: &mut Entries, id: &IdView, e: &EventView) -> Result<bool, Al
     }
 }
 
-// The tree, filled.
-fn filled(alloc: Global, id: &IdView, e: &EventView) -> Result<Node, AllocError>
+// Writes the tree, filled.
+fn filled(alloc: Global, out: &mut Entries, id: &IdView, e: &EventView) -> Result<(), AllocError>
     requires normal { IsNormalId id.now }
     requires tree_normal { IsNormal e.now }
     requires fits { greatest e.now < 2 ^ 32 }
-    ensures { IfOk result (λ node. node ≡ walks.filled id.now e.now) }
+    requires empty { out.old.items ≡ [] }
+    ensures { OnOk result (out.new.items ≡ preorder (walks.filled id.now e.now)) }
 {
-    if let IdPart::Everything = id.part() {
-        return Ok(Node::leaf(alloc, greatest(e)));
+    if id.is_everything() {
+        return entries::push_leaf(out, greatest(e));
     }
-    let mut out = entries::with_room(alloc, e.entries().len())?;
-    filled_onto(&mut out, id, e)?;
-    Ok(Node::of(out))
+    entries::make_room(alloc, out, e.entries().len())?;
+    filled_onto(out, id, e)?;
+    Ok(())
 }
 
 // Whether filling leaves as it is what is owned whole, beside a half with this least value.
@@ -310,7 +309,7 @@ fn begin_filled(
     ensures { IfOk result (λ end. IsMade One e.now (preorder tree.now) out.new.items start end) }
 {
     *out = entries::copied(alloc, tree.entries())?;
-    let stop = put_leaf(out.as_mut_slice(), start, greatest(e));
+    let stop = put_leaf(out.as_mut_slice(), start, greatest_of(e));
     Ok(FilledEnd { stop, whole: true })
 }
 
@@ -429,55 +428,84 @@ fn fill_halves(
 }
 
 // The step where an event fills.
-fn filled_step(alloc: Global, id: &IdView, e: &Node) -> Result<Option<Node>, AllocError>
+fn filled_step(alloc: Global, out: &mut Entries, id: &IdView, e: &Node) -> Result<bool, AllocError>
     requires normal { IsNormalId id.now }
     requires tree_normal { IsNormal e.now }
     requires fits { greatest e.now < 2 ^ 32 }
     requires other { walks.filled id.now e.now ≢ e.now }
-    ensures { IfOk result (λ o. MatchOption o (events.PassesLimit id.now e.now) (λ node. events.IsEventStep id.now e.now node × (greatest node < 2 ^ 32))) }
+    requires empty { out.old.items ≡ [] }
+    ensures { IfOk result (λ fits. IsStepped fits id.now e.now out.new.items) }
 {
-    let tree = filled(alloc, id, &e.view())?;
-    Ok(Some(tree))
+    filled(alloc, out, id, &e.view())?;
+    Ok(true)
 }
 
 // The step of an event for any id, by walks over it and the tree.
-fn step_by_walks(alloc: Global, id: &IdView, e: &Node) -> Result<Option<Node>, AllocError>
+fn step_by_walks(
+    alloc: Global,
+    out: &mut Entries,
+    id: &IdView,
+    e: &Node,
+) -> Result<bool, AllocError>
     requires normal { IsNormalId id.now }
     requires tree_normal { IsNormal e.now }
     requires depth { id_depth id.now < 2 ^ 32 }
     requires fits { greatest e.now < 2 ^ 32 }
-    ensures { IfOk result (λ o. MatchOption o (events.PassesLimit id.now e.now) (λ node. events.IsEventStep id.now e.now node × (greatest node < 2 ^ 32))) }
+    ensures { IfOk result (λ fits. IsStepped fits id.now e.now out.new.items) }
 {
     let view = e.view();
     view.counted();
-    let mut out: Entries = SmallVec::new(alloc);
-    match fill_at(alloc, &mut out, &view, 0, id, &view, 0)? {
-        Look::Kept(_) => grown(alloc, id, &view),
+    match fill_at(alloc, out, &view, 0, id, &view, 0)? {
+        Look::Kept(_) => grown(alloc, out, id, &view),
         Look::Changed(end) => {
             out.truncate(end.stop);
-            Ok(Some(Node::of(out)))
+            Ok(true)
         }
     }
 }
 
 // The same for an id that owns one part alone, by what the tree has there.
 #[inline(always)]
-fn step_there(alloc: Global, id: &Id, e: &Node, found: Found) -> Result<Option<Node>, AllocError>
+fn step_there(
+    alloc: Global,
+    out: &mut Entries,
+    id: &Id,
+    e: &Node,
+    found: Found,
+) -> Result<bool, AllocError>
     requires normal { IsNormalId id.now }
     requires tree_normal { IsNormal e.now }
     requires depth { id_depth id.now < 2 ^ 32 }
     requires fits { greatest e.now < 2 ^ 32 }
     requires own { IsOwnPart id.now e.now found }
-    ensures { IfOk result (λ o. MatchOption o (events.PassesLimit id.now e.now) (λ node. events.IsEventStep id.now e.now node × (greatest node < 2 ^ 32))) }
+    requires empty { out.old.items ≡ [] }
+    ensures { IfOk result (λ fits. IsStepped fits id.now e.now out.new.items) }
 {
     match found {
-        Found::Own(leaf) => raised(alloc, e, leaf, id),
-        Found::Above => grown(alloc, &id.view(), &e.view()),
-        Found::Low => filled_step(alloc, &id.view(), e),
+        Found::Own(leaf) => raised(alloc, out, e, leaf, id),
+        Found::Above => grown(alloc, out, &id.view(), &e.view()),
+        Found::Low => filled_step(alloc, out, &id.view(), e),
     }
 }
 
-// What an event makes of the tree, or `None` where a value would pass the limit. Mostly it raises one leaf.
+// Writes what an event makes of the tree; or says that a value would pass the limit. Mostly it raises one leaf.
+#[inline(always)]
+fn step_into(alloc: Global, out: &mut Entries, id: &Id, e: &Node) -> Result<bool, AllocError>
+    requires normal { IsNormalId id.now }
+    requires tree_normal { IsNormal e.now }
+    requires depth { id_depth id.now < 2 ^ 32 }
+    requires fits { greatest e.now < 2 ^ 32 }
+    requires empty { out.old.items ≡ [] }
+    ensures { IfOk result (λ fits. IsStepped fits id.now e.now out.new.items) }
+{
+    match own_part(id, e.view()) {
+        Some(found) => step_there(alloc, out, id, e, found),
+        None => step_by_walks(alloc, out, &id.view(), e),
+    }
+}
+
+// What an event makes of the tree, or `None` where a value would pass the limit.
+#[inline(always)]
 pub fn event_step(alloc: Global, id: &Id, e: &Node) -> Result<Option<Node>, AllocError>
     requires normal { IsNormalId id.now }
     requires tree_normal { IsNormal e.now }
@@ -485,8 +513,10 @@ pub fn event_step(alloc: Global, id: &Id, e: &Node) -> Result<Option<Node>, Allo
     requires fits { greatest e.now < 2 ^ 32 }
     ensures { IfOk result (λ o. MatchOption o (events.PassesLimit id.now e.now) (λ node. events.IsEventStep id.now e.now node × (greatest node < 2 ^ 32))) }
 {
-    match own_part(id, e.view()) {
-        Some(found) => step_there(alloc, id, e, found),
-        None => step_by_walks(alloc, &id.view(), e),
+    let mut out = SmallVec::new(alloc);
+    if step_into(alloc, &mut out, id, e)? {
+        Ok(Some(Node::of(out)))
+    } else {
+        Ok(None)
     }
 }

@@ -8,9 +8,10 @@ ghost use Rattle.event_tree.specs.EventTree.{Leaf};
 ghost use Rattle.event_tree.specs.NormalForm.{greatest};
 ghost use Rattle.event_tree.specs.Halves.{root};
 ghost use Rattle.event_tree.specs.Event.{grow};
+ghost use Rattle.event_tree.specs.Stepping.{IsFitted};
 ghost use Rattle.event_tree.specs.OwnLeaf.{IsBelow, IsOwnLeaf, IsOwnPart, IsThere};
 
-use crate::entries::{self, Entry, put};
+use crate::entries::{self, Entries, Entry, put};
 use crate::node::Node;
 use crate::part::{EventPart, EventView};
 use id_tree::{Id, Way};
@@ -113,21 +114,27 @@ pub fn own_part(id: &Id, e: EventView) -> Option<Found>
     }
 }
 
-// The tree grown at this leaf, or `None` where its value would pass the limit.
-pub fn raised(alloc: Global, e: &Node, leaf: OwnLeaf, id: &Id) -> Result<Option<Node>, AllocError>
+// Writes the entries of the tree grown at this leaf; or says that its value would pass the limit.
+pub fn raised(
+    alloc: Global,
+    out: &mut Entries,
+    e: &Node,
+    leaf: OwnLeaf,
+    id: &Id,
+) -> Result<bool, AllocError>
     requires own { IsOwnLeaf id.now e.now leaf }
     requires fits { greatest e.now < 2 ^ 32 }
-    ensures { IfOk result (λ o. MatchOption o (2 ^ 32 ≤ greatest (grow id.now e.now)) (λ node. (node ≡ grow id.now e.now) × (greatest (grow id.now e.now) < 2 ^ 32))) }
+    ensures { IfOk result (λ fits. IsFitted fits (grow id.now e.now) out.new.items) }
 {
     let _id = id;
     if leaf.base + leaf.own == u32::MAX {
-        return Ok(None);
+        return Ok(false);
     }
-    let mut out = entries::copied(alloc, e.view().entries())?;
+    *out = entries::copied(alloc, e.view().entries())?;
     let raised = Entry {
         value: leaf.own + 1,
         size: 1,
     };
     put(out.as_mut_slice(), leaf.at, raised);
-    Ok(Some(Node::of(out)))
+    Ok(true)
 }

@@ -1,7 +1,7 @@
 //! A read-only look at an id from outside of this crate, one level at a time.
 
 ghost use Rattle.std.specs.Prelude.{◌≡◌, ◌↔◌, IsTrue};
-ghost use Rattle.id_tree.specs.IdTree.{Zero};
+ghost use Rattle.id_tree.specs.IdTree.{Zero, One};
 ghost use Rattle.id_tree.specs.View.{Shows};
 ghost use Rattle.id_tree.specs.Marks.{tree_of};
 
@@ -64,6 +64,16 @@ impl<'a> IdView<'a> {
         match self.marks.first() {
             None | Some(Mark::Zero) => true,
             Some(Mark::One | Mark::Pair) => false,
+        }
+    }
+
+    /// Whether everything is owned there, told in the same way.
+    pub fn is_everything(&self) -> bool
+        ensures { IsTrue result ↔ (self.now ≡ One) }
+    {
+        match self.marks.first() {
+            Some(Mark::One) => true,
+            None | Some(Mark::Zero | Mark::Pair) => false,
         }
     }
 }

@@ -10,4 +10,4 @@ put_leaf-stop-requires c =
 
 pub returns : goal.returns
 returns c =
-    begun c.args.e.now (preorder c.args.tree.now) c.in_ok-out.field-0.items _ _ _ _ _ (c.in_ok-out.ensures.ok ∙ c.entries.ensures.are) c.as_mut_slice.ensures.value c.greatest.ensures c.put_leaf-stop.ensures.written c.put_leaf-stop.ensures.next
+    begun c.args.e.now (preorder c.args.tree.now) c.in_ok-out.field-0.items _ _ _ _ _ (c.in_ok-out.ensures.ok ∙ c.entries.ensures.are) c.as_mut_slice.ensures.value c.greatest_of.ensures c.put_leaf-stop.ensures.written c.put_leaf-stop.ensures.next

@@ -1,6 +1,4 @@
-use Rattle.std.proofs.Common.{◌∙◌, arith, refl}
-use Rattle.event_tree.specs.Event.{grow}
-use Rattle.event_tree.proofs.Preorder.{is_preorder, tree_of_preorder}
+use Rattle.std.proofs.Common.{arith, refl}
 use Rattle.event_tree.proofs.Owned.{found, raised_there}
 use Rattle.event_tree.proofs.own_leaf.raised.Goals as goal
 
@@ -10,20 +8,15 @@ overflow_add-leaf c = omega (arith, (found _ _ _ c.requires.own).fits, c.require
 pub returns-then-leaf : goal.returns-then-leaf
 returns-then-leaf c = omega (arith, (found _ _ _ c.requires.own).least, c.if-leaf.true)
 
-pub put-requires : goal.put-requires
-put-requires c =
-    (raised_there _ _ _ _ _ _ _ _ c.requires.own c.view.ensures c.entries.ensures.are c.in_ok-out.ensures.ok c.as_mut_slice.ensures.value refl).0
-
 pub overflow_add-raised : goal.overflow_add-raised
 overflow_add-raised c = omega (arith, (found _ _ _ c.requires.own).fits, c.requires.fits, c.if-leaf.false)
 
-pub of-requires : goal.of-requires
-of-requires c =
-    let there = raised_there _ _ _ _ _ _ _ _ c.requires.own c.view.ensures c.entries.ensures.are c.in_ok-out.ensures.ok c.as_mut_slice.ensures.value c.put.ensures in
-    is_preorder _ (grow c.args.id.now c.args.e.now) there.1
+pub put-requires : goal.put-requires
+put-requires c =
+    (raised_there _ _ _ _ _ _ _ _ c.requires.own c.view.ensures c.entries.ensures.are c.in_ok-out.ensures.ok c.as_mut_slice.ensures.value refl).0
 
 pub returns : goal.returns
 returns c =
     let there = raised_there _ _ _ _ _ _ _ _ c.requires.own c.view.ensures c.entries.ensures.are c.in_ok-out.ensures.ok c.as_mut_slice.ensures.value c.put.ensures in
     let own = found _ _ _ c.requires.own in
-    (c.of.ensures ∙ tree_of_preorder _ (grow c.args.id.now c.args.e.now) there.1, omega (arith, own.most, own.fits, c.requires.fits, c.if-leaf.false))
+    (there.1, omega (arith, own.most, own.fits, c.requires.fits, c.if-leaf.false))

@@ -93,12 +93,13 @@ fn restricted_by_halves(
     Ok(Node::of(out))
 }
 
-// Gives the room back where there are so few entries that a list holds them itself: much of what stands beside may be one leaf in the end.
+// Gives room back where there are so few entries that a list holds them itself, or less than half as many as it has room for: much of what
+// stands beside may be one leaf in the end.
 #[inline(always)]
 fn leave_room(out: &mut Entries)
     ensures { out.new.items ≡ out.old.items }
 {
-    if out.len() <= INLINE {
+    if out.len() <= INLINE || out.len() < out.capacity() / 2 {
         out.shrink_to_fit();
     }
 }

@@ -1,5 +1,6 @@
 -- Which JSON values are written as which texts.
-use Rattle.std.specs.Prelude.{◌≡◌, ℕ, zero, suc, List, [], ◌∷◌, false, ⊤}
+use Rattle.std.specs.Prelude.{◌≡◌, ℕ, zero, suc, List, [], ◌∷◌, ◌++◌, codes, false, ⊤}
+use Rattle.reasons.specs.CertificateText.{key}
 use Rattle.serde_json.specs.Data.{Data, Items, no_items, item}
 use Rattle.serde_json.specs.Written.{has_float, compact_text}
 
@@ -19,3 +20,7 @@ AreWritten (item d ds) [] = ⊥
 abbrev pub comma_before : ℕ → List ℕ
 comma_before zero = []
 comma_before (suc i) = 44 ∷ []
+
+-- what a certificate's text begins with
+abbrev pub first_key : List ℕ
+first_key = codes "{" ++ key (codes "failed")

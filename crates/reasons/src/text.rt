@@ -4,7 +4,7 @@ ghost use Rattle.std.specs.Prelude.{◌≡◌, ◌++◌, IfOk, OnOk, IsTrue, map
 ghost use Rattle.std.specs.List.{list_all};
 ghost use Rattle.report_line.specs.Names.{is_name_byte};
 ghost use Rattle.reasons.specs.CertificateText.{quoted, bracketed, position_text, shown_name, place_text, certificate_text};
-ghost use Rattle.reasons.specs.Json.{comma_before};
+ghost use Rattle.reasons.specs.Json.{comma_before, first_key};
 
 use crate::certificate::Certificate;
 use chains::{Chains, Place, Places, Position};
@@ -104,6 +104,14 @@ fn put_reasons(out: &mut String, chains: &Chains, reasons: &[Places]) -> Result<
     out.push_str("]")
 }
 
+/// Appends the brace and the first key. The brace comes by itself, so that the room of a text doubles from eight bytes on.
+fn put_first_key(out: &mut String) -> Result<(), AllocError>
+    ensures { OnOk result (string_bytes out.new ≡ string_bytes out.old ++ first_key) }
+{
+    out.push_str("{")?;
+    out.push_str("\"failed\":")
+}
+
 /// Appends the text of a certificate.
 fn put_certificate(
     out: &mut String,
@@ -112,7 +120,7 @@ fn put_certificate(
 ) -> Result<(), AllocError>
     ensures { OnOk result (string_bytes out.new ≡ string_bytes out.old ++ certificate_text chains.now.accepted certificate.now) }
 {
-    out.push_str("{\"failed\":")?;
+    put_first_key(out)?;
     put_names(out, chains, certificate.failed.as_slice())?;
     out.push_str(",\"front\":")?;
     let mut digits = Buffer::new();

@@ -67,14 +67,21 @@ fn stays(chains: &Chains, table: Option<&Needs<'_>>, stage: &Stage, process: u32
     }
 }
 
-/// The rank to be looked at below this one, for a process that has fallen so far from its rank in the cut: near by at first, and farther
-/// the farther it has fallen.
+/// So many ranks below the highest one are looked at one by one.
+const NEAR: u32 = 16;
+
+/// The rank to be looked at below this one, for a process that has fallen so far: the next one at first, and farther the farther it has
+/// fallen. A look that finds nothing may cost as much as many that find something, so few ranks are not worth one more.
 fn next_look(top: u32, high: u32) -> u32
     requires within { high ≤ top }
     requires some { 0 < high }
     ensures { result < high }
 {
-    high.saturating_sub((top - high) / 4 + 1)
+    let fallen = top - high;
+    if fallen < NEAR {
+        return high - 1;
+    }
+    high.saturating_sub((fallen - NEAR) / 4 + 2)
 }
 
 /// A clear rank, and one above it at which the place knows one of the processes that fell.
@@ -84,35 +91,45 @@ pub(crate) struct Bracket {
     pub(crate) high: u32,
 }
 
-/// A clear rank and one that is not, from the rank in the cut on, which is none: what is known at a rank is known at each later one.
-fn bracketed(
+/// A clear rank and one that is not, within a bracket, by looks from its upper end down, of which one alone finds nothing: what is known at
+/// a rank is known at each later one.
+fn closer(
     chains: &Chains,
     thresholds: &Thresholds,
     tops: &[u32],
     stage: &Stage,
     process: u32,
+    wide: Bracket,
 ) -> Bracket
     requires standing { IsStanding chains.now.accepted tops.now stage.now.cut.items stage.now.heads.items stage.now.fell.items }
     requires bounds { AreBoundsOf chains.now.accepted stage.now.cut.items stage.now.fell.items thresholds.now }
     requires process { process < length stage.now.cut.items }
-    requires known { KnowsOne chains.now.accepted stage.now.fell.items stage.now.cut.items process (slice_index stage.now.cut.items process) }
+    requires bracket { IsBracket chains.now.accepted stage.now.fell.items stage.now.cut.items process wide }
     ensures { IsBracket chains.now.accepted stage.now.fell.items stage.now.cut.items process result }
 {
     chains.lawful();
     let _tops = tops;
-    let top = stage.cut[process as usize];
-    let mut high = top;
-    while high > 0 {
-        let low = next_look(top, high);
+    let mut high = wide.high;
+    while high - wide.low > 1 {
+        let low = next_look(wide.high, high);
+        if low <= wide.low {
+            return Bracket {
+                low: wide.low,
+                high,
+            };
+        }
         if !knows_one(chains, thresholds, stage, process, low) {
             return Bracket { low, high };
         }
         high = low;
     }
-    Bracket { low: 0, high }
+    Bracket {
+        low: wide.low,
+        high,
+    }
 }
 
-/// The clear rank right below one that is not, by halves.
+/// The clear rank right below one that is not, within a bracket, rank by rank.
 fn narrowed(
     chains: &Chains,
     thresholds: &Thresholds,
@@ -129,17 +146,14 @@ fn narrowed(
 {
     chains.lawful();
     let _tops = tops;
-    let mut low = wide.low;
-    let mut high = wide.high;
-    while high - low > 1 {
-        let middle = low + (high - low) / 2;
-        if knows_one(chains, thresholds, stage, process, middle) {
-            high = middle;
-        } else {
-            low = middle;
+    let mut below = wide.high - 1;
+    while below > wide.low {
+        if !knows_one(chains, thresholds, stage, process, below) {
+            return below;
         }
+        below -= 1;
     }
-    low
+    below
 }
 
 /// The rank that a round brings a process to.
@@ -161,8 +175,10 @@ fn next_rank(
     if !knows_one(chains, thresholds, stage, process, rank) {
         return rank;
     }
-    let wide = bracketed(chains, thresholds, tops, stage, process);
-    narrowed(chains, thresholds, tops, stage, process, wide)
+    let whole = Bracket { low: 0, high: rank };
+    let wide = closer(chains, thresholds, tops, stage, process, whole);
+    let near = closer(chains, thresholds, tops, stage, process, wide);
+    narrowed(chains, thresholds, tops, stage, process, near)
 }
 
 /// What a round makes of a process.

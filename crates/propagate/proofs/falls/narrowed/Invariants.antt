@@ -1,9 +1,9 @@
-use Rattle.std.proofs.Common.{◌-◌}
+use Rattle.std.proofs.Common.{◌+◌, ◌≤◌}
 use Rattle.propagate.specs.Brackets.{IsBracket}
 use Rattle.propagate.proofs.falls.narrowed.Given as goal
 
-abbrev pub invariant-loop-high : goal.invariant-loop-high
-invariant-loop-high l = IsBracket l.chains.accepted l.stage.fell.items l.stage.cut.items l.process (record { low = l.low; high = l.high })
+abbrev pub invariant-loop-below : goal.invariant-loop-below
+invariant-loop-below l = IsBracket l.chains.accepted l.stage.fell.items l.stage.cut.items l.process (record { low = l.wide.low; high = l.below + 1 }) × (l.wide.low ≤ l.below)
 
-abbrev pub decreases-loop-high : goal.decreases-loop-high
-decreases-loop-high l = l.high - l.low
+abbrev pub decreases-loop-below : goal.decreases-loop-below
+decreases-loop-below l = l.below

@@ -21,6 +21,9 @@ use crate::written::put_all;
 use id_tree::Way;
 use std::alloc::{AllocError, Global};
 
+// More entries than these are many.
+const MANY: usize = 128;
+
 // The base, and the half that a turn leads to.
 #[inline(always)]
 fn half<'a>(e: &EventView<'a>, turn: bool) -> (u32, EventView<'a>)
@@ -111,6 +114,21 @@ fn write_down(out: &mut [Entry], way: Way, m: u32, size: u32, part: &EventView)
         way = behind;
     }
     put_rooted(out, at, part, value);
+}
+
+// Whether so many entries stand at the end of the way that to write them twice, as leaves and as they are, costs more than it saves.
+pub fn leads_to_many(way: Way, e: EventView) -> bool {
+    if e.entries().len() <= MANY {
+        return false;
+    }
+    let mut way = way;
+    let mut part = e;
+    while let Some((turn, behind)) = way.turn() {
+        let (_, below) = half(&part, turn);
+        part = below;
+        way = behind;
+    }
+    part.entries().len() > MANY
 }
 
 // The tree at the end of the way, and the limit elsewhere. The id of the way has so many nodes and leaves.

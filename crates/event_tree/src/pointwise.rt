@@ -326,7 +326,18 @@ fn is_mostly_taken(e: EventView, f: EventView) -> bool {
     false
 }
 
-// The join, in normal form, by way of a list with room for both, where most is copied as it is.
+// For how many entries a list has room at first. Beside a much smaller tree it mostly needs no more than the larger one has.
+fn room_of_both(one: usize, other: usize) -> usize {
+    let larger = one.max(other);
+    let smaller = one.min(other);
+    if smaller <= larger / 8 {
+        larger
+    } else {
+        larger.saturating_add(smaller)
+    }
+}
+
+// The join, in normal form, by way of a list, where most is copied as it is.
 fn joined_in_list(alloc: Global, e: EventView, f: EventView) -> Result<Node, AllocError>
     requires e_fits { greatest e < 2 ^ 32 }
     requires e_normal { IsNormal e }
@@ -334,7 +345,7 @@ fn joined_in_list(alloc: Global, e: EventView, f: EventView) -> Result<Node, All
     requires f_normal { IsNormal f }
     ensures { IfOk result (λ node. node ≡ walks.combined_from Pick.Greater 0 e.entry 0 f.entry) }
 {
-    let room = e.entries().len().max(f.entries().len());
+    let room = room_of_both(e.entries().len(), f.entries().len());
     let mut out = entries::with_room(alloc, room)?;
     joined_onto(&mut out, 0, e, 0, f)?;
     entries::fit(&mut out);

@@ -72,7 +72,12 @@ pub fn restricted(alloc: Global, id: &Id, e: &Node) -> Result<Node, AllocError>
     }
     let size = id.size();
     match id.only_way() {
-        Some(way) => one_way::restricted(alloc, size, way, e.view()),
+        Some(way) => {
+            if one_way::leads_to_many(way.again(), e.view()) {
+                return restricted_by_halves(alloc, size, id.view(), e.view());
+            }
+            one_way::restricted(alloc, size, way, e.view())
+        }
         None => restricted_by_halves(alloc, size, id.view(), e.view()),
     }
 }

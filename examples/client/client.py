@@ -4,8 +4,8 @@
     process.begin()
     child = process.fork("b")               # the stamp of the new process, to be handed to it
     process.checkpoint(store)               # store(position, kept) has the state on disk, and what is kept of the process with it
-    message = process.send()                # the events that the message has to carry
-    process.receive(events)
+    events = process.send()                 # the message has to carry them, and process.epoch
+    process.receive(epoch, events)          # False where the message is dropped
     line = process.line(["b"])              # for each process its position, 0 where it is unborn, or "retired"
 
 After a failure one process settles, and each process returns to its position:
@@ -24,8 +24,17 @@ class Refused(Exception):
     """A reply that is not the one that was hoped for. What it says stands in docs/FORMATS.md."""
 
 
+class Behind(Exception):
+    """What came is of a settlement to which this process has not returned. It has to wait until the process has."""
+
+
 def names_of(names):
     return ",".join(names) if names else "-"
+
+
+def stamp_of(words):
+    i, events = words.split(";")
+    return Stamp(parse(i), parse(events))
 
 
 class Connection:
@@ -99,26 +108,40 @@ class Process:
         self.number = number
         self.position = position
         self.epoch = epoch
+        self.at_present = None
 
     def begin(self):
         """Reports the birth of the root."""
         self.connection.report("BEGIN " + self.name)
 
     def report(self, kind, rest="", stamp=None):
-        """Reports a step. Behind a settlement the report bears its mark."""
+        """Reports a step, and answers the line. Behind a settlement the report bears its mark."""
         self.number += 1
         mark = "@%d" % self.epoch if self.epoch else ""
-        return self.connection.report("%s%s %s %d %s%s" % (kind, mark, self.name, self.number, stamp or self.stamp, rest))
+        line = "%s%s %s %d %s%s" % (kind, mark, self.name, self.number, stamp or self.stamp, rest)
+        self.connection.report(line)
+        return line
 
     def work(self):
         self.stamp.event()
 
     def send(self):
-        """The events that the message carries."""
+        """The events that the message carries. Whenever it is handed over, the epoch that this process has by then goes with it."""
         return self.stamp.event()
 
-    def receive(self, events):
+    def is_of_now(self, epoch):
+        """Whether what bears this epoch is of this process's own, and not older. What is newer waits."""
+        if epoch > self.epoch:
+            raise Behind("settlement %d" % epoch)
+        return epoch == self.epoch
+
+    def receive(self, epoch, events):
+        """Receives a message of this epoch, and answers whether it does. An older one is dropped, since it may be undone: where it is not, its
+        sender hands it over once more."""
+        if not self.is_of_now(epoch):
+            return False
         self.stamp.receive(events)
+        return True
 
     def checkpoint(self, store=None):
         """Takes a checkpoint and answers its position. Before it is reported, store(position, kept) has to have its state on disk, and with it
@@ -131,12 +154,15 @@ class Process:
         return self.position
 
     def present(self):
-        """Reports the present state. It is an element until the next report, and is lost where the process fails."""
+        """Reports the present state. It is an element until the next report, which tells of the next step: there is no step between, and that
+        one is taken back where it is refused. The state is lost where the process fails."""
         self.stamp.event()
         self.report("PRESENT")
+        self.at_present = self.stamp.copy(), self.number
 
     def stay(self, epoch):
-        """Goes on as it is, where the line has its present state. All that comes behind it is of this epoch."""
+        """Goes on as it was, where the line has its present state. All that comes behind it is of this epoch."""
+        self.stamp, self.number = self.at_present[0].copy(), self.at_present[1]
         self.epoch = epoch
 
     def fork(self, name, depth=None, store=None):
@@ -151,13 +177,17 @@ class Process:
         return child
 
     def retire(self, into):
-        """Reports the end; the stamp that is answered has to reach the process that takes it up."""
+        """Reports the end, and answers the report, which has to reach the process that takes it up: it has the stamp and the epoch."""
         self.stamp.event()
-        self.report("RETIRE", " " + into)
-        return self.stamp.copy()
+        return self.report("RETIRE", " " + into)
 
-    def absorb(self, name, stamp):
-        self.stamp.absorb(stamp)
+    def absorb(self, retirement):
+        """Takes up the process that ended by this report. One of an older epoch is sent once more: Refused by 19 or 3 says that it is undone,
+        and is not absorbed."""
+        word, name, _, stamp, _ = retirement.split(" ")
+        if not self.is_of_now(int(word.partition("@")[2] or 0)):
+            self.connection.report(retirement)
+        self.stamp.absorb(stamp_of(stamp))
         self.report("ABSORB", " " + name)
 
     def line(self, failed):
@@ -171,8 +201,7 @@ class Process:
 
     def return_to(self, position, kept, epoch):
         """Returns to a checkpoint with what was kept there. All that comes behind it is of this epoch."""
-        i, events = kept["stamp"].split(";")
-        self.stamp = Stamp(parse(i), parse(events))
+        self.stamp = stamp_of(kept["stamp"])
         self.number = kept["number"]
         self.position = position
         self.epoch = epoch

@@ -49,9 +49,10 @@ class Teller:
             process.return_to(position, self.state["kept"], epoch)
 
     def send(self, number):
-        """Hands over a message that was sent. It carries the events of its sending, also where it is handed over once more."""
+        """Hands over a message that was sent. It carries the events of its sending, also where it is handed over once more, and the epoch of
+        this teller."""
         amount, events = self.state["sent"][number - 1]
-        print(json.dumps([number, amount, events]), file=self.target, flush=True)
+        print(json.dumps([number, amount, events, self.process.epoch if self.process else 0]), file=self.target, flush=True)
 
     def pay(self):
         """Sends what chance says to the next teller. What was sent stays known, so that it can be handed over once more."""
@@ -62,16 +63,14 @@ class Teller:
         self.send(len(self.state["sent"]))
 
     def collect(self):
-        """Takes the next message. One that it has already is passed over."""
+        """Takes the next message. One that it has already is passed over, and so is one of an older epoch."""
         while True:
             line = self.source.readline()
             if not line:
                 sys.exit("%s: the teller before is gone" % self.name)
-            number, amount, events = json.loads(line)
-            if number <= self.state["received"]:
+            number, amount, events, epoch = json.loads(line)
+            if number <= self.state["received"] or self.process and not self.process.receive(epoch, parse(events)):
                 continue
-            if self.process:
-                self.process.receive(parse(events))
             self.state["balance"] += amount
             self.state["received"] = number
             return

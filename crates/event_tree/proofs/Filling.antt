@@ -10,7 +10,7 @@ use Rattle.event_tree.specs.Size.{size}
 use Rattle.event_tree.specs.Entries.{entry, blank, preorder}
 use Rattle.event_tree.specs.Writing.{IsWritten}
 use Rattle.event_tree.specs.Walks.{filled, filled_node, left_raised, right_raised, AreFilled, IsFilled}
-use Rattle.event_tree.specs.Filled.{IsHere, IsMade, AreMade, Tells}
+use Rattle.event_tree.specs.Filled.{IsHere, IsMade, IsStopOf, AreMade, Tells}
 use Rattle.event_tree.specs.declared.event.Look.{Look}
 use Rattle.event_tree.specs.declared.event.Look.TheVariants.{Kept, Changed}
 use Rattle.event_tree.specs.declared.event.FilledEnd.{FilledEnd}
@@ -172,13 +172,17 @@ are_made n start one other old between now l r a b hi he f room x y = record {
   second_made = y;
 }
 
+-- where it stops, with whether all of it is owned
+pub ended_at : (i : IdTree) (e : EventTree) (old new : List Entry) (start stop : ℕ) (end : FilledEnd) → end.stop ≡ stop → (IsTrue end.whole ↔ (i ≡ One)) → IsStopOf i e old new start stop → IsMade i e old new start end
+ended_at i e old new start stop end at told m = record { written = rw at m.written; next = rw at m.next; whole = told }
+
 -- a leaf that stays
-pub made_leaf : (i : IdTree) (n : ℕ) (old new : List Entry) (start stop : ℕ) (whole : Bool) → (IsTrue whole ↔ (i ≡ One)) → IsWritten old new start stop (Leaf n) → stop ≡ start + 1 → IsMade i (Leaf n) old new start (record { stop = stop; whole = whole })
-made_leaf i n old new start stop whole told w next = record { written = rw (filled_leaf i n) w; next = omega (arith, next); whole = told }
+pub made_leaf : (i : IdTree) (n : ℕ) (old new : List Entry) (start stop : ℕ) → IsWritten old new start stop (Leaf n) → stop ≡ start + 1 → IsStopOf i (Leaf n) old new start stop
+made_leaf i n old new start stop w next = record { written = rw (filled_leaf i n) w; next = omega (arith, next) }
 
 -- a leaf in place of what is owned whole
-pub made_whole : (e : EventTree) (old new : List Entry) (start stop g : ℕ) → g ≡ greatest e → IsWritten old new start stop (Leaf g) → stop ≡ start + 1 → IsMade One e old new start (record { stop = stop; whole = true })
-made_whole e old new start stop g most w next = record { written = rw most at w; next = omega (arith, next, some_size e); whole = (λ t. refl, λ o. refl) }
+pub made_whole : (e : EventTree) (old new : List Entry) (start stop g : ℕ) → g ≡ greatest e → IsWritten old new start stop (Leaf g) → stop ≡ start + 1 → IsStopOf One e old new start stop
+made_whole e old new start stop g most w next = record { written = rw most at w; next = omega (arith, next, some_size e) }
 
 -- where the halves of a part stand
 pub here_first : (es : List Entry) (start n : ℕ) (a b : EventTree) → IsHere es start (Node n a b) → IsHere es (start + 1) a
@@ -229,38 +233,37 @@ here_written es start e h =
     }
 
 -- a half that filling leaves as it is was made where it stands
-pub kept_made : (k : ℕ) (i : IdTree) (e : EventTree) (es : List Entry) (start stop : ℕ) (whole : Bool) → IsHere es start e → IsFilled k i e → IsTrue whole ↔ (i ≡ One) → stop ≡ start + size e → IsMade i e es es start (record { stop = stop; whole = whole })
-kept_made k i e es start stop whole h f w next = record {
+pub kept_made : (k : ℕ) (i : IdTree) (e : EventTree) (es : List Entry) (start stop : ℕ) → IsHere es start e → IsFilled k i e → stop ≡ start + size e → IsStopOf i e es es start stop
+kept_made k i e es start stop h f next = record {
   written = rw (next, f.kept) (here_written es start e h);
   next = omega (arith, next);
-  whole = w;
 }
 
 -- what a look tells
-pub changed_of : (k : ℕ) (i : IdTree) (e : EventTree) (old new : List Entry) (start : ℕ) (look : Look) (end : FilledEnd) → Tells k i e old new start look → look ≡ Changed end → (¬ IsFilled k i e) × IsMade i e old new start end
-changed_of k i e old new start look end told is = rw is at told
+pub changed_of : (k : ℕ) (i : IdTree) (e : EventTree) (old new : List Entry) (start : ℕ) (look : Look) (stop : ℕ) → Tells k i e old new start look → look ≡ Changed stop → (¬ IsFilled k i e) × IsStopOf i e old new start stop
+changed_of k i e old new start look stop told is = rw is at told
 
-pub kept_of : (k : ℕ) (i : IdTree) (e : EventTree) (old new : List Entry) (start : ℕ) (look : Look) (whole : Bool) → Tells k i e old new start look → look ≡ Kept whole → IsFilled k i e × (IsTrue whole ↔ (i ≡ One))
-kept_of k i e old new start look whole told is = rw is at told
+pub kept_of : (k : ℕ) (i : IdTree) (e : EventTree) (old new : List Entry) (start : ℕ) (look : Look) → Tells k i e old new start look → look ≡ Kept → IsFilled k i e
+kept_of k i e old new start look told is = rw is at told
 
 -- behind a half that was made there is room for the other one
-pub room_behind : (i : IdTree) (e a b : EventTree) (old new : List Entry) (start n : ℕ) (end : FilledEnd) → IsHere old start e → e ≡ Node n a b → IsMade i a old new (start + 1) end → end.stop + size b ≤ length new
-room_behind i e a b old new start n end h is m = omega (arith, here_within old start e h, ap size is, m.next, m.written.as_long)
+pub room_behind : (i : IdTree) (e a b : EventTree) (old new : List Entry) (start n stop : ℕ) → IsHere old start e → e ≡ Node n a b → IsStopOf i a old new (start + 1) stop → stop + size b ≤ length new
+room_behind i e a b old new start n stop h is m = omega (arith, here_within old start e h, ap size is, m.next, m.written.as_long)
 
 -- what was made by way of a slice
-pub made_in_copy : (i : IdTree) (e : EventTree) (items slice new : List Entry) (start : ℕ) (end : FilledEnd) → slice ≡ items → IsMade i e slice new start end → IsMade i e items (refill (length items) items new) start end
-made_in_copy i e items slice new start end lent m = rw (refilled items slice new lent m.written.as_long) (rw lent at m)
+pub made_in_copy : (i : IdTree) (e : EventTree) (items slice new : List Entry) (start stop : ℕ) → slice ≡ items → IsStopOf i e slice new start stop → IsStopOf i e items (refill (length items) items new) start stop
+made_in_copy i e items slice new start stop lent m = rw (refilled items slice new lent m.written.as_long) (rw lent at m)
 
-pub closed_in_copy : (n start : ℕ) (one other end : FilledEnd) (items slice new : List Entry) → slice ≡ items → ((h : AreMade n start one other slice) → IsMade (Pair h.l h.r) (Node n h.a h.b) h.old new start end)
-    → (h : AreMade n start one other items) → IsMade (Pair h.l h.r) (Node n h.a h.b) h.old (refill (length items) items new) start end
-closed_in_copy n start one other end items slice new lent f h =
+pub closed_in_copy : (n start : ℕ) (one other : FilledEnd) (stop : ℕ) (items slice new : List Entry) → slice ≡ items → ((h : AreMade n start one other slice) → IsStopOf (Pair h.l h.r) (Node n h.a h.b) h.old new start stop)
+    → (h : AreMade n start one other items) → IsStopOf (Pair h.l h.r) (Node n h.a h.b) h.old (refill (length items) items new) start stop
+closed_in_copy n start one other stop items slice new lent f h =
     let m = (rw lent at f) h in
     let long : length new ≡ length slice = omega (arith, m.written.as_long, h.second_made.written.as_long, h.first_made.written.as_long, ap length lent) in
     rw (refilled items slice new lent long) m
 
 -- the first leaf, in the copy that was made for it
 pub begun : (e : EventTree) (tree items slice new : List Entry) (start stop g : ℕ) → items ≡ tree → slice ≡ items → g ≡ greatest e → IsWritten slice new start stop (Leaf g) → stop ≡ start + 1
-    → IsMade One e tree (refill (length items) items new) start (record { stop = stop; whole = true })
+    → IsStopOf One e tree (refill (length items) items new) start stop
 begun e tree items slice new start stop g copied lent most w next =
-    subst (λ (es : List Entry). IsMade One e es (refill (length items) items new) start (record { stop = stop; whole = true })) copied
-    (made_in_copy One e items slice new start (record { stop = stop; whole = true }) lent (made_whole e slice new start stop g most w next))
+    subst (λ (es : List Entry). IsStopOf One e es (refill (length items) items new) start stop) copied
+    (made_in_copy One e items slice new start stop lent (made_whole e slice new start stop g most w next))

@@ -26,6 +26,11 @@ pub record IsMade (i : IdTree) (e : EventTree) (old new : List Entry) (start : �
   pub next : end.stop ≤ start + size e
   pub whole : IsTrue end.whole ↔ (i ≡ One)
 
+-- so it is, up to this place
+pub record IsStopOf (i : IdTree) (e : EventTree) (old new : List Entry) (start stop : ℕ) : Type 0 where
+  pub written : IsWritten old new start stop (filled i e)
+  pub next : stop ≤ start + size e
+
 -- the halves of a node are, one behind the other
 pub record AreMade (n start : ℕ) (one other : FilledEnd) (now : List Entry) : Type 0 where
   pub old : List Entry
@@ -44,5 +49,5 @@ pub record AreMade (n start : ℕ) (one other : FilledEnd) (now : List Entry) : 
 -- Filling leaves the part as it is, and where all of it is owned it is at or above k; or it does not, and what filling makes of it is
 -- written.
 abbrev pub Tells : ℕ → IdTree → EventTree → List Entry → List Entry → ℕ → Look → Type 0
-Tells k i e old new start (Kept whole) = IsFilled k i e × (IsTrue whole ↔ (i ≡ One))
-Tells k i e old new start (Changed end) = (¬ IsFilled k i e) × IsMade i e old new start end
+Tells k i e old new start Kept = IsFilled k i e
+Tells k i e old new start (Changed stop) = (¬ IsFilled k i e) × IsStopOf i e old new start stop

@@ -8,7 +8,7 @@ ghost use Rattle.event_tree.specs.NormalForm.{greatest, IsNormal};
 ghost use Rattle.event_tree.specs.Size.{size};
 ghost use Rattle.event_tree.specs.Entries.{preorder};
 ghost use Rattle.event_tree.specs.Writing.{IsWritten};
-ghost use Rattle.event_tree.specs.Filled.{IsHere, IsMade, AreMade, Tells};
+ghost use Rattle.event_tree.specs.Filled.{IsHere, IsStopOf, AreMade, Tells};
 ghost use Rattle.event_tree.specs.Stepping.{IsFitted, IsStepped};
 ghost use Rattle.event_tree.specs.OwnLeaf.{IsOwnPart};
 ghost use Rattle.event_tree.specs.Event as events;
@@ -58,13 +58,25 @@ pub struct FilledEnd {
     pub whole: bool,
 }
 
+// Where a part of this id ends, once it was filled.
+#[inline(always)]
+fn end_of(id: &IdView, stop: usize) -> FilledEnd
+    ensures stop { result.stop ≡ stop }
+    ensures whole { IsTrue result.whole ↔ (id.now ≡ One) }
+{
+    FilledEnd {
+        stop,
+        whole: id.is_everything(),
+    }
+}
+
 /// What filling makes of a part.
 #[derive(Clone, Copy)]
 pub enum Look {
-    /// It leaves it as it is; and whether all of it is owned.
-    Kept(bool),
+    /// It leaves it as it is.
+    Kept,
     /// It changes it, or the half beside it shall raise it.
-    Changed(FilledEnd),
+    Changed(usize),
 }
 
 // Makes one node in normal form, above the base `n`, of two halves that were filled: the one that is owned whole, if one is, is raised
@@ -76,13 +88,12 @@ fn close_filled(
     start: usize,
     one: FilledEnd,
     other: FilledEnd,
-) -> Result<FilledEnd, AllocError>
+) -> Result<usize, AllocError>
     requires { AreMade n start one other out.old }
-    ensures { IfOk result (λ end. (h : AreMade n start one other out.old) → IsMade (Pair h.l h.r) (trees.Node n h.a h.b) h.old out.new start end) }
+    ensures { IfOk result (λ stop. (h : AreMade n start one other out.old) → IsStopOf (Pair h.l h.r) (trees.Node n h.a h.b) h.old out.new start stop) }
 {
     closing::raise_owned(out, one.whole, other.whole, start, one.stop);
-    let stop = closing::close_at(out, n, start, one.stop, other.stop)?;
-    Ok(FilledEnd { stop, whole: false })
+    closing::close_at(out, n, start, one.stop, other.stop)
 }
 
 // Writes the tree, filled. A leaf stays as it is, whatever of it is owned.
@@ -91,31 +102,22 @@ fn filled_into(
     start: usize,
     id: &IdView,
     e: &EventView,
-) -> Result<FilledEnd, AllocError>
+) -> Result<usize, AllocError>
     requires normal { IsNormalId id.now }
     requires tree_normal { IsNormal e.now }
     requires fits { greatest e.now < 2 ^ 32 }
     requires room { start + size e.now ≤ length out.old }
-    ensures { IfOk result (λ end. IsMade id.now e.now out.old out.new start end) }
+    ensures { IfOk result (λ stop. IsStopOf id.now e.now out.old out.new start stop) }
 {
     match e.part() {
-        EventPart::Leaf(n) => Ok(FilledEnd {
-            stop: put_leaf(out, start, n),
-            whole: id.is_everything(),
-        }),
+        EventPart::Leaf(n) => Ok(put_leaf(out, start, n)),
         EventPart::Node(n, a, b) => match id.part() {
-            IdPart::Nothing => Ok(FilledEnd {
-                stop: put_lifted(out, start, e.again(), 0),
-                whole: false,
-            }),
-            IdPart::Everything => Ok(FilledEnd {
-                stop: put_leaf(out, start, greatest(e)),
-                whole: true,
-            }),
+            IdPart::Nothing => Ok(put_lifted(out, start, e.again(), 0)),
+            IdPart::Everything => Ok(put_leaf(out, start, greatest(e))),
             IdPart::Halves(l, r) => {
-                let one = filled_into(out, start + 1, &l, &a)?;
-                let other = filled_into(out, one.stop, &r, &b)?;
-                close_filled(out, n, start, one, other)
+                let middle = filled_into(out, start + 1, &l, &a)?;
+                let stop = filled_into(out, middle, &r, &b)?;
+                close_filled(out, n, start, end_of(&l, middle), end_of(&r, stop))
             }
         },
     }
@@ -303,14 +305,13 @@ fn begin_filled(
     tree: &EventView,
     start: usize,
     e: &EventView,
-) -> Result<FilledEnd, AllocError>
+) -> Result<usize, AllocError>
     requires here { IsHere (preorder tree.now) start e.now }
     requires fits { greatest e.now < 2 ^ 32 }
-    ensures { IfOk result (λ end. IsMade One e.now (preorder tree.now) out.new.items start end) }
+    ensures { IfOk result (λ stop. IsStopOf One e.now (preorder tree.now) out.new.items start stop) }
 {
     *out = entries::copied(alloc, tree.entries())?;
-    let stop = put_leaf(out.as_mut_slice(), start, greatest_of(e));
-    Ok(FilledEnd { stop, whole: true })
+    Ok(put_leaf(out.as_mut_slice(), start, greatest_of(e)))
 }
 
 // Writes the tree, filled, into a copy.
@@ -320,12 +321,12 @@ fn fill_in_copy(
     start: usize,
     id: &IdView,
     e: &EventView,
-) -> Result<FilledEnd, AllocError>
+) -> Result<usize, AllocError>
     requires normal { IsNormalId id.now }
     requires tree_normal { IsNormal e.now }
     requires fits { greatest e.now < 2 ^ 32 }
     requires room { start + size e.now ≤ length out.old.items }
-    ensures { IfOk result (λ end. IsMade id.now e.now out.old.items out.new.items start end) }
+    ensures { IfOk result (λ stop. IsStopOf id.now e.now out.old.items out.new.items start stop) }
 {
     filled_into(out.as_mut_slice(), start, id, e)
 }
@@ -338,9 +339,9 @@ fn close_in_copy(
     start: usize,
     one: FilledEnd,
     other: FilledEnd,
-) -> Result<FilledEnd, AllocError>
+) -> Result<usize, AllocError>
     requires { AreMade n start one other out.old.items }
-    ensures { IfOk result (λ end. (h : AreMade n start one other out.old.items) → IsMade (Pair h.l h.r) (trees.Node n h.a h.b) h.old out.new.items start end) }
+    ensures { IfOk result (λ stop. (h : AreMade n start one other out.old.items) → IsStopOf (Pair h.l h.r) (trees.Node n h.a h.b) h.old out.new.items start stop) }
 {
     close_filled(out.as_mut_slice(), n, start, one, other)
 }
@@ -366,16 +367,16 @@ fn fill_at(
     ensures { IfOk result (λ look. Tells beside id.now e.now (preorder tree.now) out.new.items start look) }
 {
     match id.part() {
-        IdPart::Nothing => Ok(Look::Kept(false)),
+        IdPart::Nothing => Ok(Look::Kept),
         IdPart::Everything => {
             if is_kept(e, beside) {
-                return Ok(Look::Kept(true));
+                return Ok(Look::Kept);
             }
-            let end = begin_filled(alloc, out, tree, start, e)?;
-            Ok(Look::Changed(end))
+            let stop = begin_filled(alloc, out, tree, start, e)?;
+            Ok(Look::Changed(stop))
         }
         IdPart::Halves(l, r) => match e.leaf() {
-            Some(_) => Ok(Look::Kept(false)),
+            Some(_) => Ok(Look::Kept),
             None => fill_halves(alloc, out, tree, start, &l, &r, e),
         },
     }
@@ -401,23 +402,19 @@ fn fill_halves(
     ensures { IfOk result (λ look. (k : ℕ) → Tells k (Pair l.now r.now) e.now (preorder tree.now) out.new.items start look) }
 {
     match e.part() {
-        EventPart::Leaf(_) => Ok(Look::Kept(false)),
+        EventPart::Leaf(_) => Ok(Look::Kept),
         EventPart::Node(n, a, b) => {
             let end = match fill_at(alloc, out, tree, start + 1, l, &a, b.root())? {
-                Look::Changed(one) => {
-                    let other = fill_in_copy(out, one.stop, r, &b)?;
-                    close_in_copy(out, n, start, one, other)?
+                Look::Changed(middle) => {
+                    let stop = fill_in_copy(out, middle, r, &b)?;
+                    close_in_copy(out, n, start, end_of(l, middle), end_of(r, stop))?
                 }
-                Look::Kept(whole) => {
+                Look::Kept => {
                     let middle = start + 1 + a.entries().len();
                     match fill_at(alloc, out, tree, middle, r, &b, a.root())? {
-                        Look::Kept(_) => return Ok(Look::Kept(false)),
-                        Look::Changed(other) => {
-                            let one = FilledEnd {
-                                stop: middle,
-                                whole,
-                            };
-                            close_in_copy(out, n, start, one, other)?
+                        Look::Kept => return Ok(Look::Kept),
+                        Look::Changed(stop) => {
+                            close_in_copy(out, n, start, end_of(l, middle), end_of(r, stop))?
                         }
                     }
                 }
@@ -456,9 +453,9 @@ fn step_by_walks(
     let view = e.view();
     view.counted();
     match fill_at(alloc, out, &view, 0, id, &view, 0)? {
-        Look::Kept(_) => grown(alloc, out, id, &view),
-        Look::Changed(end) => {
-            out.truncate(end.stop);
+        Look::Kept => grown(alloc, out, id, &view),
+        Look::Changed(stop) => {
+            out.truncate(stop);
             Ok(true)
         }
     }

@@ -1,7 +1,7 @@
 use Rattle.std.proofs.Common.{◌<◌, arith, length}
 use Rattle.event_tree.specs.Walks.{filled}
 use Rattle.event_tree.proofs.Closed.{ends}
-use Rattle.event_tree.proofs.Places.{written_both, halves_within}
+use Rattle.event_tree.proofs.Places.{if_ok, written_both, halves_within}
 use Rattle.event_tree.proofs.Filling.{are_filled, halves_raised, raised_fits, raised_closed}
 use Rattle.event_tree.proofs.event.close_filled.Goals as goal
 
@@ -36,15 +36,14 @@ close_at-requires-clause-within c =
     omega (arith, (halves_within _ _ _ _ _ _ _ _ lt h.first_made.written h.second_made.written).2, c.raise_owned.ensures.as_long)
 
 pub returns : goal.returns
-returns c = λ g.
+returns c = if_ok c.close_at.result (λ stop closed g.
     let lt : c.args.start < length g.old = omega (arith, g.room) in
     let f = are_filled g.l g.r g.a g.b g.id_normal.0 g.id_normal.1 g.tree_normal.0 g.tree_normal.1 in
     let h = written_both _ _ _ _ _ _ _ _ lt g.first_made.written g.second_made.written in
     let places = halves_within _ _ _ _ _ _ _ _ lt g.first_made.written g.second_made.written in
     let is = c.raise_owned.ensures.raised g.l g.r _ _ _ _ _ g.first_made.whole g.second_made.whole h.begins h.halved places.1 places.2 f h.are in
-    let done = raised_closed _ _ _ _ _ _ _ _ _ c.args.n g.l g.r _ _ lt g.first_made.written g.second_made.written f c.raise_owned.ensures.as_long is c.in_ok-stop.ensures.as_long c.in_ok-stop.ensures.closed in
+    let done = raised_closed _ _ _ _ _ _ _ _ _ c.args.n g.l g.r _ _ lt g.first_made.written g.second_made.written f c.raise_owned.ensures.as_long is c.close_at.ensures.as_long closed in
     record {
       written = done.0;
       next = omega (arith, done.1, g.first_made.next, g.second_made.next);
-      whole = (λ t. absurd cc, λ o. absurd cc);
-    }
+    }) c.close_at.ensures.closed

@@ -6,4 +6,4 @@ pub close_filled-requires : goal.close_filled-requires
 close_filled-requires c = rw c.as_mut_slice.ensures.value c.requires
 
 pub returns : goal.returns
-returns c = if_ok c.close_filled.result (λ end is h. closed_in_copy _ _ _ _ end c.args.out.now.items _ _ c.as_mut_slice.ensures.value is h) c.close_filled.ensures
+returns c = if_ok c.close_filled.result (λ stop is h. closed_in_copy _ _ _ _ stop c.args.out.now.items _ _ c.as_mut_slice.ensures.value is h) c.close_filled.ensures

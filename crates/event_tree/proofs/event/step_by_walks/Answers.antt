@@ -9,7 +9,7 @@ fill_at-requires-clause-here c = here_whole _
 
 pub returns-in-Kept : goal.returns-in-Kept
 returns-in-Kept c =
-    let kept = rw c.view-view.ensures at (kept_of _ _ _ _ _ _ _ _ c.in_ok-fill_at.ensures c.in-Kept.is).0 in
+    let kept = rw c.view-view.ensures at (kept_of _ _ _ _ _ _ _ c.in_ok-fill_at.ensures c.in-Kept.is) in
     if_ok c.grown.result (λ fits told. grown_tells fits _ _ _ _ c.requires.normal c.requires.tree_normal c.view-view.ensures kept.kept told) c.grown.ensures
 
 pub returns-in-Changed : goal.returns-in-Changed

@@ -68,7 +68,7 @@ fn stays(chains: &Chains, table: Option<&Needs<'_>>, stage: &Stage, process: u32
 }
 
 /// So many ranks below the highest one are looked at one by one.
-const NEAR: u32 = 16;
+const NEAR: u32 = 20;
 
 /// The rank to be looked at below this one, for a process that has fallen so far: the next one at first, and farther the farther it has
 /// fallen. A look that finds nothing may cost as much as many that find something, so few ranks are not worth one more.

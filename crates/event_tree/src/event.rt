@@ -235,7 +235,7 @@ fn grown(alloc: Global, out: &mut Entries, id: &IdView, e: &EventView) -> Result
     grown_into(out, id, 0, e)
 }
 
-// Appends the tree, filled, and says whether all of it is owned. Where the id owns one part alone most of the tree stays as it is.
+// Appends the tree, filled, and says whether all of it is owned.
 fn filled_onto(out: &mut Entries, id: &IdView, e: &EventView) -> Result<bool, AllocError>
     requires normal { IsNormalId id.now }
     requires tree_normal { IsNormal e.now }

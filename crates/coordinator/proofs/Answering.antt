@@ -19,7 +19,7 @@ use Rattle.desk.specs.Lawful.{unstopped}
 use Rattle.desk.specs.Records.{IsOpened}
 use Rattle.line_text.specs.Questions.{IsAnswer, IsChosenFor}
 use Rattle.line_text.proofs.Texts.{shows_taken}
-use Rattle.coordinator.specs.Passes.{PassEntry, PassState, IsAnswered, IsShownOver, Sees}
+use Rattle.coordinator.specs.Passes.{PassEntry, PassState, IsAnswered, IsOneEntry, IsShownOver, Sees}
 use Rattle.coordinator.specs.Parts.{IsShownInstead, LastTaken, MayShowLine, with_line}
 use Rattle.coordinator.specs.Calls.{IsTurnFor, IsTakenFor}
 
@@ -53,27 +53,31 @@ shown_line held call text opened reach answer = let fits = answer.line in record
 pub answered_turn : {D : Type 0} (before after : DeskState D) (old : PassState) (call : Call) (new : PassState) → IsTurnFor before after old call new → IsAnswered old call new
 answered_turn before after old call new t = record { entry = t.entry; one = t.one; held = after.held; shows = t.shows }
 
+-- the entry shows a line, and all else stays
+pub one_shown : (old : PassState) (call : Call) (entry : PassEntry) (text : List ℕ) (mid new : PassState) → IsOneEntry old call entry mid → IsShownInstead mid text new → IsOneEntry old call (with_line entry text) new
+one_shown old call entry text mid new one (front, last, was, now) =
+    let same = same_from_push old.entries front entry last (sym one.entries ∙ was) in
+    record {
+      number = ap (λ (v : PassState). v.number) now ∙ one.number;
+      entries = ap (λ (v : PassState). v.entries) now
+          ∙ (ap (λ (es : List PassEntry). es ++ with_line last text ∷ []) (sym same.0) ∙ ap (λ (e : PassEntry). old.entries ++ with_line e text ∷ []) (sym same.1));
+      call_is = one.call_is;
+      above = one.above;
+      share = ap (λ (v : PassState). v.share) now ∙ one.share;
+      front = subst (λ (f : ℕ). Sees old.front entry.receipt.reply f) (sym (ap (λ (v : PassState). v.front) now)) one.front;
+    }
+
 -- a line was computed for what was held at the turn
 answered_shown : {D : Type 0} (before after : DeskState D) (old : PassState) (call : Call) (k : Kept) (text : List ℕ) (mid new : PassState)
     → IsTakenFor before after old call (Some k) mid → IsReached (held_of k) → IsAnswer (held_of k) call text → IsShownInstead mid text new
     → IsAnswered old call new
-answered_shown before after old call k text mid new t reached fits (front, last, was, now) =
+answered_shown before after old call k text mid new t reached fits instead =
     let made = t.made in
-    let same = same_from_push old.entries front made.entry last (sym made.one.entries ∙ was) in
-    let taken : last.receipt.reply ≡ Taken k.front = ap (λ (e : PassEntry). e.receipt.reply) (sym same.1) ∙ t.snapshot_is.1 in
     record {
-      entry = with_line last text;
-      one = record {
-        number = ap (λ (v : PassState). v.number) now ∙ made.one.number;
-        entries = ap (λ (v : PassState). v.entries) now ∙ ap (λ (es : List PassEntry). es ++ with_line last text ∷ []) (sym same.0);
-        call_is = ap (λ (e : PassEntry). e.call) (sym same.1) ∙ made.one.call_is;
-        above = subst (λ (n : ℕ). All (λ (e : PassEntry). e.receipt.turn < n) old.entries) (ap (λ (e : PassEntry). e.receipt.turn) same.1) made.one.above;
-        share = ap (λ (v : PassState). v.share) now ∙ made.one.share;
-        front = subst (λ (f : ℕ). Sees old.front last.receipt.reply f) (sym (ap (λ (v : PassState). v.front) now))
-            (subst (λ (r : Reply). Sees old.front r mid.front) (ap (λ (e : PassEntry). e.receipt.reply) same.1) made.one.front);
-      };
+      entry = with_line made.entry text;
+      one = one_shown old call made.entry text mid new made.one instead;
       held = held_of k;
-      shows = subst (λ (r : Reply). IsShownOver (held_of k) call r (Line text)) (sym taken) (shown_line (held_of k) call text (subst IsOpened (sym t.snapshot_is.0) made.shows.opened) reached fits);
+      shows = subst (λ (r : Reply). IsShownOver (held_of k) call r (Line text)) (sym t.snapshot_is.1) (shown_line (held_of k) call text (subst IsOpened (sym t.snapshot_is.0) made.shows.opened) reached fits);
     }
 
 answered_by : {D : Type 0} (before after : DeskState D) (old : PassState) (call : Call) (k : Kept) (mid new : PassState)

@@ -1,6 +1,8 @@
+pub mod Acknowledged
 pub mod Answering
 pub mod Certifying
 pub mod Checked
+pub mod Made
 pub mod Marked
 pub mod Openings
 pub mod Owned

@@ -1,5 +1,6 @@
 pub mod Passes
 pub mod Calls
+pub mod Standing
 pub mod Closing
 pub mod Codes
 pub mod Parts

@@ -7,6 +7,7 @@ ghost use Rattle.desk.specs.Files.{IsShort};
 ghost use Rattle.desk.specs.Records.{IsReadOff};
 ghost use Rattle.coordinator.specs.Passes.{IsPlain, IsAnswered, IsNewPass, line_call};
 ghost use Rattle.coordinator.specs.Calls.{IsForeignOnly};
+ghost use Rattle.coordinator.specs.Standing.{IsMade};
 ghost use Rattle.coordinator.specs.Closing.{IsAuditCause, IsEnded, IsRefused};
 
 use crate::auditing::audit;
@@ -152,12 +153,13 @@ impl<L: Ledger, D: Disk> Coordinator<L, D> {
         }
     }
 
-    /// Makes one turn for a call other than a question for a line, and adds it to the pass. Where there is a fault, no turn was
-    /// made, and the pass is as it was.
+    /// Makes one turn for a call other than a question for a line, and adds it to the pass. Behind `OK` and `SETTLED` the call's record
+    /// stands in the file. Where there is a fault, no turn was made, and the pass is as it was.
     pub fn call<R: Wait>(&self, rt: &R, pass: &mut Pass<L>, call: Call) -> Result<(), CallFault>
         requires plain { IsPlain call }
         requires short { IsShort call }
         ensures ok { OnOk result (IsAnswered pass.old call pass.new) }
+        ensures stands { OnOk result (IsMade D.keeps D.view pass.old call pass.new) }
         ensures err { OnErr result (pass.new ≡ pass.old) }
         ensures foreign { IfErr result (λ fault. IsForeignOnly pass.old fault) }
     {
@@ -176,6 +178,7 @@ impl<L: Ledger, D: Disk> Coordinator<L, D> {
         requires short { IsShort call }
         requires read { IsReadOff line.now call }
         ensures ok { OnOk result (IsAnswered pass.old call pass.new) }
+        ensures stands { OnOk result (IsMade D.keeps D.view pass.old call pass.new) }
         ensures err { OnErr result (pass.new ≡ pass.old) }
         ensures foreign { IfErr result (λ fault. IsForeignOnly pass.old fault) }
     {
@@ -194,6 +197,7 @@ impl<L: Ledger, D: Disk> Coordinator<L, D> {
         requires short { IsShort call }
         requires read { IfSome line (λ l. IsReadOff l.now call) }
         ensures ok { OnOk result (IsAnswered pass.old call pass.new) }
+        ensures stands { OnOk result (IsMade D.keeps D.view pass.old call pass.new) }
         ensures err { OnErr result (pass.new ≡ pass.old) }
         ensures foreign { IfErr result (λ fault. IsForeignOnly pass.old fault) }
     {
@@ -215,6 +219,7 @@ impl<L: Ledger, D: Disk> Coordinator<L, D> {
         names: Names,
     ) -> Result<(), CallFault>
         ensures ok { OnOk result (IsAnswered pass.old (line_call names) pass.new) }
+        ensures stands { OnOk result (IsMade D.keeps D.view pass.old (line_call names) pass.new) }
         ensures err { OnErr result (pass.new ≡ pass.old) }
         ensures foreign { IfErr result (λ fault. IsForeignOnly pass.old fault) }
     {
@@ -229,6 +234,7 @@ impl<L: Ledger, D: Disk> Coordinator<L, D> {
         gate: &G,
     ) -> Result<(), CallFault>
         ensures ok { OnOk result (IsAnswered pass.old calls.Garbage pass.new) }
+        ensures stands { OnOk result (IsMade D.keeps D.view pass.old calls.Garbage pass.new) }
         ensures err { OnErr result (pass.new ≡ pass.old) }
         ensures foreign { IfErr result (λ fault. IsForeignOnly pass.old fault) }
     {
@@ -247,6 +253,7 @@ impl<L: Ledger, D: Disk> Coordinator<L, D> {
     ) -> Result<(), CallFault>
         requires { IsShort call }
         ensures ok { OnOk result (IsAnswered pass.old call pass.new) }
+        ensures stands { OnOk result (IsMade D.keeps D.view pass.old call pass.new) }
         ensures err { OnErr result (pass.new ≡ pass.old) }
         ensures foreign { IfErr result (λ fault. IsForeignOnly pass.old fault) }
     {

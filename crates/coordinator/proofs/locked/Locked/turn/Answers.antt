@@ -1,5 +1,6 @@
 use Rattle.std.proofs.Common.{◌≡◌, ◌<◌, length, length-append, List, [], ◌∷◌, ◌++◌, sym, ap, ◌∙◌, arith}
 use Rattle.coordinator.specs.Passes.{PassEntry, PassState, last_turn}
+use Rattle.coordinator.proofs.Made.{is_made}
 use Rattle.coordinator.proofs.Rising.{rises-snoc}
 use Rattle.coordinator.proofs.Turns.{entry_of, turn-one}
 use Rattle.coordinator.proofs.locked.Locked.turn.Goals as goal
@@ -29,3 +30,7 @@ returns-clause-ok g c =
     (record { step = c.in-Ok.ensures.step; turns = c.in-Ok.ensures.turns; number = c.in-Ok.ensures.number; opening = c.make_turn.ensures.opening; found = c.make_turn.ensures.found })
     (omega (arith, c.if-pass-front.false, c.front-front.ensures)) (omega (arith, last, c.if-last-turns.false, ap length c.turns.ensures, c.lawful.ensures.lawful.few))
     c.pass.invariant.3 c.requires.copy c.add.ensures.amount added)
+
+pub returns-clause-stands : goal.returns-clause-stands
+returns-clause-stands g c =
+    is_made g.D.Disk.keeps g.D.Disk.view c.args.self.now.desk c.make_turn.new.desk _ c.args.call _ c.lawful.ensures.lawful c.lawful-2.ensures.lawful (returns-clause-ok g c)

@@ -13,3 +13,5 @@ mod TurnSteps
 pub mod RightLines
 mod OverRuns
 mod FileTurns
+mod OverFiles
+mod OpenedTwice

@@ -26,7 +26,7 @@ use Rattle.session.specs.Current.{traced, IsRightNow, EachLineIsRightNow, trace_
 
 -- ---- exchanges as turns of a trace
 
-come_traced : (held after : Held) (es : List Exchange) → ComeTo held es after → AreTurns held (traced es) after
+pub come_traced : (held after : Held) (es : List Exchange) → ComeTo held es after → AreTurns held (traced es) after
 come_traced held after [] comes = comes
 come_traced held after (e ∷ es) comes = (comes.0, comes.1, come_traced comes.0 after es comes.2)
 
@@ -60,7 +60,7 @@ each_line_is_right_now root run held at exchanges before later exchange text tra
 
 -- ---- clients who share a desk
 
-replayed_turns : (made : ℕ) (held after : Held) (ts : List Turn) → ReplaysFrom made held ts after → AreTurns held (trace_of ts) after
+pub replayed_turns : (made : ℕ) (held after : Held) (ts : List Turn) → ReplaysFrom made held ts after → AreTurns held (trace_of ts) after
 replayed_turns made held after [] replays = replays
 replayed_turns made held after (t ∷ ts) (number, (between, turn, more)) = (between, turn, replayed_turns (made + 1) between after ts more)
 
@@ -98,7 +98,7 @@ all_failed held names c for_names all q lt = elim (slice_get_cases (known held.a
 ]
 
 -- the text of a line over what is held behind both parts of a trace, and that of the line for all over what was held behind the first
-in_order : (root : Name) (run : Run) (held first at : Held) (earlier trace : Trace) (all names : List Name) (lowest text : List ℕ) → IsObeyed root run → IsHeldAfter run held → AreTurns held earlier first
+pub in_order : (root : Name) (run : Run) (held first at : Held) (earlier trace : Trace) (all names : List Name) (lowest text : List ℕ) → IsObeyed root run → IsHeldAfter run held → AreTurns held earlier first
     → AreTurns first trace at → ProcessesObey root run (earlier ++ trace) → all ≡ known first.accepted → IsLineText first all lowest → IsLineText at names text → AreInOrder first at lowest text
 in_order root run held first at earlier trace all names lowest text obeyed holds turns rest processes each garbage line =
     let front = (processes_obey_in_parts root run run earlier trace processes).0 in

@@ -6,5 +6,7 @@ pub mod Ends
 pub mod Parts
 pub mod Headline
 pub mod Current
+pub mod Openings
+pub mod TwoOpenings
 pub mod Gained
 pub mod Sessions

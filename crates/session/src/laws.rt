@@ -12,8 +12,10 @@ ghost use Rattle.session.specs.declared.kind.Kind.TheVariants as kinds;
 ghost use Rattle.line_text.specs.Questions.{IsChosenText};
 ghost use Rattle.session.specs.Current.{EachFileTellsARun, EachLineIsRightNow, EachSharedLineIsRightNow, NoLineIsBelowGarbage, NoSharedLineIsBelowGarbage};
 ghost use Rattle.session.specs.OneText.{IsUndisturbed};
+ghost use Rattle.session.specs.Openings.{DesksAreOverFiles, EachFileHasATrace, NoLineIsBelowGarbageOverFiles, SessionsAreOverFiles, WhatIsHeldIsOpened};
 ghost use Rattle.session.specs.SessionText.{Grounds, IsSession, Mean, joined, session_text};
 ghost use Rattle.session.specs.Turned.{Served, ShowsFailure};
+ghost use Rattle.session.specs.TwoOpenings.{TwoOpeningsArePossible};
 
 /// What is held behind exchanges that took turns is told by the exchanges alone: they come to it, and to nothing else; and at each
 /// place among them something is held.
@@ -41,6 +43,21 @@ pub fn each_line_is_right_for_the_current_history()
     ensures shared_garbage { NoSharedLineIsBelowGarbage }
     // What this starts from is there when a file is opened.
     ensures file { EachFileTellsARun }
+{}
+
+/// No line is below an earlier garbage line, also where they were asked for in different openings of a record file, with reports, settlements,
+/// failures of the device and crashes in between.
+pub fn no_line_is_below_garbage_over_files()
+    ensures below { NoLineIsBelowGarbageOverFiles }
+    // What is held at a question is what opening the records that there are by then comes to.
+    ensures opened { WhatIsHeldIsOpened }
+    // So it is at each place of a session, and behind turns that clients share.
+    ensures sessions { SessionsAreOverFiles }
+    ensures desks { DesksAreOverFiles }
+    // And each file that is opened tells turns, between which processes may have made their steps.
+    ensures told { EachFileHasATrace }
+    // Two openings, written out, with a settlement in the second.
+    ensures possible { TwoOpeningsArePossible }
 {}
 
 /// Where the store is stopped neither before the exchanges nor behind them, no device failed in between.

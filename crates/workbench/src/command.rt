@@ -18,6 +18,8 @@ pub enum Command<'a> {
     Passes(u32),
     /// Three sessions over a coordinator that computes a line by so many threads, of which one waits at this place.
     Gate { workers: NonZeroU32, place: Place },
+    /// Three sessions by two workers, whose clients send and get so many bytes at a time.
+    Workers(NonZeroU32),
     /// A table of needs by so many threads, of which two may wait for each other.
     Table { workers: NonZeroU32, place: Place },
     /// A session over a coordinator of the record file of this path.
@@ -59,6 +61,7 @@ pub fn read(words: &[String]) -> Option<Command<'_>> {
             workers: count_of(workers.as_str())?,
             place: place_of(place.as_str())?,
         }),
+        ("workers", [most]) => Some(Command::Workers(count_of(most.as_str())?)),
         ("table", [workers, place]) => Some(Command::Table {
             workers: count_of(workers.as_str())?,
             place: place_of(place.as_str())?,

@@ -2,4 +2,6 @@
 
 pub mod gate;
 pub mod sessions;
+mod streams;
 pub mod tables;
+pub mod workers;

@@ -18,7 +18,7 @@ use std::thread::Threads;
 /// Which words there are.
 const USAGE: &str =
     "usage: workbench session | clocks | certificate | calls | served FILE | shared FILE | world | passes COUNT | gate THREADS PLACE |
-                 table THREADS PLACE | traffic STREAM | steps PROCESSES TURNS
+                 workers BYTES | table THREADS PLACE | traffic STREAM | steps PROCESSES TURNS
 
 session      measures a session of one process against a loop that reads and compares the same lines
 clocks       measures clock operations on families of 2, 64 and 1,024 processes
@@ -35,6 +35,9 @@ gate         serves three clients, whose texts on standard input are parted by e
              THREADS threads, the last two at once. At PLACE a line of the last one waits until the one before was served: before it is
              computed, in a session (session) or by a call (line), or before its first run (run). Or its first two runs wait for each
              other (runs), or it waits nowhere (open). Writes what each got, what the gate counted, and how the coordinator ended
+workers      serves three clients, whose texts on standard input are parted by empty lines, by two workers, the last two at once: their first
+             reads wait for each other. Each read and each write takes BYTES bytes at most. Writes what each got, that of the last two in
+             the order of these texts, how many of them waited in vain, and how the coordinator ended
 table        makes the table of needs of the reports on standard input by THREADS threads, with a gate as above, and writes it, a line
              for each element
 steps        makes the clock operations of `traffic script` for the same numbers, and writes nothing
@@ -67,6 +70,7 @@ fn run<T: Threads + Wait + Sync>(
         Command::Gate { workers, place } => gates::sessions::answer_all(
             rt, threads, workers, place,
         ),
+        Command::Workers(most) => gates::workers::answer_all(rt, threads, most),
         Command::Table { workers, place } => gates::tables::answer_all(rt, threads, workers, place),
         Command::Served(path) => again::served::serve_one(rt, threads, path),
         Command::Shared(path) => again::shared::answer_all(rt, threads, path),

@@ -41,8 +41,8 @@ pub struct HeldGate {
     late: AtomicU64,
 }
 
-// Waits until the word is not 0; whether it is, in good time.
-fn wait_for(word: &AtomicU64) -> bool {
+/// Waits until the word is not 0; whether it is, in good time.
+pub fn wait_for(word: &AtomicU64) -> bool {
     for _ in 0..10_000_000u64 {
         if word.load(Ordering::SeqCst) != 0 {
             return true;

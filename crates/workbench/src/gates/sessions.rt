@@ -19,10 +19,10 @@ use std::thread::{Threads, join};
 
 /// The texts of three clients.
 #[derive(Drop)]
-struct Texts<'a> {
-    first: &'a [u8],
-    second: &'a [u8],
-    third: &'a [u8],
+pub struct Texts<'a> {
+    pub first: &'a [u8],
+    pub second: &'a [u8],
+    pub third: &'a [u8],
 }
 
 // The text up to an empty line, which may be the first one, and what stands behind that.
@@ -38,8 +38,8 @@ fn cut(text: &[u8]) -> (&[u8], &[u8]) {
     (text, b"".as_slice())
 }
 
-// The texts that are parted by empty lines.
-fn texts_of(input: &[u8]) -> Texts<'_> {
+/// The texts that are parted by empty lines.
+pub fn texts_of(input: &[u8]) -> Texts<'_> {
     let (first, rest) = cut(input);
     let (second, third) = cut(rest);
     Texts {

@@ -1,0 +1,188 @@
+//! Sessions that workers serve at once.
+
+ghost use Rattle.std.specs.Prelude.{◌≡◌};
+
+use super::sessions::{Texts, texts_of};
+use super::streams::{Got, Meeting, Sent, Who};
+use crate::again::shared::{close, desk_over, put_end, shared};
+use anyhow::{Error, Result};
+use client_link::Streams;
+use coordinator::{Coordinator, OpenGate, Pass};
+use crossbeam_channel::{Receiver, bounded};
+use line_disk::MemoryDisk;
+use session::{Served, workers};
+use std::alloc::{AllocError, Global};
+use std::io::{BufWriter, Read, Write};
+use std::marker::Brand;
+use std::num::NonZeroU32;
+use std::sync::Wait;
+use std::sync::ledger::{Blank, Ledger};
+use std::thread::Threads;
+
+// The link of a client.
+type ClientLink<'a> = Streams<Sent<'a>, Got>;
+
+// A client that sends the text, and gets its replies, so many bytes at a time.
+fn link_of<'a>(
+    alloc: Global,
+    text: &'a [u8],
+    most: usize,
+    meeting: &'a Meeting,
+    who: Who,
+) -> Result<ClientLink<'a>> {
+    let got = BufWriter::with_capacity(alloc, 0, Got::new(alloc, most))?;
+    Ok(Streams::new(Sent::new(text, most, meeting, who), got))
+}
+
+// A channel with these links in it, to which no more come.
+fn channel_of<'a, R: Wait>(
+    rt: &R,
+    alloc: Global,
+    links: Vec<ClientLink<'a>>,
+) -> Result<Receiver<ClientLink<'a>>> {
+    let Ok((sender, receiver)) = bounded::<ClientLink<'a>, _>(alloc, 2) else {
+        return Err(Error::from(AllocError));
+    };
+    for link in links {
+        if sender.send(rt, link).is_err() {
+            return Err(Error::from(AllocError));
+        }
+    }
+    Ok(receiver)
+}
+
+// Keeps the pass of a session and what its client got.
+fn keep<'a, L: Ledger>(
+    alloc: Global,
+    session: Served<L, ClientLink<'a>>,
+    passes: &mut Vec<Pass<L>>,
+    texts: &mut Vec<Vec<u8>>,
+) -> Result<()> {
+    let Served { pass, link, end: _ } = session;
+    passes.push(pass)?;
+    let (_rest, got) = link.into_inner();
+    texts.push(Vec::from_slice(alloc, got.get_ref().text())?)?;
+    Ok(())
+}
+
+// Serves the clients of these links by two workers; answers what each got.
+fn serve<'a, L: Ledger + Send + Sync, R: Threads + Wait + Sync>(
+    rt: &R,
+    coordinator: &Coordinator<L, MemoryDisk>,
+    links: Vec<ClientLink<'a>>,
+    passes: &mut Vec<Pass<L>>,
+) -> Result<Vec<Vec<u8>>> {
+    let alloc = coordinator.alloc();
+    let links = channel_of(rt, alloc, links)?;
+    let lists = workers(rt, alloc, coordinator, &OpenGate, 2, links)?;
+    let mut texts = Vec::new(alloc);
+    for sessions in lists {
+        for session in sessions {
+            keep(alloc, session, passes, &mut texts)?;
+        }
+    }
+    Ok(texts)
+}
+
+// Serves the clients, and writes what they got, in the order of these texts.
+fn put_served<'a, L: Ledger + Send + Sync, R: Threads + Wait + Sync, W: Write>(
+    rt: &R,
+    coordinator: &Coordinator<L, MemoryDisk>,
+    links: Vec<ClientLink<'a>>,
+    passes: &mut Vec<Pass<L>>,
+    out: &mut W,
+) -> Result<()> {
+    let mut texts = serve(rt, coordinator, links, passes)?;
+    texts.sort()?;
+    for text in &texts {
+        out.write_all(text)?;
+        out.write_all(b"\n")?;
+    }
+    Ok(())
+}
+
+// The link of the client that is served alone.
+fn alone<'a>(
+    alloc: Global,
+    texts: &Texts<'a>,
+    most: usize,
+    meeting: &'a Meeting,
+) -> Result<Vec<ClientLink<'a>>> {
+    let mut links = Vec::new(alloc);
+    links.push(link_of(alloc, texts.first, most, meeting, Who::Alone)?)?;
+    Ok(links)
+}
+
+// The links of the two that are served at once.
+fn both<'a>(
+    alloc: Global,
+    texts: &Texts<'a>,
+    most: usize,
+    meeting: &'a Meeting,
+) -> Result<Vec<ClientLink<'a>>> {
+    let mut links = Vec::new(alloc);
+    links.push(link_of(alloc, texts.second, most, meeting, Who::One)?)?;
+    links.push(link_of(alloc, texts.third, most, meeting, Who::Other)?)?;
+    Ok(links)
+}
+
+// Serves three clients; answers the passes.
+fn serve_all<L: Ledger + Send + Sync, R: Threads + Wait + Sync, W: Write>(
+    rt: &R,
+    coordinator: &Coordinator<L, MemoryDisk>,
+    texts: &Texts<'_>,
+    most: usize,
+    out: &mut W,
+) -> Result<Vec<Pass<L>>> {
+    let alloc = coordinator.alloc();
+    let meeting = Meeting::new();
+    let mut passes = Vec::new(alloc);
+    let links = alone(alloc, texts, most, &meeting)?;
+    put_served(rt, coordinator, links, &mut passes, out)?;
+    let links = both(alloc, texts, most, &meeting)?;
+    put_served(rt, coordinator, links, &mut passes, out)?;
+    let late = meeting.late();
+    let text = format!(in alloc; "LATE {late}\n")?;
+    out.write_all(text.as_bytes())?;
+    Ok(passes)
+}
+
+// The same over a coordinator of its own, which is closed.
+fn put_all<L: Ledger + Send + Sync, R: Threads + Wait + Sync, W: Write>(
+    rt: &R,
+    alloc: Global,
+    blank: Blank,
+    texts: &Texts<'_>,
+    most: usize,
+    out: &mut W,
+) -> Result<()>
+    requires name { blank.name ≡ L.name }
+    requires parts { (blank.parts ≡ L.parts) × (blank.parts ≡ 8193) }
+{
+    let desk = desk_over(alloc, MemoryDisk::new(alloc, &[])?, out)?;
+    let coordinator = shared::<L, _, W>(alloc, blank, desk, out)?;
+    let passes = serve_all(rt, &coordinator, texts, most, out)?;
+    let ended = close(coordinator, passes, out)?;
+    put_end(alloc, ended, out)
+}
+
+/// Serves three clients by two workers, the first alone and then the other two at once: the first reads of these wait for each other. What
+/// they send and get goes so many bytes at a time. Their texts are parted by empty lines, and so is what they get, that of the two in the order
+/// of these texts. Tells how many clients waited in vain, and how the coordinator ended.
+pub fn answer_all<T: Wait + Threads + Sync>(
+    rt: &HostRuntime,
+    threads: &T,
+    most: NonZeroU32,
+) -> Result<()> {
+    let alloc = rt.alloc();
+    let mut input = Vec::new(alloc);
+    rt.reader().read_to_end(&mut input)?;
+    put_all::<Brand, _, _>(
+        threads,
+        alloc,
+        Blank::new(8193),
+        &texts_of(&input),
+        most.get() as usize,
+        &mut rt.stdout(),
+    )
+}

@@ -1,6 +1,7 @@
 //! Calls that are made once more where memory was wanting for them: those of a coordinator, and those of a world. Each second try is told
 //! by a line `AGAIN` with what it is for; what is written besides does not tell whether there was one.
 
+pub mod failing;
 pub mod passes;
 pub mod served;
 pub mod shared;

@@ -27,7 +27,7 @@
 mod answer;
 mod bench;
 mod certificates;
-mod disks;
+pub mod disks;
 mod event_trees;
 mod handed;
 mod held;

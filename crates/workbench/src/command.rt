@@ -1,6 +1,8 @@
 //! What the words of the command line ask for.
 
+use crate::calls::disks::effect_of;
 use crate::gates::gate::Place;
+use line_disk::Effect;
 use std::num::NonZeroU32;
 
 /// Which tool is wanted.
@@ -26,6 +28,8 @@ pub enum Command<'a> {
     Served(&'a str),
     /// The calls of a coordinator over the record file of this path, made once more where memory was wanting.
     Shared(&'a str),
+    /// The calls of a coordinator over a disk in memory, of which the call of this number fails.
+    Failing { call: u32, effect: Effect },
     /// The steps of a world, taken once more where memory was wanting.
     World,
     /// Lines of reports.
@@ -68,6 +72,10 @@ pub fn read(words: &[String]) -> Option<Command<'_>> {
         }),
         ("served", [path]) => Some(Command::Served(path.as_str())),
         ("shared", [path]) => Some(Command::Shared(path.as_str())),
+        ("failing", [call, effect]) => Some(Command::Failing {
+            call: number_of(call.as_str())?,
+            effect: effect_of(effect.as_str())?,
+        }),
         ("world", []) => Some(Command::World),
         ("steps", [processes, turns]) => Some(Command::Steps {
             processes: count_of(processes.as_str())?,

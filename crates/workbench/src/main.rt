@@ -17,8 +17,8 @@ use std::thread::Threads;
 
 /// Which words there are.
 const USAGE: &str =
-    "usage: workbench session | clocks | certificate | calls | served FILE | shared FILE | world | passes COUNT | gate THREADS PLACE |
-                 workers BYTES | table THREADS PLACE | traffic STREAM | steps PROCESSES TURNS
+    "usage: workbench session | clocks | certificate | calls | served FILE | shared FILE | failing CALL EFFECT | world |
+                 passes COUNT | gate THREADS PLACE | workers BYTES | table THREADS PLACE | traffic STREAM | steps PROCESSES TURNS
 
 session      measures a session of one process against a loop that reads and compares the same lines
 clocks       measures clock operations on families of 2, 64 and 1,024 processes
@@ -28,6 +28,7 @@ served       serves the client of standard input and output over a coordinator o
              session and the coordinator ended, and opens a desk over its disk
 shared       makes the calls of a coordinator for the lines on standard input over the record file FILE, each once more where
              memory was wanting for it; closes it likewise, and opens a desk over its disk
+failing      the same over a disk in memory, whose CALL-th call fails and has done nothing (none) or all (all)
 world        drives a world by the steps on standard input, each taken once more where memory was wanting for it
 passes       takes COUNT passes of a coordinator, each of which makes a turn, or tells why there are no more; tells the number of the last
              one, why the coordinator is not closed without it, and how it ends with all
@@ -74,6 +75,9 @@ fn run<T: Threads + Wait + Sync>(
         Command::Table { workers, place } => gates::tables::answer_all(rt, threads, workers, place),
         Command::Served(path) => again::served::serve_one(rt, threads, path),
         Command::Shared(path) => again::shared::answer_all(rt, threads, path),
+        Command::Failing { call, effect } => {
+            again::failing::answer_all(rt, threads, call, effect)
+        }
         Command::World => again::world::drive_all(rt),
         Command::Steps { processes, turns } => traffic::steps(rt.alloc(), processes, turns),
         Command::Traffic(stream) => traffic::write(rt, stream),

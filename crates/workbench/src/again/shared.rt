@@ -196,12 +196,12 @@ pub fn put_end<D: Disk + Drop, W: Write>(
     Ok(out.write_all(text.as_bytes())?)
 }
 
-// Answers the lines over a coordinator of its own.
-fn answer<L: Ledger, R: Wait + Threads + Sync, W: Write>(
+/// Answers the lines over a coordinator of its own.
+pub fn answer<L: Ledger, D: Disk + Drop, R: Wait + Threads + Sync, W: Write>(
     rt: &R,
     alloc: Global,
     blank: Blank,
-    disk: File,
+    disk: D,
     input: &[u8],
     out: &mut W,
 ) -> Result<()>
@@ -228,8 +228,8 @@ pub fn answer_all<T: Wait + Threads + Sync>(
     let alloc = rt.alloc();
     let mut input = Vec::new(alloc);
     rt.reader().read_to_end(&mut input)?;
-    let disk = FileDisk::open(rt, alloc, path, &mut RecordReach::new())?;
-    answer::<Brand, _, _>(
+    let disk: File = FileDisk::open(rt, alloc, path, &mut RecordReach::new())?;
+    answer::<Brand, _, _, _>(
         threads,
         alloc,
         Blank::new(8193),

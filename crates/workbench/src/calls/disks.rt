@@ -5,7 +5,8 @@ use desk::DeskFault;
 use line_disk::{Effect, MemoryDisk};
 use std::alloc::{AllocError, Global};
 
-fn effect_of(word: &str) -> Option<Effect> {
+/// What a call that fails has done, by a word.
+pub fn effect_of(word: &str) -> Option<Effect> {
     match word {
         "none" => Some(Effect::Nothing),
         "all" => Some(Effect::All),

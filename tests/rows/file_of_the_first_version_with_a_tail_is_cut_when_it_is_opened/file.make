@@ -1,0 +1,1 @@
+{ $records_of_the_first_version "BEGIN a"; printf '\xff\xff\xff\xff\xff'; } >"$file"

@@ -1,0 +1,1 @@
+{ $records "BEGIN a"; printf '\xff\xff\xff\xff\xff'; } >"$file"

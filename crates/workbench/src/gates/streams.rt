@@ -56,16 +56,16 @@ pub enum Who {
 
 /// What a client sends. Its first read waits until that of the other client has begun.
 #[derive(Drop)]
-pub struct Sent<'a> {
-    rest: &'a [u8],
+pub struct Sent<'t, 'm> {
+    rest: &'t [u8],
     most: usize,
-    meeting: &'a Meeting,
+    meeting: &'m Meeting,
     who: Who,
 }
 
-impl<'a> Sent<'a> {
+impl<'t, 'm> Sent<'t, 'm> {
     /// This text, so many bytes at a time.
-    pub fn new(text: &'a [u8], most: usize, meeting: &'a Meeting, who: Who) -> Sent<'a> {
+    pub fn new(text: &'t [u8], most: usize, meeting: &'m Meeting, who: Who) -> Sent<'t, 'm> {
         Sent {
             rest: text,
             most,
@@ -85,7 +85,7 @@ impl<'a> Sent<'a> {
     }
 }
 
-impl<'a> Read for Sent<'a> {
+impl<'t, 'm> Read for Sent<'t, 'm> {
     fn read(&mut self, buf: &mut [u8]) -> io::Result<usize> {
         self.wait();
         let n = self.most.min(self.rest.len()).min(buf.len());

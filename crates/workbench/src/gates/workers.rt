@@ -20,27 +20,27 @@ use std::sync::ledger::{Blank, Ledger};
 use std::thread::Threads;
 
 // The link of a client.
-type ClientLink<'a> = Streams<Sent<'a>, Got>;
+type ClientLink<'t, 'm> = Streams<Sent<'t, 'm>, Got>;
 
 // A client that sends the text, and gets its replies, so many bytes at a time.
-fn link_of<'a>(
+fn link_of<'t, 'm>(
     alloc: Global,
-    text: &'a [u8],
+    text: &'t [u8],
     most: usize,
-    meeting: &'a Meeting,
+    meeting: &'m Meeting,
     who: Who,
-) -> Result<ClientLink<'a>> {
+) -> Result<ClientLink<'t, 'm>> {
     let got = BufWriter::with_capacity(alloc, 0, Got::new(alloc, most))?;
     Ok(Streams::new(Sent::new(text, most, meeting, who), got))
 }
 
 // A channel with these links in it, to which no more come.
-fn channel_of<'a, R: Wait>(
+fn channel_of<'t, 'm, R: Wait>(
     rt: &R,
     alloc: Global,
-    links: Vec<ClientLink<'a>>,
-) -> Result<Receiver<ClientLink<'a>>> {
-    let Ok((sender, receiver)) = bounded::<ClientLink<'a>, _>(alloc, 2) else {
+    links: Vec<ClientLink<'t, 'm>>,
+) -> Result<Receiver<ClientLink<'t, 'm>>> {
+    let Ok((sender, receiver)) = bounded::<ClientLink<'t, 'm>, _>(alloc, 2) else {
         return Err(Error::from(AllocError));
     };
     for link in links {
@@ -52,9 +52,9 @@ fn channel_of<'a, R: Wait>(
 }
 
 // Keeps the pass of a session and what its client got.
-fn keep<'a, L: Ledger>(
+fn keep<'t, 'm, L: Ledger>(
     alloc: Global,
-    session: Served<L, ClientLink<'a>>,
+    session: Served<L, ClientLink<'t, 'm>>,
     passes: &mut Vec<Pass<L>>,
     texts: &mut Vec<Vec<u8>>,
 ) -> Result<()> {
@@ -66,10 +66,10 @@ fn keep<'a, L: Ledger>(
 }
 
 // Serves the clients of these links by two workers; answers what each got.
-fn serve<'a, L: Ledger + Send + Sync, R: Threads + Wait + Sync>(
+fn serve<'t, 'm, L: Ledger + Send + Sync, R: Threads + Wait + Sync>(
     rt: &R,
     coordinator: &Coordinator<L, MemoryDisk>,
-    links: Vec<ClientLink<'a>>,
+    links: Vec<ClientLink<'t, 'm>>,
     passes: &mut Vec<Pass<L>>,
 ) -> Result<Vec<Vec<u8>>> {
     let alloc = coordinator.alloc();
@@ -85,10 +85,10 @@ fn serve<'a, L: Ledger + Send + Sync, R: Threads + Wait + Sync>(
 }
 
 // Serves the clients, and writes what they got, in the order of these texts.
-fn put_served<'a, L: Ledger + Send + Sync, R: Threads + Wait + Sync, W: Write>(
+fn put_served<'t, 'm, L: Ledger + Send + Sync, R: Threads + Wait + Sync, W: Write>(
     rt: &R,
     coordinator: &Coordinator<L, MemoryDisk>,
-    links: Vec<ClientLink<'a>>,
+    links: Vec<ClientLink<'t, 'm>>,
     passes: &mut Vec<Pass<L>>,
     out: &mut W,
 ) -> Result<()> {
@@ -102,24 +102,24 @@ fn put_served<'a, L: Ledger + Send + Sync, R: Threads + Wait + Sync, W: Write>(
 }
 
 // The link of the client that is served alone.
-fn alone<'a>(
+fn alone<'t, 'm>(
     alloc: Global,
-    texts: &Texts<'a>,
+    texts: &Texts<'t>,
     most: usize,
-    meeting: &'a Meeting,
-) -> Result<Vec<ClientLink<'a>>> {
+    meeting: &'m Meeting,
+) -> Result<Vec<ClientLink<'t, 'm>>> {
     let mut links = Vec::new(alloc);
     links.push(link_of(alloc, texts.first, most, meeting, Who::Alone)?)?;
     Ok(links)
 }
 
 // The links of the two that are served at once.
-fn both<'a>(
+fn both<'t, 'm>(
     alloc: Global,
-    texts: &Texts<'a>,
+    texts: &Texts<'t>,
     most: usize,
-    meeting: &'a Meeting,
-) -> Result<Vec<ClientLink<'a>>> {
+    meeting: &'m Meeting,
+) -> Result<Vec<ClientLink<'t, 'm>>> {
     let mut links = Vec::new(alloc);
     links.push(link_of(alloc, texts.second, most, meeting, Who::One)?)?;
     links.push(link_of(alloc, texts.third, most, meeting, Who::Other)?)?;

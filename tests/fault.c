@@ -2,6 +2,7 @@
 //
 //   READ_MOST, WRITE_MOST    so many bytes at most are given by a read of standard input or of a connection, or taken by a write
 //   READ_END, WRITE_END      behind so many bytes in all a read or a write fails
+//   SEND_END                 behind so many bytes in all a write to a connection fails
 //   WRITE_NOTHING            in place of failing such a write takes nothing
 //   READ_LINES               standard input has no end: lines of so many letters x
 //   CALL, DONE               the call of this number of those for the record file fails, from 1, and with DONE it is done all the same
@@ -27,7 +28,7 @@ static ssize_t (*given_write)(int, const void *, size_t), (*given_send)(int, con
 static ssize_t (*given_pread)(int, void *, size_t, off_t), (*given_pwrite)(int, const void *, size_t, off_t);
 static int (*given_fsync)(int), (*given_fdatasync)(int), (*given_ftruncate)(int, off_t);
 static int (*given_statx)(int, const char *, int, unsigned, void *);
-static long read_most, write_most, read_end, write_end, read_lines, call, was_read, was_written, calls;
+static long read_most, write_most, read_end, write_end, send_end, read_lines, call, was_read, was_written, was_sent, calls;
 // Whether a standard stream broke.
 static int is_broken;
 
@@ -59,6 +60,7 @@ __attribute__((constructor)) static void begin(void)
     write_most = number("WRITE_MOST");
     read_end = number("READ_END");
     write_end = number("WRITE_END");
+    send_end = number("SEND_END");
     read_lines = number("READ_LINES");
     call = number("CALL");
 }
@@ -145,7 +147,12 @@ ssize_t write(int file, const void *bytes, size_t asked)
 
 ssize_t send(int file, const void *bytes, size_t asked, int flags)
 {
-    return given_send(file, bytes, within(asked, write_most, NO_LIMIT, 0), flags);
+    size_t most = within(asked, write_most, send_end, was_sent);
+    if (asked && !most)
+        return fail();
+    ssize_t sent = given_send(file, bytes, most, flags);
+    was_sent += sent > 0 ? sent : 0;
+    return sent;
 }
 
 // ---- the record file

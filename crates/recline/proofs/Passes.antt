@@ -8,12 +8,59 @@ use Rattle.std.proofs.Math.Logic.{∥∥₁_map}
 use Rattle.coordinator.specs.Passes.{PassState}
 use Rattle.session.specs.declared.kind.Kind.{Kind}
 use Rattle.client_link.specs.Links.{LinkState}
+use Rattle.session.specs.Exchanges.{Exchange}
+use Rattle.session.specs.Ends.{IsReadAt, HaveGone}
 use Rattle.session.specs.Sessions.{WasServed}
 use Rattle.recline.specs.Serving.{AreOfSessions, AreServed, IsOfSession, dropped_in, drops}
 
+read_as_told : {K : Type 0} (told : K → LinkState) (link : K) (n : ℕ) (earlier : List ℕ) (turned : List Exchange) → IsReadAt told link n earlier turned → IsReadAt (λ (s : LinkState). s) (told link) n earlier turned
+read_as_told told link n earlier turned r =
+    record {
+      reading = told r.reading;
+      reads_are = r.reads_are;
+      consumed = r.consumed;
+      answered = r.answered;
+      later = r.later;
+      turned_are = r.turned_are;
+      each_line = r.each_line;
+      written = r.written;
+      nothing_waits = r.nothing_waits;
+      no_bye = r.no_bye;
+      is_open = r.is_open;
+    }
+
+gone_as_told : {K : Type 0} (told : K → LinkState) (link : K) (earlier : List Exchange) → HaveGone told link earlier → HaveGone (λ (s : LinkState). s) (told link) earlier
+gone_as_told told link earlier g = record { moment = told g.moment; written = g.written; nothing_waits = g.nothing_waits; sound = g.sound }
+
+-- what is said of a link is so of what it tells
+as_told : {K : Type 0} (told : K → LinkState) (link : K) (pass : PassState) (kind : Kind) (replies : ℕ) → WasServed told link pass kind replies → WasServed (λ (s : LinkState). s) (told link) pass kind replies
+as_told told link pass kind replies w =
+    let l = w.served in
+    record {
+      before = told w.before;
+      fresh = w.fresh;
+      is_new = w.is_new;
+      served = record {
+        pieces = l.pieces;
+        turned = l.turned;
+        text = l.text;
+        session = l.session;
+        gains = l.gains;
+        consumed = l.consumed;
+        written = l.written;
+        reads = l.reads;
+        few = l.few;
+        prompt = λ n lt. read_as_told told w.before n _ l.turned (l.prompt n lt);
+        gone = λ n lt. gone_as_told told w.before _ (l.gone n lt);
+        last = told l.last;
+        leaves = l.leaves;
+        ends = l.ends;
+      };
+    }
+
 -- what a worker keeps of a session
-pub of_session : (link : LinkState) (pass : PassState) (kind : Kind) (replies : ℕ) → ∥ WasServed link pass kind replies ∥₁ → ∥ IsOfSession pass kind ∥₁
-of_session link pass kind replies t = ∥∥₁_map t (λ w. record { link = link; replies = replies; served = w })
+pub of_session : {K : Type 0} (told : K → LinkState) (link : K) (pass : PassState) (kind : Kind) (replies : ℕ) → ∥ WasServed told link pass kind replies ∥₁ → ∥ IsOfSession pass kind ∥₁
+of_session told link pass kind replies t = ∥∥₁_map t (λ w. record { link = told link; replies = replies; served = as_told told link pass kind replies w })
 
 -- before the first session
 pub none_served : (passes : List PassState) → passes ≡ [] → AreServed passes 0

@@ -13,6 +13,7 @@ use Rattle.desk.specs.declared.fault.DeskFault.{DeskFault}
 use Rattle.desk.specs.declared.fault.DeskFault.TheVariants as opening
 use Rattle.report_line.specs.Cutting.{ended}
 use Rattle.session.specs.declared.kind.Kind.{Kind}
+use Rattle.session.specs.declared.handing.HandOn.{HandOn}
 use Rattle.session.specs.declared.kind.Kind.TheVariants as kinds
 use Rattle.client_link.specs.Links.{LinkState, IsSound, IsFault}
 use Rattle.session.specs.Ends.{Ended, Leaves}
@@ -54,10 +55,10 @@ pub record Tells (old new : LinkState) (line : List ℕ) : Type 0 where
       ⊎ ((part more : List ℕ) × (line ≡ part ++ more) × Appends old.held new.held part × IsFault old new)
 
 -- A session with the client ended so over a desk; the status and the fault line say how.
-pub record Runs {D K F : Type 0} (keeps : D → Type 0) (client_told : K → LinkState) (faults_told : F → LinkState) (client client_after : K) (faults faults_after : F) (desk after : DeskState D) (status : ℕ) : Type 0 where
+pub record Runs {D K F : Type 0} (keeps : D → Type 0) (client_told : K → LinkState) (faults_told : F → LinkState) (when : HandOn) (client client_after : K) (faults faults_after : F) (desk after : DeskState D) (status : ℕ) : Type 0 where
   pub kind : Kind
   pub replies : ℕ
-  pub session : Ended keeps client_told client client_after desk after kind replies
+  pub session : Ended keeps client_told when client client_after desk after kind replies
   pub leaves : Leaves kind (client_told client) (client_told client_after)
   pub status_is : status ≡ status_of kind after.held.stopped
   pub faults_are : Tells (faults_told faults) (faults_told faults_after) (fault_line kind)
@@ -73,11 +74,11 @@ pub record IsOpened {D : Type 0} (keeps : D → Type 0) (view : D → View) (dis
 
 -- The file on this disk was opened, and a session with the client ended over the desk of it, whose disk is handed back. What a crash
 -- leaves of it is told by what holds of each desk.
-pub record RunsOpened {D K F : Type 0} (keeps : D → Type 0) (view : D → View) (client_told : K → LinkState) (faults_told : F → LinkState) (disk disk_after : D) (client client_after : K) (faults faults_after : F) (status : ℕ) : Type 0 where
+pub record RunsOpened {D K F : Type 0} (keeps : D → Type 0) (view : D → View) (client_told : K → LinkState) (faults_told : F → LinkState) (when : HandOn) (disk disk_after : D) (client client_after : K) (faults faults_after : F) (status : ℕ) : Type 0 where
   pub desk : DeskState D
   pub after : DeskState D
   pub opened : IsOpened keeps view disk desk
-  pub runs : Runs keeps client_told faults_told client client_after faults faults_after desk after status
+  pub runs : Runs keeps client_told faults_told when client client_after faults faults_after desk after status
   pub lawful : IsLawful keeps view after
   pub disk_is : disk_after ≡ after.disk
 
@@ -93,7 +94,7 @@ pub record IsNotOpened {D K F : Type 0} (keeps : D → Type 0) (view : D → Vie
   pub status_is : status ≡ 3
   pub faults_are : Tells (faults_told faults) (faults_told faults_after) (open_fault_line fault)
 
-abbrev pub RunsOn : {D K F : Type 0} → (D → Type 0) → (D → View) → (D → ℕ) → (K → LinkState) → (F → LinkState) → D → D → K → K → F → F → ℕ → Type 0
-RunsOn keeps view failed client_told faults_told disk disk_after client client_after faults faults_after status =
-    RunsOpened keeps view client_told faults_told disk disk_after client client_after faults faults_after status
+abbrev pub RunsOn : {D K F : Type 0} → (D → Type 0) → (D → View) → (D → ℕ) → (K → LinkState) → (F → LinkState) → HandOn → D → D → K → K → F → F → ℕ → Type 0
+RunsOn keeps view failed client_told faults_told when disk disk_after client client_after faults faults_after status =
+    RunsOpened keeps view client_told faults_told when disk disk_after client client_after faults faults_after status
     ⊎ IsNotOpened keeps view failed faults_told disk disk_after client client_after faults faults_after status

@@ -50,7 +50,7 @@ stopped_by (faults.Missing shares turns) = stops.Foreign
 pub record IsOfSession (pass : PassState) (kind : Kind) : Type 0 where
   pub link : LinkState
   pub replies : ℕ
-  pub served : WasServed link pass kind replies
+  pub served : WasServed (λ (state : LinkState). state) link pass kind replies
 
 -- a session each
 abbrev pub AreOfSessions : List PassState → List Kind → Type 0

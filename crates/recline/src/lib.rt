@@ -14,3 +14,4 @@ pub use drawing::draw_on;
 pub use driving::drive_on;
 pub use running::{run_on, run_over};
 pub use serving::{Service, serve_on};
+pub use session::HandOn;

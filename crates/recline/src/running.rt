@@ -7,7 +7,7 @@ use crate::telling::{tell, tell_unopened};
 use client_link::Link;
 use desk::Desk;
 use line_disk::Disk;
-use session::{Kind, run};
+use session::{HandOn, Kind, run};
 use std::alloc::Global;
 
 /// The status of the process for a session that ended so over a desk, which may be stopped.
@@ -35,27 +35,33 @@ fn fault_for(kind: Kind) -> &'static [u8]
 }
 
 /// Serves one client over a desk, tells how it ended where that was a fault, and answers the status of the process.
-pub fn run_over<D: Disk, K: Link, F: Link>(desk: &mut Desk<D>, client: &mut K, faults: &mut F) -> u8
-    ensures { Runs D.keeps K.told F.told client.old client.new faults.old faults.new desk.old desk.new result }
+pub fn run_over<D: Disk, K: Link, F: Link>(
+    desk: &mut Desk<D>,
+    client: &mut K,
+    faults: &mut F,
+    when: HandOn,
+) -> u8
+    ensures { Runs D.keeps K.told F.told when client.old client.new faults.old faults.new desk.old desk.new result }
 {
-    let end = run(desk, client);
+    let end = run(desk, client, when);
     tell(faults, fault_for(end.kind));
     status_for(end.kind, desk.stopped())
 }
 
-/// The command `run`: opens the record file on a disk, serves one client over the desk of it, and answers the status of the process
-/// and the disk.
+/// The command `run`: opens the record file on a disk, serves one client over the desk of it, whose replies are handed on so, and answers
+/// the status of the process and the disk.
 pub fn run_on<D: Disk, K: Link, F: Link>(
     alloc: Global,
     disk: D,
     client: &mut K,
     faults: &mut F,
+    when: HandOn,
 ) -> (u8, D)
-    ensures { RunsOn D.keeps D.view D.failed K.told F.told disk result.1 client.old client.new faults.old faults.new result.0 }
+    ensures { RunsOn D.keeps D.view D.failed K.told F.told when disk result.1 client.old client.new faults.old faults.new result.0 }
 {
     match Desk::open(alloc, disk) {
         Ok(mut desk) => {
-            let status = run_over(&mut desk, client, faults);
+            let status = run_over(&mut desk, client, faults, when);
             desk.lawful();
             (status, desk.close())
         }

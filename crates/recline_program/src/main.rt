@@ -6,7 +6,7 @@ use clap::error::ErrorKind;
 use client_link::{Link, Streams};
 use command_line::{Command, read_args};
 use line_disk::{DiskFault, FileDisk, Modelled, NullDisk};
-use recline::{Service, check_on, draw_on, drive_on, run_on, serve_on};
+use recline::{HandOn, Service, check_on, draw_on, drive_on, run_on, serve_on};
 use record_file::RecordReach;
 use std::env;
 use std::fs::File;
@@ -120,7 +120,8 @@ fn open_file(rt: &HostRuntime, path: &str) -> Result<FileDisk<Modelled>, u8> {
     }
 }
 
-/// Serves the client over the record file of this path, if there is one.
+/// Serves the client over the record file of this path, if there is one. Each reply goes out before the next report is recorded, since its
+/// syncs take far longer; where nothing is recorded those to the lines of a read go out together.
 fn run_over_file<K: Link, F: Link>(
     rt: &HostRuntime,
     file: Option<&str>,
@@ -128,12 +129,18 @@ fn run_over_file<K: Link, F: Link>(
     faults: &mut F,
 ) -> u8 {
     let Some(path) = file else {
-        let (status, _disk) = run_on(rt.alloc(), NullDisk::new(), client, faults);
+        let (status, _disk) = run_on(
+            rt.alloc(),
+            NullDisk::new(),
+            client,
+            faults,
+            HandOn::EachRead,
+        );
         return status;
     };
     match open_file(rt, path) {
         Ok(disk) => {
-            let (status, _disk) = run_on(rt.alloc(), disk, client, faults);
+            let (status, _disk) = run_on(rt.alloc(), disk, client, faults, HandOn::EachReply);
             status
         }
         Err(status) => status,

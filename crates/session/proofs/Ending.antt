@@ -13,11 +13,14 @@ use Rattle.session.specs.declared.kind.Kind.{Kind}
 use Rattle.session.specs.declared.kind.Kind.TheVariants as kinds
 use Rattle.client_link.specs.Links.{up, LinkState, IsSound, IsFault, IsHandOn}
 use Rattle.session.specs.SessionText.{Mean, NoBye, exchange_line, session_text, joined, most_reads, Grounds, ending_line, ending_count, IsWhole, IsCutInReply, Reached, Ends, Gave, GaveAll}
-use Rattle.session.specs.Ends.{IsReadAt, IsPrompt, Leaves}
-use Rattle.session.specs.Parts.{AreLawful, IsSaid, FaultsAt, StepsTo, IsQuiet, GaveBy, Steps, Going, Closing, Closes, Ran}
+use Rattle.session.specs.declared.handing.HandOn.{HandOn}
+use Rattle.session.specs.declared.handing.HandOn.TheVariants as hand_ons
+use Rattle.session.specs.Ends.{IsReadAt, IsPrompt, EachHasGone, Leaves}
+use Rattle.session.specs.Parts.{AreLawful, IsSaid, FaultsAt, StepsTo, IsQuiet, GaveBy, StepsOn, Going, Closing, Closes, Ran}
 use Rattle.client_link.proofs.Sent.{appends_none, appends_then, sound_none, sound_then, fault_then}
 use Rattle.session.proofs.ServedTurns.{mean_then, mean_length, no_bye_then, bye_then, said_then, cut_then}
 use Rattle.session.proofs.ServeSteps.{faults_then}
+use Rattle.session.proofs.Gone.{gone_then}
 
 consumes_none : (a : Option (List ℕ)) → Consumes a a []
 consumes_none None = tt
@@ -84,9 +87,9 @@ prompt_then {K} told link pieces piece turned more before here =
 
 -- ---- one read after the other
 
-pub going_none : {S K : Type 0} (makes : S → List Exchange → S → Type 0) (grounds : S → Grounds) (laws : AreLawful makes grounds) (told : K → LinkState) (link : K) (stand : Stand) (state : S) → stand ≡ Some [] → Going makes told link link stand state state 0 0
+pub going_none : {S K : Type 0} (makes : S → List Exchange → S → Type 0) (grounds : S → Grounds) (laws : AreLawful makes grounds) (told : K → LinkState) (when : HandOn) (link : K) (stand : Stand) (state : S) → stand ≡ Some [] → Going makes told when link link stand state state 0 0
 unfolding cut_from
-going_none makes grounds laws told link stand state new =
+going_none makes grounds laws told when link stand state new =
     rw new record {
       pieces = [];
       turned = [];
@@ -103,6 +106,7 @@ going_none makes grounds laws told link stand state new =
       reads_are = omega arith;
       sound = sound_none (told link);
       prompt = λ n lt. absurd (omega arith);
+      gone = λ each n lt. absurd (omega arith);
     }
 
 -- what a hand-on that succeeded leaves
@@ -110,9 +114,9 @@ sound_hand_on : {E : Type 0} (old new : LinkState) (u : Unit {0}) → IsHandOn {
 sound_hand_on old new u hand = record { failures = hand.failures; stalls = hand.stalls; ended = hand.ended }
 
 -- the state in which the next read is made
-read_at : {S K E : Type 0} (makes : S → List Exchange → S → Type 0) (grounds : S → Grounds) (laws : AreLawful makes grounds) (told : K → LinkState) (link now reading : K) (stand : Stand) (state mid : S) (reads count : ℕ) (u : Unit {0}) (more : List Exchange) → (s : Going makes told link now stand state mid reads count)
+read_at : {S K E : Type 0} (makes : S → List Exchange → S → Type 0) (grounds : S → Grounds) (laws : AreLawful makes grounds) (told : K → LinkState) (when : HandOn) (link now reading : K) (stand : Stand) (state mid : S) (reads count : ℕ) (u : Unit {0}) (more : List Exchange) → (s : Going makes told when link now stand state mid reads count)
     → IsHandOn {E = E} (told now) (told reading) (Ok u) → IsReadAt told link (length s.pieces) (joined s.pieces) (s.turned ++ more)
-read_at makes grounds laws told link now reading stand state mid reads count u more s hand =
+read_at makes grounds laws told when link now reading stand state mid reads count u more s hand =
     record {
       reading = reading;
       reads_are = hand.reads ∙ s.reads_are ∙ ap (λ (n : ℕ). up n (told link).reads) (sym s.made);
@@ -145,10 +149,13 @@ stop_gave kinds.WriteFailed pieces piece gave g = all_more pieces piece gave g
 stop_gave kinds.Endless pieces piece gave g = all_more pieces piece gave g
 stop_gave kinds.Foreign pieces piece gave g = all_more pieces piece gave g
 
-pub going_on : {S K E : Type 0} (makes : S → List Exchange → S → Type 0) (grounds : S → Grounds) (laws : AreLawful makes grounds) (told : K → LinkState) (link now reading next : K) (stand stand_after : Stand) (state mid after : S) (reads count more : ℕ) (u : Unit {0}) → Going makes told link now stand state mid reads count
-    → IsHandOn {E = E} (told now) (told reading) (Ok u) → Steps makes grounds (told reading) (told next) stand stand_after mid after None more → Going makes told link next stand_after state after (reads + 1) (count + more)
-going_on makes grounds laws told link now reading next stand stand_after state mid after reads count more u s hand t =
+pub going_on : {S K E : Type 0} (makes : S → List Exchange → S → Type 0) (grounds : S → Grounds) (laws : AreLawful makes grounds) (told : K → LinkState) (when : HandOn) (link now reading next : K) (stand stand_after : Stand) (state mid after : S) (reads count more : ℕ) (u : Unit {0}) → Going makes told when link now stand state mid reads count
+    → IsHandOn {E = E} (told now) (told reading) (Ok u) → StepsOn makes grounds told when reading next stand stand_after mid after None more → Going makes told when link next stand_after state after (reads + 1) (count + more)
+going_on makes grounds laws told when link now reading next stand stand_after state mid after reads count more u s hand on =
+    let t = on.steps in
     let cut = cut_more s.pieces t.piece stand s.stands in
+    let before = appends_held (told link).held (told now).held (told reading).held (session_text s.turned) s.written hand.held in
+    let sound = sound_then (told link) (told now) (told reading) s.sound (sound_hand_on (told now) (told reading) u hand) in
     let lines : (cut_from stand t.piece).0 ≡ t.front = t.lines_are ∙ ap (λ (l : List (List ℕ)). t.front ++ l) t.how.1 ∙ append-nil t.front in
     record {
       pieces = s.pieces ++ t.piece ∷ [];
@@ -164,11 +171,12 @@ going_on makes grounds laws told link now reading next stand stand_after state m
       consumed = subst (λ (l : List ℕ). Consumes (told link).left (told next).left l) (joined_more s.pieces t.piece)
           (consumes_then (told link).left (told reading).left (told next).left (joined s.pieces) t.piece (subst (λ (l : Option (List ℕ)). Consumes (told link).left l (joined s.pieces)) (sym hand.left) s.consumed) t.consumed);
       written = subst (λ (l : List ℕ). Appends (told link).held (told next).held l) (ap (λ (l : List ℕ). session_text s.turned ++ l) t.how.3.0 ∙ text_then s.turned t.turned)
-          (appends_then (told link).held (told reading).held (told next).held (session_text s.turned) t.text (appends_held (told link).held (told now).held (told reading).held (session_text s.turned) s.written hand.held) t.written);
+          (appends_then (told link).held (told reading).held (told next).held (session_text s.turned) t.text before t.written);
       count_is = omega (arith, length-append s.turned t.turned, s.count_is, t.how.3.1);
       reads_are = reads_more (told link).reads (told now).reads (told reading).reads (told next).reads reads s.reads_are hand.reads t.reads;
-      sound = sound_then (told link) (told reading) (told next) (sound_then (told link) (told now) (told reading) s.sound (sound_hand_on (told now) (told reading) u hand)) t.faults;
-      prompt = prompt_then told link s.pieces t.piece s.turned t.turned s.prompt (read_at makes grounds laws told link now reading stand state mid reads count u t.turned s hand);
+      sound = sound_then (told link) (told reading) (told next) sound t.faults;
+      prompt = prompt_then told link s.pieces t.piece s.turned t.turned s.prompt (read_at makes grounds laws told when link now reading stand state mid reads count u t.turned s hand);
+      gone = λ each. gone_then told link reading s.turned t.turned (s.gone each) before sound (on.gone each hand.handed);
     }
 
 -- ---- where it stops
@@ -186,7 +194,7 @@ LeftBy kinds.WriteFailed old now = IsFault old now
 LeftBy _ old now = IsSound old now
 
 -- a session before its ending line
-pub record Stopping {S K : Type 0} (makes : S → List Exchange → S → Type 0) (grounds : S → Grounds) (told : K → LinkState) (link now : K) (state after : S) (kind : Kind) (count : ℕ) : Type 0 where
+pub record Stopping {S K : Type 0} (makes : S → List Exchange → S → Type 0) (grounds : S → Grounds) (told : K → LinkState) (when : HandOn) (link now : K) (state after : S) (kind : Kind) (count : ℕ) : Type 0 where
   pub pieces : List (List ℕ)
   pub front : List (List ℕ)
   pub later : List (List ℕ)
@@ -201,6 +209,7 @@ pub record Stopping {S K : Type 0} (makes : S → List Exchange → S → Type 0
   pub reads : (told now).reads ≡ up (length pieces) (told link).reads
   pub few : length pieces ≤ most_reads
   pub prompt : IsPrompt told link pieces turned
+  pub gone : when ≡ hand_ons.EachReply → EachHasGone told link turned
   pub leaves : LeftBy kind (told link) (told now)
   pub gave : GaveAll kind pieces
 
@@ -241,10 +250,11 @@ quiet_end kind old now nothing quiet is = let q = rw is at quiet in (q.0 ∙ not
 quiet_failed : (kind : Kind) (old now : LinkState) → old.waiting ≡ [] → IsQuiet (Some kind) old now → kind ≡ kinds.ReadFailed → now.waiting ≡ []
 quiet_failed kind old now nothing quiet is = let q = rw is at quiet in q ∙ nothing
 
-pub stopping : {S K E : Type 0} (makes : S → List Exchange → S → Type 0) (grounds : S → Grounds) (laws : AreLawful makes grounds) (told : K → LinkState) (link now reading next : K) (kind : Kind) (stand stand_after : Stand) (state mid after : S) (reads count more : ℕ) (u : Unit {0}) → reads < most_reads
-    → Going makes told link now stand state mid reads count → IsHandOn {E = E} (told now) (told reading) (Ok u) → Steps makes grounds (told reading) (told next) stand stand_after mid after (Some kind) more
-    → Stopping makes grounds told link next state after kind (count + more)
-stopping makes grounds laws told link now reading next kind stand stand_after state mid after reads count more u few s hand t =
+pub stopping : {S K E : Type 0} (makes : S → List Exchange → S → Type 0) (grounds : S → Grounds) (laws : AreLawful makes grounds) (told : K → LinkState) (when : HandOn) (link now reading next : K) (kind : Kind) (stand stand_after : Stand) (state mid after : S) (reads count more : ℕ) (u : Unit {0}) → reads < most_reads
+    → Going makes told when link now stand state mid reads count → IsHandOn {E = E} (told now) (told reading) (Ok u) → StepsOn makes grounds told when reading next stand stand_after mid after (Some kind) more
+    → Stopping makes grounds told when link next state after kind (count + more)
+stopping makes grounds laws told when link now reading next kind stand stand_after state mid after reads count more u few s hand on =
+    let t = on.steps in
     let cut = cut_more s.pieces t.piece stand s.stands in
     let before = appends_held (told link).held (told now).held (told reading).held (session_text s.turned) s.written hand.held in
     let sound = sound_then (told link) (told now) (told reading) s.sound (sound_hand_on (told now) (told reading) u hand) in
@@ -264,16 +274,17 @@ stopping makes grounds laws told link now reading next kind stand stand_after st
       written = appends_then (told link).held (told reading).held (told next).held (session_text s.turned) t.text before t.written;
       reads = reads_more (told link).reads (told now).reads (told reading).reads (told next).reads (length s.pieces) (rw s.made s.reads_are) hand.reads t.reads ∙ ap (λ (n : ℕ). up n (told link).reads) (sym (length_more s.pieces t.piece));
       few = omega (arith, length_more s.pieces t.piece, s.made);
-      prompt = prompt_then told link s.pieces t.piece s.turned t.turned s.prompt (read_at makes grounds laws told link now reading stand state mid reads count u t.turned s hand);
+      prompt = prompt_then told link s.pieces t.piece s.turned t.turned s.prompt (read_at makes grounds laws told when link now reading stand state mid reads count u t.turned s hand);
+      gone = λ each. gone_then told link reading s.turned t.turned (s.gone each) before sound (on.gone each hand.handed);
       leaves = left_by kind (told link) (told next) (faults_then (Some kind) (told link) (told reading) (told next) sound t.faults) (quiet_end kind (told reading) (told next) hand.handed t.quiet)
           (quiet_failed kind (told reading) (told next) hand.handed t.quiet);
       gave = stop_gave kind s.pieces t.piece s.gave t.gave;
     }
 
 -- all lines of all reads were answered
-said_all : {S K : Type 0} (makes : S → List Exchange → S → Type 0) (grounds : S → Grounds) (laws : AreLawful makes grounds) (told : K → LinkState) (link now : K) (stand : Stand) (state after : S) (reads count : ℕ) (kind : Kind) → (s : Going makes told link now stand state after reads count) → reads ≤ most_reads
-    → StopsTo kind (grounds state) s.pieces (cut_of (joined s.pieces)).1 (cut_of (joined s.pieces)).0 [] s.turned (session_text s.turned) count → LeftBy kind (told link) (told now) → GaveAll kind s.pieces → Stopping makes grounds told link now state after kind count
-said_all makes grounds laws told link now stand state after reads count kind s few how leaves gave =
+said_all : {S K : Type 0} (makes : S → List Exchange → S → Type 0) (grounds : S → Grounds) (laws : AreLawful makes grounds) (told : K → LinkState) (when : HandOn) (link now : K) (stand : Stand) (state after : S) (reads count : ℕ) (kind : Kind) → (s : Going makes told when link now stand state after reads count) → reads ≤ most_reads
+    → StopsTo kind (grounds state) s.pieces (cut_of (joined s.pieces)).1 (cut_of (joined s.pieces)).0 [] s.turned (session_text s.turned) count → LeftBy kind (told link) (told now) → GaveAll kind s.pieces → Stopping makes grounds told when link now state after kind count
+said_all makes grounds laws told when link now stand state after reads count kind s few how leaves gave =
     record {
       pieces = s.pieces;
       front = (cut_of (joined s.pieces)).0;
@@ -289,14 +300,15 @@ said_all makes grounds laws told link now stand state after reads count kind s f
       reads = s.reads_are ∙ ap (λ (n : ℕ). up n (told link).reads) (sym s.made);
       few = omega (arith, s.made);
       prompt = s.prompt;
+      gone = s.gone;
       leaves = leaves;
       gave = gave;
     }
 
-pub stopping_endless : {S K : Type 0} (makes : S → List Exchange → S → Type 0) (grounds : S → Grounds) (laws : AreLawful makes grounds) (told : K → LinkState) (link now : K) (stand : Stand) (state after : S) (reads count : ℕ) → reads ≡ most_reads → Going makes told link now stand state after reads count
-    → Stopping makes grounds told link now state after kinds.Endless count
-stopping_endless makes grounds laws told link now stand state after reads count all s =
-    said_all makes grounds laws told link now stand state after reads count kinds.Endless s (omega arith)
+pub stopping_endless : {S K : Type 0} (makes : S → List Exchange → S → Type 0) (grounds : S → Grounds) (laws : AreLawful makes grounds) (told : K → LinkState) (when : HandOn) (link now : K) (stand : Stand) (state after : S) (reads count : ℕ) → reads ≡ most_reads → Going makes told when link now stand state after reads count
+    → Stopping makes grounds told when link now state after kinds.Endless count
+stopping_endless makes grounds laws told when link now stand state after reads count all s =
+    said_all makes grounds laws told when link now stand state after reads count kinds.Endless s (omega arith)
     ((s.no_bye, refl, subst (λ (x : Stand). IsSome x) (sym s.stands) s.is_open, s.made ∙ all), (refl, s.count_is)) s.sound s.gave
 
 -- ---- the ending line
@@ -317,15 +329,15 @@ ends_by kinds.Endless grounds pieces stand front later turned text count reached
 ends_by kinds.Foreign grounds pieces stand front later turned text count reached whole = (reached, whole)
 
 -- how it ended, and what the link tells then
-pub record Finished {S K : Type 0} (makes : S → List Exchange → S → Type 0) (grounds : S → Grounds) (told : K → LinkState) (link final : K) (state after : S) (end : Kind) (total : ℕ) : Type 0 where
-  pub ended : Ran makes grounds told link final state after end total
+pub record Finished {S K : Type 0} (makes : S → List Exchange → S → Type 0) (grounds : S → Grounds) (told : K → LinkState) (when : HandOn) (link final : K) (state after : S) (end : Kind) (total : ℕ) : Type 0 where
+  pub ended : Ran makes grounds told when link final state after end total
   pub leaves : Leaves end (told link) (told final)
 
 -- behind a session that stopped so, this more was written, and that is how it ends
-ended_then : {S K : Type 0} (makes : S → List Exchange → S → Type 0) (grounds : S → Grounds) (laws : AreLawful makes grounds) (told : K → LinkState) (link now final : K) (state after : S) (kind end : Kind) (count total : ℕ) (more : List ℕ) → (s : Stopping makes grounds told link now state after kind count) → GaveAll end s.pieces
+ended_then : {S K : Type 0} (makes : S → List Exchange → S → Type 0) (grounds : S → Grounds) (laws : AreLawful makes grounds) (told : K → LinkState) (when : HandOn) (link now final : K) (state after : S) (kind end : Kind) (count total : ℕ) (more : List ℕ) → (s : Stopping makes grounds told when link now state after kind count) → GaveAll end s.pieces
     → Ends end (grounds state) s.pieces (cut_of (joined s.pieces)).1 s.front s.later s.turned (s.text ++ more) total → Appends (told now).held (told final).held more → (told final).left ≡ (told now).left → (told final).reads ≡ (told now).reads
-    → Ran makes grounds told link final state after end total
-ended_then makes grounds laws told link now final state after kind end count total more s gave ends sent left reads =
+    → Ran makes grounds told when link final state after end total
+ended_then makes grounds laws told when link now final state after kind end count total more s gave ends sent left reads =
     record {
       pieces = s.pieces;
       turned = s.turned;
@@ -337,31 +349,32 @@ ended_then makes grounds laws told link now final state after kind end count tot
       reads = reads ∙ s.reads;
       few = s.few;
       prompt = s.prompt;
+      gone = s.gone;
     }
 
 -- nothing more was written
-ended_so : {S K : Type 0} (makes : S → List Exchange → S → Type 0) (grounds : S → Grounds) (laws : AreLawful makes grounds) (told : K → LinkState) (link now final : K) (state after : S) (kind : Kind) (count : ℕ) → (s : Stopping makes grounds told link now state after kind count)
-    → Ends kind (grounds state) s.pieces (cut_of (joined s.pieces)).1 s.front s.later s.turned s.text count → told final ≡ told now → Ran makes grounds told link final state after kind count
-ended_so makes grounds laws told link now final state after kind count s ends same =
-    ended_then makes grounds laws told link now final state after kind kind count count [] s s.gave
+ended_so : {S K : Type 0} (makes : S → List Exchange → S → Type 0) (grounds : S → Grounds) (laws : AreLawful makes grounds) (told : K → LinkState) (when : HandOn) (link now final : K) (state after : S) (kind : Kind) (count : ℕ) → (s : Stopping makes grounds told when link now state after kind count)
+    → Ends kind (grounds state) s.pieces (cut_of (joined s.pieces)).1 s.front s.later s.turned s.text count → told final ≡ told now → Ran makes grounds told when link final state after kind count
+ended_so makes grounds laws told when link now final state after kind count s ends same =
+    ended_then makes grounds laws told when link now final state after kind kind count count [] s s.gave
     (subst (λ (l : List ℕ). Ends kind (grounds state) s.pieces (cut_of (joined s.pieces)).1 s.front s.later s.turned l count) (sym (append-nil s.text)) ends)
     (subst (λ (h : Option (List ℕ)). Appends (told now).held h []) (sym (ap (λ (x : LinkState). x.held) same)) (appends_none (told now).held)) (ap (λ (x : LinkState). x.left) same) (ap (λ (x : LinkState). x.reads) same)
 
-closed_by : {S K : Type 0} (makes : S → List Exchange → S → Type 0) (grounds : S → Grounds) (laws : AreLawful makes grounds) (told : K → LinkState) (link now final : K) (state after : S) (kind end : Kind) (count total : ℕ) → (s : Stopping makes grounds told link now state after kind count)
+closed_by : {S K : Type 0} (makes : S → List Exchange → S → Type 0) (grounds : S → Grounds) (laws : AreLawful makes grounds) (told : K → LinkState) (when : HandOn) (link now final : K) (state after : S) (kind end : Kind) (count total : ℕ) → (s : Stopping makes grounds told when link now state after kind count)
     → Reached kind (grounds state) s.pieces (cut_of (joined s.pieces)).1 s.front s.later s.turned × IsSaid s.turned s.text count → IsSound (told link) (told now) → (IsSound (told link) (told final) → (told final).waiting ≡ [] → Leaves kind (told link) (told final))
-    → (GaveAll kind s.pieces → Gave s.pieces) → Closing kind (told now) (told final) count end total → Finished makes grounds told link final state after end total
-closed_by makes grounds laws told link now final state after kind end count total s how sound leaves plain c = elim c.closed [
+    → (GaveAll kind s.pieces → Gave s.pieces) → Closing kind (told now) (told final) count end total → Finished makes grounds told when link final state after end total
+closed_by makes grounds laws told when link now final state after kind end count total s how sound leaves plain c = elim c.closed [
   | inl w ↦ rw w.0 record {
-    ended = ended_then makes grounds laws told link now final state after kind kind count total (ending_line kind) s s.gave
+    ended = ended_then makes grounds laws told when link now final state after kind kind count total (ending_line kind) s s.gave
         (ends_by kind (grounds state) s.pieces (cut_of (joined s.pieces)).1 s.front s.later s.turned (s.text ++ ending_line kind) total how.0 (whole_by kind s.turned s.text count total how.1 w.1)) w.2 c.left c.reads;
     leaves = leaves (sound_then (told link) (told now) (told final) sound w.3) w.4;
   }
   | inr w ↦ rw w.0 record {
     ended = elim w.2 [
-      | inl v ↦ ended_then makes grounds laws told link now final state after kind kinds.WriteFailed count total v.1.0 s (plain s.gave)
+      | inl v ↦ ended_then makes grounds laws told when link now final state after kind kinds.WriteFailed count total v.1.0 s (plain s.gave)
           (inr (kind, how.0, inl (record { part = v.1.0; short = v.1.1; text_is = ap (λ (l : List ℕ). l ++ v.1.0) how.1.0; count_is = v.0 ∙ how.1.1 }))) v.1.2 c.left c.reads
-      | inr v ↦ ended_then makes grounds laws told link now final state after kind kinds.WriteFailed count total (ending_line kind) s (plain s.gave)
-          (inr (kind, how.0, inr (whole_by kind s.turned s.text count total how.1 v.0))) v.1 c.left c.reads
+      | inr v ↦ ended_then makes grounds laws told when link now final state after kind kinds.WriteFailed count total (ending_line kind) s (plain s.gave)
+          (inr (kind, how.0, inr (ap (λ (l : List ℕ). l ++ ending_line kind) how.1.0, v.0 ∙ how.1.1))) v.1 c.left c.reads
     ];
     leaves = fault_then (told link) (told now) (told final) sound w.1;
   }
@@ -373,34 +386,34 @@ said_whole turned text count said = (said.0 ∙ sym (append-nil (session_text tu
 same_leaves : (kind : Kind) (old now final : LinkState) → final ≡ now → Leaves kind old now → Leaves kind old final
 same_leaves kind old now final same leaves = subst (λ (x : LinkState). Leaves kind old x) (sym same) leaves
 
-pub finished : {S K : Type 0} (makes : S → List Exchange → S → Type 0) (grounds : S → Grounds) (laws : AreLawful makes grounds) (told : K → LinkState) (link now final : K) (state after : S) (kind end : Kind) (count total : ℕ) → Stopping makes grounds told link now state after kind count
-    → Closes kind (told now) (told final) count end total → Finished makes grounds told link final state after end total
-finished makes grounds laws told link now final state after kinds.End end count total s c =
+pub finished : {S K : Type 0} (makes : S → List Exchange → S → Type 0) (grounds : S → Grounds) (laws : AreLawful makes grounds) (told : K → LinkState) (when : HandOn) (link now final : K) (state after : S) (kind end : Kind) (count total : ℕ) → Stopping makes grounds told when link now state after kind count
+    → Closes kind (told now) (told final) count end total → Finished makes grounds told when link final state after end total
+finished makes grounds laws told when link now final state after kinds.End end count total s c =
     rw (c.0, c.1) record {
-      ended = ended_so makes grounds laws told link now final state after kinds.End count s (s.how.0, said_whole s.turned s.text count s.how.1) c.2;
+      ended = ended_so makes grounds laws told when link now final state after kinds.End count s (s.how.0, said_whole s.turned s.text count s.how.1) c.2;
       leaves = same_leaves kinds.End (told link) (told now) (told final) c.2 s.leaves;
     }
-finished makes grounds laws told link now final state after kinds.ReadFailed end count total s c =
+finished makes grounds laws told when link now final state after kinds.ReadFailed end count total s c =
     rw (c.0, c.1) record {
-      ended = ended_so makes grounds laws told link now final state after kinds.ReadFailed count s (s.how.0, said_whole s.turned s.text count s.how.1) c.2;
+      ended = ended_so makes grounds laws told when link now final state after kinds.ReadFailed count s (s.how.0, said_whole s.turned s.text count s.how.1) c.2;
       leaves = same_leaves kinds.ReadFailed (told link) (told now) (told final) c.2 s.leaves;
     }
-finished makes grounds laws told link now final state after kinds.WriteFailed end count total s c =
+finished makes grounds laws told when link now final state after kinds.WriteFailed end count total s c =
     rw (c.0, c.1) record {
-      ended = ended_so makes grounds laws told link now final state after kinds.WriteFailed count s (inl s.how) c.2;
+      ended = ended_so makes grounds laws told when link now final state after kinds.WriteFailed count s (inl s.how) c.2;
       leaves = same_leaves kinds.WriteFailed (told link) (told now) (told final) c.2 s.leaves;
     }
-finished makes grounds laws told link now final state after kinds.Bye end count total s c = closed_by makes grounds laws told link now final state after kinds.Bye end count total s s.how s.leaves (λ sound nothing. (sound, nothing)) (λ g. g) c
-finished makes grounds laws told link now final state after kinds.TooLong end count total s c = closed_by makes grounds laws told link now final state after kinds.TooLong end count total s s.how s.leaves (λ sound nothing. (sound, nothing)) (λ g. g) c
-finished makes grounds laws told link now final state after kinds.Worn end count total s c = closed_by makes grounds laws told link now final state after kinds.Worn end count total s s.how s.leaves (λ sound nothing. (sound, nothing)) (λ g. g) c
-finished makes grounds laws told link now final state after kinds.Memory end count total s c = closed_by makes grounds laws told link now final state after kinds.Memory end count total s s.how s.leaves (λ sound nothing. (sound, nothing)) (λ g. g) c
-finished makes grounds laws told link now final state after kinds.Endless end count total s c = closed_by makes grounds laws told link now final state after kinds.Endless end count total s s.how s.leaves (λ sound nothing. (sound, nothing)) (λ g. g) c
-finished makes grounds laws told link now final state after kinds.Foreign end count total s c = closed_by makes grounds laws told link now final state after kinds.Foreign end count total s s.how s.leaves (λ sound nothing. (sound, nothing)) (λ g. g) c
+finished makes grounds laws told when link now final state after kinds.Bye end count total s c = closed_by makes grounds laws told when link now final state after kinds.Bye end count total s s.how s.leaves (λ sound nothing. (sound, nothing)) (λ g. g) c
+finished makes grounds laws told when link now final state after kinds.TooLong end count total s c = closed_by makes grounds laws told when link now final state after kinds.TooLong end count total s s.how s.leaves (λ sound nothing. (sound, nothing)) (λ g. g) c
+finished makes grounds laws told when link now final state after kinds.Worn end count total s c = closed_by makes grounds laws told when link now final state after kinds.Worn end count total s s.how s.leaves (λ sound nothing. (sound, nothing)) (λ g. g) c
+finished makes grounds laws told when link now final state after kinds.Memory end count total s c = closed_by makes grounds laws told when link now final state after kinds.Memory end count total s s.how s.leaves (λ sound nothing. (sound, nothing)) (λ g. g) c
+finished makes grounds laws told when link now final state after kinds.Endless end count total s c = closed_by makes grounds laws told when link now final state after kinds.Endless end count total s s.how s.leaves (λ sound nothing. (sound, nothing)) (λ g. g) c
+finished makes grounds laws told when link now final state after kinds.Foreign end count total s c = closed_by makes grounds laws told when link now final state after kinds.Foreign end count total s s.how s.leaves (λ sound nothing. (sound, nothing)) (λ g. g) c
 
 -- what was written could not be handed on before a read
-pub not_handed_on : {S K E : Type 0} (makes : S → List Exchange → S → Type 0) (grounds : S → Grounds) (laws : AreLawful makes grounds) (told : K → LinkState) (link now final : K) (stand : Stand) (state after : S) (reads count : ℕ) (e : E) → reads ≤ most_reads → Going makes told link now stand state after reads count
-    → IsHandOn (told now) (told final) (Err e) → Finished makes grounds told link final state after kinds.WriteFailed count
-not_handed_on makes grounds laws told link now final stand state after reads count e few s hand =
+pub not_handed_on : {S K E : Type 0} (makes : S → List Exchange → S → Type 0) (grounds : S → Grounds) (laws : AreLawful makes grounds) (told : K → LinkState) (when : HandOn) (link now final : K) (stand : Stand) (state after : S) (reads count : ℕ) (e : E) → reads ≤ most_reads → Going makes told when link now stand state after reads count
+    → IsHandOn (told now) (told final) (Err e) → Finished makes grounds told when link final state after kinds.WriteFailed count
+not_handed_on makes grounds laws told when link now final stand state after reads count e few s hand =
     let all : Reached kinds.End (grounds state) s.pieces (cut_of (joined s.pieces)).1 (cut_of (joined s.pieces)).0 [] s.turned = (s.no_bye, refl, subst (λ (x : Stand). IsSome x) (sym s.stands) s.is_open) in
     record {
       ended = record {
@@ -413,7 +426,7 @@ not_handed_on makes grounds laws told link now final stand state after reads cou
           lines_are = sym (append-nil (cut_of (joined s.pieces)).0);
           gave = s.gave;
           mean = s.mean;
-          ends = inr (kinds.End, all, inr (said_whole s.turned (session_text s.turned) count (refl, s.count_is)));
+          ends = inr (kinds.End, all, inr (sym (append-nil (session_text s.turned)), s.count_is));
         };
         turns = s.turns;
         consumed = subst (λ (l : Option (List ℕ)). Consumes (told link).left l (joined s.pieces)) (sym hand.left) s.consumed;
@@ -421,6 +434,7 @@ not_handed_on makes grounds laws told link now final stand state after reads cou
         reads = hand.reads ∙ s.reads_are ∙ ap (λ (n : ℕ). up n (told link).reads) (sym s.made);
         few = omega (arith, s.made);
         prompt = s.prompt;
+        gone = s.gone;
       };
       leaves = record { fault = inl (rw s.sound.failures at hand.failures, hand.stalls ∙ s.sound.stalls); ended = hand.ended ∙ s.sound.ended };
     }

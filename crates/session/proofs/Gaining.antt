@@ -1,6 +1,7 @@
 -- Entries that a pass gained, one after the other.
-use Rattle.std.proofs.Common.{◌≡◌, ◌≢◌, ℕ, ◌<◌, List, [], ◌∷◌, ◌++◌, length, Some, None, Result, Ok, Err, refl, sym, ap, subst, ◌∙◌, append_assoc, append-nil, inl, inr, arith}
+use Rattle.std.proofs.Common.{◌≡◌, ◌≢◌, ℕ, ◌<◌, List, [], ◌∷◌, ◌++◌, length, Option, Some, None, Result, Ok, Err, refl, sym, ap, subst, ◌∙◌, append_assoc, append-nil, inl, inr, arith}
 use Rattle.std.specs.Prelude.{◌⊎◌}
+use Rattle.std.specs.Io.KnownBytes.{Appends, Consumes}
 use Rattle.std.specs.List.{slice_get}
 use Rattle.std.proofs.lemmas.List.{length-append}
 use Rattle.std.proofs.lemmas.Option.{same_Some}
@@ -17,9 +18,10 @@ use Rattle.report_line.specs.Replies.{reply_text}
 use Rattle.session.specs.Exchanges.{Exchange}
 use Rattle.session.specs.declared.kind.Kind.{Kind}
 use Rattle.session.specs.declared.kind.Kind.TheVariants as kinds
-use Rattle.client_link.specs.Links.{LinkState, IsEnd, at_first_end, Puts}
-use Rattle.session.specs.SessionText.{Means, at_pass, IsForeign}
-use Rattle.session.specs.Ends.{IsReadAt, Leaves}
+use Rattle.session.specs.declared.handing.HandOn.TheVariants as hand_ons
+use Rattle.client_link.specs.Links.{LinkState, IsEnd, Puts}
+use Rattle.session.specs.SessionText.{Means, joined, at_pass, IsForeign}
+use Rattle.session.specs.Ends.{Leaves}
 use Rattle.session.specs.Gained.{exchange_of, GainsEach, Gains, LinkServed}
 use Rattle.session.specs.Parts.{AreLawful, PutsLast, refused_as, one_reply, Serves, Ran}
 use Rattle.session.proofs.ServeSteps.{said_on, said_bye, said_part, unmade, worn_out, foreign}
@@ -114,39 +116,23 @@ each_gained old new (e ∷ es) s =
       number = rest.number ∙ answered.one.number;
     }
 
-told_read : {K : Type 0} (told : K → LinkState) (link : K) (n : ℕ) (earlier : List ℕ) (turned : Exchanges) → IsReadAt told link n earlier turned → IsReadAt (λ (s : LinkState). s) (told link) n earlier turned
-told_read told link n earlier turned r =
-    record {
-      reading = told r.reading;
-      reads_are = r.reads_are;
-      consumed = r.consumed;
-      answered = r.answered;
-      later = r.later;
-      turned_are = r.turned_are;
-      each_line = r.each_line;
-      written = r.written;
-      nothing_waits = r.nothing_waits;
-      no_bye = r.no_bye;
-      is_open = r.is_open;
-    }
-
 -- what ran over a pass
-pub link_served : {K : Type 0} (told : K → LinkState) (link final : K) (now : LinkState) (pass after : PassState) (kind : Kind) (count : ℕ) → Ran GainsEach at_pass told link final pass after kind count → Leaves kind (told link) (told final) → IsEnd (told final) now
-    → LinkServed (told link) now pass after kind count
+pub link_served : {K : Type 0} (told : K → LinkState) (link final now : K) (pass after : PassState) (kind : Kind) (count : ℕ) → Ran GainsEach at_pass told hand_ons.EachReply link final pass after kind count → Leaves kind (told link) (told final) → IsEnd (told final) (told now)
+    → LinkServed told link now pass after kind count
 link_served told link final now pass after kind count r leaves ends =
-    let served : LinkServed (told link) (record (told final) { ended = at_first_end (told final).ended (told final).failures }) pass after kind count = record {
+    record {
       pieces = r.pieces;
       turned = r.turned;
       text = r.text;
       session = r.session;
       gains = each_gained pass after r.turned r.turns;
-      consumed = r.consumed;
-      written = r.written;
-      reads = r.reads;
+      consumed = subst (λ (l : Option (List ℕ)). Consumes (told link).left l (joined r.pieces)) (sym (ap (λ (s : LinkState). s.left) ends)) r.consumed;
+      written = subst (λ (l : Option (List ℕ)). Appends (told link).held l r.text) (sym (ap (λ (s : LinkState). s.held) ends)) r.written;
+      reads = ap (λ (s : LinkState). s.reads) ends ∙ r.reads;
       few = r.few;
-      prompt = λ n lt. told_read told link n _ r.turned (r.prompt n lt);
-      last = told final;
+      prompt = r.prompt;
+      gone = r.gone refl;
+      last = final;
       leaves = leaves;
-      ends = refl;
-    } in
-    subst (λ (s : LinkState). LinkServed (told link) s pass after kind count) (sym ends) served
+      ends = ends;
+    }

@@ -2,6 +2,7 @@ mod SameTexts
 mod SameTurns
 mod ChosenTexts
 mod ServedTurns
+mod Gone
 mod ServeSteps
 mod Steps
 mod Ending

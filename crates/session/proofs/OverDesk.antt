@@ -13,6 +13,7 @@ use Rattle.report_line.specs.declared.call.Call.{Call}
 use Rattle.report_line.specs.declared.call.Call.TheVariants as calls
 use Rattle.session.specs.Exchanges.{Exchange}
 use Rattle.session.specs.declared.kind.Kind.{Kind}
+use Rattle.session.specs.declared.handing.HandOn.{HandOn}
 use Rattle.client_link.specs.Links.{LinkState}
 use Rattle.session.specs.SessionText.{Means, IsQuestion, Grounds, at_desk}
 use Rattle.session.specs.Turned.{Served, EachLineIsChosen, turns_of, MakesTurns}
@@ -103,9 +104,9 @@ none_said {D} keeps s line desk after call refusals.Memory means same none =
     (record { line = line; later = []; call = call; lines_are = refl; means = means; question = asks_state desk.held call none.1 }, λ worn. none.0 (omega (arith, worn)))
 
 -- what ran over a desk
-pub ended_at_desk : {D K : Type 0} (keeps : D → Type 0) (told : K → LinkState) (link final : K) (desk after : DeskState D) (kind : Kind) (count : ℕ) → IsReached desk.held
-    → Ran (MakesTurns keeps) (λ (d : DeskState D). at_desk (length d.turns)) told link final desk after kind count → Ended keeps told link final desk after kind count
-ended_at_desk keeps told link final desk after kind count reach r =
+pub ended_at_desk : {D K : Type 0} (keeps : D → Type 0) (told : K → LinkState) (when : HandOn) (link final : K) (desk after : DeskState D) (kind : Kind) (count : ℕ) → IsReached desk.held
+    → Ran (MakesTurns keeps) (λ (d : DeskState D). at_desk (length d.turns)) told when link final desk after kind count → Ended keeps told when link final desk after kind count
+ended_at_desk keeps told when link final desk after kind count reach r =
     record {
       pieces = r.pieces;
       turned = r.turned;
@@ -117,6 +118,7 @@ ended_at_desk keeps told link final desk after kind count reach r =
       reads = r.reads;
       few = r.few;
       prompt = r.prompt;
+      gone = r.gone;
       lines = lines_are_right desk.held after.held r.turned reach r.turns.served;
       chosen = r.turns.chosen;
     }

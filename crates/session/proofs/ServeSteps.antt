@@ -1,17 +1,20 @@
 -- Lines that are served, one after the other.
-use Rattle.std.proofs.Common.{◌≡◌, ℕ, ◌+◌, get_or, take, drop, List, [], ◌∷◌, ◌++◌, Option, Some, None, Ok, Err, refl, sym, ap, subst, ◌∙◌, append_assoc, append-nil}
+use Rattle.std.proofs.Common.{◌≡◌, ℕ, ◌+◌, ◌≤◌, get_or, take, drop, List, [], ◌∷◌, ◌++◌, length, Option, Some, None, Ok, Err, refl, sym, ap, subst, ◌∙◌, append_assoc, append-nil, arith, inl, inr}
 use Rattle.std.specs.List.{slice_get}
 use Rattle.std.proofs.lemmas.Option.{slice_get_within, get_or_from_slice_get}
-use Rattle.std.proofs.lemmas.List.{take-append-drop, drop_more, take_more}
+use Rattle.std.specs.Io.KnownBytes.{Appends, Keeps}
+use Rattle.std.proofs.lemmas.List.{length-append, take-append-drop, drop_more, take_more}
 use Rattle.report_line.specs.declared.call.Call.TheVariants as calls
 use Rattle.session.specs.Exchanges.{Exchange}
 use Rattle.session.specs.declared.kind.Kind.{Kind}
 use Rattle.session.specs.declared.kind.Kind.TheVariants as kinds
-use Rattle.client_link.specs.Links.{LinkState, IsSound, Puts}
-use Rattle.session.specs.SessionText.{Means, Grounds, IsWorn, IsUnmade, IsForeign, exchange_line, session_text}
-use Rattle.session.specs.Parts.{AreLawful, FaultsAt, Serves}
-use Rattle.client_link.proofs.Sent.{appends_none, appends_then, sound_none, sound_then, fault_then}
-use Rattle.session.proofs.ServedTurns.{mean_then, far_then}
+use Rattle.session.specs.declared.handing.HandOn.{HandOn}
+use Rattle.client_link.specs.Links.{LinkState, IsSound, IsHandOn, Puts}
+use Rattle.session.specs.SessionText.{Means, Mean, Grounds, IsWorn, IsUnmade, IsForeign, exchange_line, session_text}
+use Rattle.session.specs.Parts.{AreLawful, IsSaid, HowFar, FaultsAt, Serves, HandsOn, ServesLines, one_reply}
+use Rattle.client_link.proofs.Sent.{appends_none, appends_keeps, appends_then, sound_none, sound_then, fault_then}
+use Rattle.session.proofs.ServedTurns.{mean_then, mean_length, far_then}
+use Rattle.session.proofs.Gone.{gone_few, gone_then}
 
 pub faults_then : (end : Option Kind) (r s t : LinkState) → IsSound r s → FaultsAt end s t → FaultsAt end r t
 faults_then None r s t p q = sound_then r s t p q
@@ -80,7 +83,7 @@ said_part makes grounds laws old new line state after e fault means turned puts 
       lines_are = refl;
       mean = (means, tt);
       turns = turned;
-      how = record { before = []; last = e; turned_are = refl; none_before = tt; part = sent.0; short = (sent.1, sent.2, sent.3); text_is = refl; count_is = refl };
+      how = record { before = []; last = e; turned_are = refl; none_before = tt; part = sent.0; cut = inl (sent.1, sent.2, sent.3); text_is = refl; count_is = refl };
       written = sent.4;
       faults = puts.faults;
       left = puts.left;
@@ -144,7 +147,7 @@ foreign makes grounds laws s line state after same other =
 
 -- ---- a loop over lines
 
-pub serves_none : {S : Type 0} (makes : S → List Exchange → S → Type 0) (grounds : S → Grounds) (laws : AreLawful makes grounds) (s : LinkState) (state : S) → Serves makes grounds s s [] state state None 0
+abbrev serves_none : {S : Type 0} (makes : S → List Exchange → S → Type 0) (grounds : S → Grounds) (laws : AreLawful makes grounds) (s : LinkState) (state : S) → Serves makes grounds s s [] state state None 0
 serves_none makes grounds laws s state =
     record {
       front = [];
@@ -162,7 +165,7 @@ serves_none makes grounds laws s state =
     }
 
 -- one more line behind some that were all answered; later ones follow only where it ends
-serves_then : {S : Type 0} (makes : S → List Exchange → S → Type 0) (grounds : S → Grounds) (laws : AreLawful makes grounds) (end : Option Kind) (old mid new : LinkState) (lines more later : List (List ℕ)) (state now after : S) (m n : ℕ) → Serves makes grounds old mid lines state now None m → Serves makes grounds mid new more now after end n
+abbrev serves_then : {S : Type 0} (makes : S → List Exchange → S → Type 0) (grounds : S → Grounds) (laws : AreLawful makes grounds) (end : Option Kind) (old mid new : LinkState) (lines more later : List (List ℕ)) (state now after : S) (m n : ℕ) → Serves makes grounds old mid lines state now None m → Serves makes grounds mid new more now after end n
     → (end ≡ None → later ≡ []) → Serves makes grounds old new (lines ++ (more ++ later)) state after end (m + n)
 serves_then makes grounds laws end old mid new lines more later state now after m n s t none =
     record {
@@ -182,20 +185,157 @@ serves_then makes grounds laws end old mid new lines more later state now after 
       reads = t.reads ∙ s.reads;
     }
 
+-- ---- handing on a reply
+
+appends_kept : (a b c : Option (List ℕ)) (x : List ℕ) → Appends a b x → Keeps b c → Appends a c x
+appends_kept a b c x p k = subst (λ (t : List ℕ). Appends a c t) (append-nil x) (appends_then a b c x [] p (appends_keeps b c k))
+
+-- where a line has its reply no call failed
+faults_sound : (end : Option Kind) (old new : LinkState) → one_reply end ≡ 1 → FaultsAt end old new → IsSound old new
+faults_sound None old new one f = f
+faults_sound (Some kinds.Bye) old new one f = f
+faults_sound (Some kinds.End) old new one f = absurd (omega (arith, one))
+faults_sound (Some kinds.TooLong) old new one f = absurd (omega (arith, one))
+faults_sound (Some kinds.Worn) old new one f = absurd (omega (arith, one))
+faults_sound (Some kinds.Memory) old new one f = absurd (omega (arith, one))
+faults_sound (Some kinds.ReadFailed) old new one f = absurd (omega (arith, one))
+faults_sound (Some kinds.WriteFailed) old new one f = absurd (omega (arith, one))
+faults_sound (Some kinds.Endless) old new one f = absurd (omega (arith, one))
+faults_sound (Some kinds.Foreign) old new one f = absurd (omega (arith, one))
+
+sound_faults : (end : Option Kind) (old new : LinkState) → one_reply end ≡ 1 → IsSound old new → FaultsAt end old new
+sound_faults None old new one s = s
+sound_faults (Some kinds.Bye) old new one s = s
+sound_faults (Some kinds.End) old new one s = absurd (omega (arith, one))
+sound_faults (Some kinds.TooLong) old new one s = absurd (omega (arith, one))
+sound_faults (Some kinds.Worn) old new one s = absurd (omega (arith, one))
+sound_faults (Some kinds.Memory) old new one s = absurd (omega (arith, one))
+sound_faults (Some kinds.ReadFailed) old new one s = absurd (omega (arith, one))
+sound_faults (Some kinds.WriteFailed) old new one s = absurd (omega (arith, one))
+sound_faults (Some kinds.Endless) old new one s = absurd (omega (arith, one))
+sound_faults (Some kinds.Foreign) old new one s = absurd (omega (arith, one))
+
+-- and the replies were written
+said_of : (end : Option Kind) (grounds : Grounds) (later : List (List ℕ)) (turned : List Exchange) (text : List ℕ) (count : ℕ) → one_reply end ≡ 1 → HowFar end grounds later turned text count → IsSaid turned text count
+said_of None grounds later turned text count one far = far.2
+said_of (Some kinds.Bye) grounds later turned text count one far = far.1
+said_of (Some kinds.End) grounds later turned text count one far = absurd (omega (arith, one))
+said_of (Some kinds.TooLong) grounds later turned text count one far = absurd (omega (arith, one))
+said_of (Some kinds.Worn) grounds later turned text count one far = absurd (omega (arith, one))
+said_of (Some kinds.Memory) grounds later turned text count one far = absurd (omega (arith, one))
+said_of (Some kinds.ReadFailed) grounds later turned text count one far = absurd (omega (arith, one))
+said_of (Some kinds.WriteFailed) grounds later turned text count one far = absurd (omega (arith, one))
+said_of (Some kinds.Endless) grounds later turned text count one far = absurd (omega (arith, one))
+said_of (Some kinds.Foreign) grounds later turned text count one far = absurd (omega (arith, one))
+
+only_one : (turned : List Exchange) → 1 ≡ length turned → (e : Exchange) × (turned ≡ e ∷ [])
+only_one [] one = absurd (omega (arith, one))
+only_one (e ∷ []) one = (e, refl)
+only_one (e ∷ (f ∷ es)) one = absurd (omega (arith, one))
+
+pub some_none : {X : Type 0} {x : X} → ¬ (Some x ≡ None)
+some_none e = cc
+
+-- a reply that was handed on behind its line: all else is as it was
+handed : {S E : Type 0} (makes : S → List Exchange → S → Type 0) (grounds : S → Grounds) (old mid new : LinkState) (lines : List (List ℕ)) (state after : S) (end : Option Kind) (n : ℕ) (u : Unit {0}) → one_reply end ≡ 1 → Serves makes grounds old mid lines state after end n → IsHandOn {E = E} mid new (Ok u)
+    → Serves makes grounds old new lines state after end n
+handed makes grounds old mid new lines state after end n u one s hand =
+    record {
+      front = s.front;
+      later = s.later;
+      turned = s.turned;
+      text = s.text;
+      lines_are = s.lines_are;
+      mean = s.mean;
+      turns = s.turns;
+      how = s.how;
+      written = appends_kept old.held mid.held new.held s.text s.written hand.held;
+      faults = sound_faults end old new one (sound_then old mid new (faults_sound end old mid one s.faults) (record { failures = hand.failures; stalls = hand.stalls; ended = hand.ended }));
+      left = hand.left ∙ s.left;
+      reads = hand.reads ∙ s.reads;
+    }
+
+-- a reply that could not be handed on
+not_handed : {S E : Type 0} (makes : S → List Exchange → S → Type 0) (grounds : S → Grounds) (old mid new : LinkState) (line : List ℕ) (state after : S) (end : Option Kind) (e : E) → one_reply end ≡ 1 → Serves makes grounds old mid (line ∷ []) state after end 1 → IsHandOn mid new (Err e)
+    → Serves makes grounds old new (line ∷ []) state after (Some kinds.WriteFailed) 0
+not_handed makes grounds old mid new line state after end e one s hand =
+    let said = said_of end (grounds state) s.later s.turned s.text 1 one s.how in
+    let only = only_one s.turned said.1 in
+    record {
+      front = s.front;
+      later = s.later;
+      turned = s.turned;
+      text = s.text;
+      lines_are = s.lines_are;
+      mean = s.mean;
+      turns = s.turns;
+      how = record { before = []; last = only.0; turned_are = only.1; none_before = tt; part = exchange_line only.0; cut = inr refl; text_is = said.0 ∙ ap session_text only.1 ∙ append-nil (exchange_line only.0); count_is = refl };
+      written = appends_kept old.held mid.held new.held s.text s.written hand.held;
+      faults = fault_then old mid new (faults_sound end old mid one s.faults) (record { fault = inl (hand.failures, hand.stalls); ended = hand.ended });
+      left = hand.left ∙ s.left;
+      reads = hand.reads ∙ s.reads;
+    }
+
+-- a line has one turn at most
+few_turned : (front later : List (List ℕ)) (line : List ℕ) (turned : List Exchange) → line ∷ [] ≡ front ++ later → Mean front turned → length turned ≤ 1
+few_turned front later line turned parts mean = omega (arith, ap length parts, length-append front later, mean_length front turned mean)
+
+-- one line, whose reply was handed on where each is
+pub line_served : {S K : Type 0} (makes : S → List Exchange → S → Type 0) (grounds : S → Grounds) (told : K → LinkState) (when : HandOn) (old mid new : K) (line : List ℕ) (state after : S) (end result : Option Kind) → Serves makes grounds (told old) (told mid) (line ∷ []) state after end (one_reply end)
+    → HandsOn when end (told mid) (told new) result → ServesLines makes grounds told when old new (line ∷ []) state after result (one_reply result)
+line_served makes grounds told when old mid new line state after end result s (inl none) =
+    let served : Serves makes grounds (told old) (told new) (line ∷ []) state after end (one_reply end) = subst (λ (x : LinkState). Serves makes grounds (told old) x (line ∷ []) state after end (one_reply end)) (sym none.2) s in
+    rw none.1 record {
+      served = served;
+      gone = λ each rests. gone_few told old served.turned (few_turned served.front served.later line served.turned served.lines_are served.mean) rests;
+      rests = λ each rests goes. absurd (let n = none.0 each in let m : one_reply end ≡ 1 = ap one_reply goes in omega (arith, n, m));
+    }
+line_served makes grounds told when old mid new line state after end result s (inr (one, (Ok u, hand, is))) =
+    let served : Serves makes grounds (told old) (told new) (line ∷ []) state after end (one_reply end) = handed makes grounds (told old) (told mid) (told new) (line ∷ []) state after end (one_reply end) u one s hand in
+    rw is record {
+      served = served;
+      gone = λ each rests. gone_few told old served.turned (few_turned served.front served.later line served.turned served.lines_are served.mean) rests;
+      rests = λ each rests goes. hand.handed;
+    }
+line_served makes grounds told when old mid new line state after end result s (inr (one, (Err e, hand, is))) =
+    let served : Serves makes grounds (told old) (told new) (line ∷ []) state after (Some kinds.WriteFailed) 0 = not_handed makes grounds (told old) (told mid) (told new) line state after end e one (rw one at s) hand in
+    rw is record {
+      served = served;
+      gone = λ each rests. gone_few told old served.turned (few_turned served.front served.later line served.turned served.lines_are served.mean) rests;
+      rests = λ each rests goes. absurd (some_none goes);
+    }
+
+-- ---- a loop over lines, each reply handed on where that is wanted
+
+pub lines_none : {S K : Type 0} (makes : S → List Exchange → S → Type 0) (grounds : S → Grounds) (laws : AreLawful makes grounds) (told : K → LinkState) (when : HandOn) (link : K) (state : S) → ServesLines makes grounds told when link link [] state state None 0
+lines_none makes grounds laws told when link state =
+    record { served = serves_none makes grounds laws (told link) state; gone = λ each rests n lt. absurd (omega (arith, lt)); rests = λ each rests goes. rests }
+
+lines_then : {S K : Type 0} (makes : S → List Exchange → S → Type 0) (grounds : S → Grounds) (laws : AreLawful makes grounds) (told : K → LinkState) (when : HandOn) (end : Option Kind) (old mid new : K) (lines more later : List (List ℕ)) (state now after : S) (m n : ℕ) → ServesLines makes grounds told when old mid lines state now None m
+    → ServesLines makes grounds told when mid new more now after end n → (end ≡ None → later ≡ []) → ServesLines makes grounds told when old new (lines ++ (more ++ later)) state after end (m + n)
+lines_then makes grounds laws told when end old mid new lines more later state now after m n s t none =
+    let first = s.served in
+    record {
+      served = serves_then makes grounds laws end (told old) (told mid) (told new) lines more later state now after m n first t.served none;
+      gone = λ each rests. gone_then told old mid first.turned t.served.turned (s.gone each rests) (subst (λ (x : List ℕ). Appends (told old).held (told mid).held x) first.how.2.0 first.written) first.faults (t.gone each (s.rests each rests refl));
+      rests = λ each rests goes. t.rests each (s.rests each rests refl) goes;
+    }
+
 -- the line at an index, where those before it were answered, and it is the last that is served
-pub serves_to : {S : Type 0} (makes : S → List Exchange → S → Type 0) (grounds : S → Grounds) (laws : AreLawful makes grounds) (end : Option Kind) (old mid new : LinkState) (lines : List (List ℕ)) (i : ℕ) (line : List ℕ) (state now after : S) (m n : ℕ) → slice_get lines i ≡ Some line
-    → Serves makes grounds old mid (take i lines) state now None m → Serves makes grounds mid new (line ∷ []) now after end n → ¬ (end ≡ None) → Serves makes grounds old new lines state after end (m + n)
-serves_to makes grounds laws end old mid new lines i line state now after m n at s t stops =
+pub lines_to : {S K : Type 0} (makes : S → List Exchange → S → Type 0) (grounds : S → Grounds) (laws : AreLawful makes grounds) (told : K → LinkState) (when : HandOn) (end : Option Kind) (old mid new : K) (lines : List (List ℕ)) (i : ℕ) (line : List ℕ) (state now after : S) (m n : ℕ) → slice_get lines i ≡ Some line
+    → ServesLines makes grounds told when old mid (take i lines) state now None m → ServesLines makes grounds told when mid new (line ∷ []) now after end n → ¬ (end ≡ None) → ServesLines makes grounds told when old new lines state after end (m + n)
+lines_to makes grounds laws told when end old mid new lines i line state now after m n at s t stops =
     let is : line ≡ get_or lines i line = sym (get_or_from_slice_get lines i line line at) in
     let whole : take i lines ++ line ∷ drop (i + 1) lines ≡ lines =
     ap (λ (l : List ℕ). take i lines ++ l ∷ drop (i + 1) lines) is ∙ ap (λ (l : List (List ℕ)). take i lines ++ l) (sym (drop_more lines i line (slice_get_within lines i line at))) ∙ take-append-drop i lines in
-    subst (λ (l : List (List ℕ)). Serves makes grounds old new l state after end (m + n)) whole
-    (serves_then makes grounds laws end old mid new (take i lines) (line ∷ []) (drop (i + 1) lines) state now after m n s t (λ none. absurd (stops none)))
+    subst (λ (l : List (List ℕ)). ServesLines makes grounds told when old new l state after end (m + n)) whole
+    (lines_then makes grounds laws told when end old mid new (take i lines) (line ∷ []) (drop (i + 1) lines) state now after m n s t (λ none. absurd (stops none)))
 
 -- the line at an index, where those before it were answered, and it was too
-pub serves_on : {S : Type 0} (makes : S → List Exchange → S → Type 0) (grounds : S → Grounds) (laws : AreLawful makes grounds) (old mid new : LinkState) (lines : List (List ℕ)) (i : ℕ) (line : List ℕ) (state now after : S) (m n : ℕ) → slice_get lines i ≡ Some line
-    → Serves makes grounds old mid (take i lines) state now None m → Serves makes grounds mid new (line ∷ []) now after None n → Serves makes grounds old new (take (i + 1) lines) state after None (m + n)
-serves_on makes grounds laws old mid new lines i line state now after m n at s t =
+pub lines_on : {S K : Type 0} (makes : S → List Exchange → S → Type 0) (grounds : S → Grounds) (laws : AreLawful makes grounds) (told : K → LinkState) (when : HandOn) (old mid new : K) (lines : List (List ℕ)) (i : ℕ) (line : List ℕ) (state now after : S) (m n : ℕ) → slice_get lines i ≡ Some line
+    → ServesLines makes grounds told when old mid (take i lines) state now None m → ServesLines makes grounds told when mid new (line ∷ []) now after None n → ServesLines makes grounds told when old new (take (i + 1) lines) state after None (m + n)
+lines_on makes grounds laws told when old mid new lines i line state now after m n at s t =
     let is : line ≡ get_or lines i line = sym (get_or_from_slice_get lines i line line at) in
     let more : take i lines ++ (line ∷ [] ++ []) ≡ take (i + 1) lines = ap (λ (l : List ℕ). take i lines ++ l ∷ []) is ∙ sym (take_more lines i line (slice_get_within lines i line at)) in
-    subst (λ (l : List (List ℕ)). Serves makes grounds old new l state after None (m + n)) more (serves_then makes grounds laws None old mid new (take i lines) (line ∷ []) [] state now after m n s t (λ none. refl))
+    subst (λ (l : List (List ℕ)). ServesLines makes grounds told when old new l state after None (m + n)) more
+    (lines_then makes grounds laws told when None old mid new (take i lines) (line ∷ []) [] state now after m n s t (λ none. refl))

@@ -58,7 +58,7 @@ cut_then es fs text more m n none p c =
       turned_are = ap (λ (l : Exchanges). es ++ l) c.turned_are ∙ sym (append_assoc es c.before (c.last ∷ []));
       none_before = no_bye_then es c.before none c.none_before;
       part = c.part;
-      short = c.short;
+      cut = c.cut;
       text_is = ap (λ (t : List ℕ). t ++ more) p.0 ∙ ap (λ (t : List ℕ). session_text es ++ t) c.text_is ∙ sym (append_assoc (session_text es) (session_text c.before) c.part)
           ∙ ap (λ (t : List ℕ). t ++ c.part) (text_then es c.before);
       count_is = omega (arith, length-append es c.before, p.1, c.count_is);

@@ -8,9 +8,12 @@ use Rattle.session.specs.declared.kind.Kind.{Kind}
 use Rattle.session.specs.declared.kind.Kind.TheVariants as kinds
 use Rattle.client_link.specs.Links.{LinkState, IsRead}
 use Rattle.session.specs.SessionText.{Grounds}
-use Rattle.session.specs.Parts.{AreLawful, HowFar, FaultsAt, Serves, Follows, StepsTo, IsQuiet, GaveBy, Steps}
+use Rattle.session.specs.Ends.{EachHasGone}
+use Rattle.session.specs.declared.handing.HandOn.{HandOn}
+use Rattle.session.specs.Parts.{AreLawful, HowFar, FaultsAt, Serves, ServesLines, Follows, StepsTo, IsQuiet, GaveBy, Steps, StepsOn}
 use Rattle.client_link.proofs.Sent.{appends_none}
-use Rattle.session.proofs.ServeSteps.{faults_then}
+use Rattle.session.proofs.ServeSteps.{faults_then, some_none}
+use Rattle.session.proofs.Gone.{gone_then}
 
 pub consumes_keeps_none : (a b : Option (List ℕ)) → Keeps a b → Consumes a b []
 consumes_keeps_none None b k = tt
@@ -26,7 +29,7 @@ abbrev same_held : (a b : Option (List ℕ)) → b ≡ a → Appends a b []
 same_held a b same = subst (λ (x : Option (List ℕ)). Appends a x []) (sym same) (appends_none a)
 
 -- a read that failed
-pub read_failed : {S E : Type 0} (makes : S → List Exchange → S → Type 0) (grounds : S → Grounds) (laws : AreLawful makes grounds) (old new : LinkState) (stand : Stand) (state : S) (e : E) (buf : List ℕ) → ¬ (stand ≡ None) → IsRead old new (Err e) buf → Steps makes grounds old new stand stand state state (Some kinds.ReadFailed) 0
+abbrev read_failed : {S E : Type 0} (makes : S → List Exchange → S → Type 0) (grounds : S → Grounds) (laws : AreLawful makes grounds) (old new : LinkState) (stand : Stand) (state : S) (e : E) (buf : List ℕ) → ¬ (stand ≡ None) → IsRead old new (Err e) buf → Steps makes grounds old new stand stand state state (Some kinds.ReadFailed) 0
 read_failed makes grounds laws old new None state e buf some read = absurd (some refl)
 read_failed makes grounds laws old new (Some rest) state e buf some read =
     record {
@@ -39,7 +42,7 @@ read_failed makes grounds laws old new (Some rest) state e buf some read =
       mean = tt;
       turns = laws.none state;
       how = subst (λ (cut : List (List ℕ) × Stand). StepsTo (Some kinds.ReadFailed) (grounds state) cut.1 [] [] [] [] 0) (sym (nothing_cut rest)) (tt, refl, refl, (refl, refl));
-      stands = λ none. absurd cc;
+      stands = λ none. absurd (some_none none);
       consumed = consumes_keeps_none old.left new.left read.bytes;
       written = same_held old.held new.held read.held;
       faults = (read.failures, read.stalls, read.ended);
@@ -49,7 +52,7 @@ read_failed makes grounds laws old new (Some rest) state e buf some read =
     }
 
 -- a read at the end
-pub read_end : {S E : Type 0} (makes : S → List Exchange → S → Type 0) (grounds : S → Grounds) (laws : AreLawful makes grounds) (old new : LinkState) (stand : Stand) (state : S) (n : ℕ) (buf : List ℕ) → ¬ (stand ≡ None) → n ≡ 0 → 0 < length buf → IsRead {E = E} old new (Ok n) buf
+abbrev read_end : {S E : Type 0} (makes : S → List Exchange → S → Type 0) (grounds : S → Grounds) (laws : AreLawful makes grounds) (old new : LinkState) (stand : Stand) (state : S) (n : ℕ) (buf : List ℕ) → ¬ (stand ≡ None) → n ≡ 0 → 0 < length buf → IsRead {E = E} old new (Ok n) buf
     → Steps makes grounds old new stand stand state state (Some kinds.End) 0
 read_end makes grounds laws old new None state n buf some none room read = absurd (some refl)
 read_end makes grounds laws old new (Some rest) state n buf some none room read =
@@ -63,7 +66,7 @@ read_end makes grounds laws old new (Some rest) state n buf some none room read 
       mean = tt;
       turns = laws.none state;
       how = subst (λ (cut : List (List ℕ) × Stand). StepsTo (Some kinds.End) (grounds state) cut.1 [] [] [] [] 0) (sym (nothing_cut rest)) (tt, refl, refl, (refl, refl));
-      stands = λ never. absurd cc;
+      stands = λ never. absurd (some_none never);
       consumed = rw none at read.bytes.0;
       written = same_held old.held new.held read.held;
       faults = record { failures = read.failures; stalls = read.stalls; ended = read.ended };
@@ -73,7 +76,7 @@ read_end makes grounds laws old new (Some rest) state n buf some none room read 
     }
 
 -- no memory for the lines of a piece
-pub read_refused : {S E : Type 0} (makes : S → List Exchange → S → Type 0) (grounds : S → Grounds) (laws : AreLawful makes grounds) (old new : LinkState) (stand stand_after : Stand) (state : S) (n : ℕ) (buf : List ℕ) → 0 < length (take n buf) → IsRead {E = E} old new (Ok n) buf
+abbrev read_refused : {S E : Type 0} (makes : S → List Exchange → S → Type 0) (grounds : S → Grounds) (laws : AreLawful makes grounds) (old new : LinkState) (stand stand_after : Stand) (state : S) (n : ℕ) (buf : List ℕ) → 0 < length (take n buf) → IsRead {E = E} old new (Ok n) buf
     → Steps makes grounds old new stand stand_after state state (Some kinds.Memory) 0
 read_refused makes grounds laws old new stand stand_after state n buf some read =
     record {
@@ -86,7 +89,7 @@ read_refused makes grounds laws old new stand stand_after state n buf some read 
       mean = tt;
       turns = laws.none state;
       how = (tt, inl refl, (refl, refl));
-      stands = λ none. absurd cc;
+      stands = λ none. absurd (some_none none);
       consumed = read.bytes.0;
       written = same_held old.held new.held read.held;
       faults = record { failures = read.failures; stalls = read.stalls; ended = read.ended };
@@ -140,7 +143,7 @@ gave_by (Some kinds.ReadFailed) end grounds stand later turned text count piece 
 gave_by (Some kinds.Endless) end grounds stand later turned text count piece f far some = absurd far
 
 -- the lines of a piece were served
-pub read_served : {S E : Type 0} (makes : S → List Exchange → S → Type 0) (grounds : S → Grounds) (laws : AreLawful makes grounds) (from end : Option Kind) (old mid new : LinkState) (stand stand_after : Stand) (state after : S) (n count : ℕ) (buf : List ℕ) (lines : List (List ℕ)) → 0 < length (take n buf) → IsRead {E = E} old mid (Ok n) buf
+abbrev read_served : {S E : Type 0} (makes : S → List Exchange → S → Type 0) (grounds : S → Grounds) (laws : AreLawful makes grounds) (from end : Option Kind) (old mid new : LinkState) (stand stand_after : Stand) (state after : S) (n count : ℕ) (buf : List ℕ) (lines : List (List ℕ)) → 0 < length (take n buf) → IsRead {E = E} old mid (Ok n) buf
     → cut_from stand (take n buf) ≡ (lines, stand_after) → Serves makes grounds mid new lines state after from count → Follows from stand_after end → Steps makes grounds old new stand stand_after state after end count
 read_served makes grounds laws from end old mid new stand stand_after state after n count buf lines some read cut s follows =
     record {
@@ -160,6 +163,39 @@ read_served makes grounds laws from end old mid new stand stand_after state afte
       quiet = quiet_by from end (grounds state) old new stand_after s.later s.turned s.text count follows s.how;
       gave = gave_by from end (grounds state) stand_after s.later s.turned s.text count (take n buf) follows s.how some;
       reads = s.reads ∙ read.counted;
+    }
+
+-- ---- the same, where each reply is handed on
+
+none_gone_yet : {K : Type 0} (told : K → LinkState) (link : K) → EachHasGone told link []
+none_gone_yet told link = λ n lt. absurd (omega (arith, lt))
+
+pub step_failed : {S K E : Type 0} (makes : S → List Exchange → S → Type 0) (grounds : S → Grounds) (laws : AreLawful makes grounds) (told : K → LinkState) (when : HandOn) (old new : K) (stand : Stand) (state : S) (e : E) (buf : List ℕ) → ¬ (stand ≡ None) → IsRead (told old) (told new) (Err e) buf
+    → StepsOn makes grounds told when old new stand stand state state (Some kinds.ReadFailed) 0
+step_failed makes grounds laws told when old new None state e buf some read = absurd (some refl)
+step_failed makes grounds laws told when old new (Some rest) state e buf some read =
+    record { steps = read_failed makes grounds laws (told old) (told new) (Some rest) state e buf some read; gone = λ each rests. none_gone_yet told old }
+
+pub step_end : {S K E : Type 0} (makes : S → List Exchange → S → Type 0) (grounds : S → Grounds) (laws : AreLawful makes grounds) (told : K → LinkState) (when : HandOn) (old new : K) (stand : Stand) (state : S) (n : ℕ) (buf : List ℕ) → ¬ (stand ≡ None) → n ≡ 0 → 0 < length buf → IsRead {E = E} (told old) (told new) (Ok n) buf
+    → StepsOn makes grounds told when old new stand stand state state (Some kinds.End) 0
+step_end makes grounds laws told when old new None state n buf some none room read = absurd (some refl)
+step_end makes grounds laws told when old new (Some rest) state n buf some none room read =
+    record { steps = read_end makes grounds laws (told old) (told new) (Some rest) state n buf some none room read; gone = λ each rests. none_gone_yet told old }
+
+pub step_refused : {S K E : Type 0} (makes : S → List Exchange → S → Type 0) (grounds : S → Grounds) (laws : AreLawful makes grounds) (told : K → LinkState) (when : HandOn) (old new : K) (stand stand_after : Stand) (state : S) (n : ℕ) (buf : List ℕ) → 0 < length (take n buf) → IsRead {E = E} (told old) (told new) (Ok n) buf
+    → StepsOn makes grounds told when old new stand stand_after state state (Some kinds.Memory) 0
+step_refused makes grounds laws told when old new stand stand_after state n buf some read =
+    record { steps = read_refused makes grounds laws (told old) (told new) stand stand_after state n buf some read; gone = λ each rests. none_gone_yet told old }
+
+pub step_served : {S K E : Type 0} (makes : S → List Exchange → S → Type 0) (grounds : S → Grounds) (laws : AreLawful makes grounds) (told : K → LinkState) (when : HandOn) (from end : Option Kind) (old mid new : K) (stand stand_after : Stand) (state after : S) (n count : ℕ) (buf : List ℕ) (lines : List (List ℕ)) → 0 < length (take n buf)
+    → IsRead {E = E} (told old) (told mid) (Ok n) buf → cut_from stand (take n buf) ≡ (lines, stand_after) → ServesLines makes grounds told when mid new lines state after from count → Follows from stand_after end → StepsOn makes grounds told when old new stand stand_after state after end count
+step_served makes grounds laws told when from end old mid new stand stand_after state after n count buf lines some read cut s follows =
+    let t = s.served in
+    record {
+      steps = read_served makes grounds laws from end (told old) (told mid) (told new) stand stand_after state after n count buf lines some read cut t follows;
+      gone = λ each rests.
+          gone_then told old mid [] t.turned (none_gone_yet told old) (same_held (told old).held (told mid).held read.held) (record { failures = read.failures; stalls = read.stalls; ended = read.ended })
+          (s.gone each (read.waiting ∙ rests));
     }
 
 -- ---- a piece has no more lines than bytes

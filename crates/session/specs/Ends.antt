@@ -6,6 +6,8 @@ use Rattle.report_line.specs.Cutting.{cut_of}
 use Rattle.session.specs.Exchanges.{Exchange}
 use Rattle.session.specs.declared.kind.Kind.{Kind}
 use Rattle.session.specs.declared.kind.Kind.TheVariants as kinds
+use Rattle.session.specs.declared.handing.HandOn.{HandOn}
+use Rattle.session.specs.declared.handing.HandOn.TheVariants as hand_ons
 use Rattle.client_link.specs.Links.{up, LinkState, IsSound, IsFault}
 use Rattle.session.specs.SessionText.{NoBye, session_text, joined, most_reads, at_desk, IsSession}
 use Rattle.session.specs.Turned.{EachLineIsChosen, MakesTurns}
@@ -30,9 +32,21 @@ pub record IsReadAt {K : Type 0} (told : K → LinkState) (link : K) (reads : �
 abbrev pub IsPrompt : {K : Type 0} → (K → LinkState) → K → List (List ℕ) → List Exchange → Type 0
 IsPrompt told link pieces turned = (n : ℕ) → n < length pieces → IsReadAt told link n (joined (take n pieces)) turned
 
+-- A moment at which the replies to these exchanges were written and handed on, and no call of the link had failed.
+pub record HaveGone {K : Type 0} (told : K → LinkState) (link : K) (earlier : List Exchange) : Type 0 where
+  pub moment : K
+  pub written : Appends (told link).held (told moment).held (session_text earlier)
+  pub nothing_waits : (told moment).waiting ≡ []
+  pub sound : IsSound (told link) (told moment)
+
+-- Before each turn all earlier replies have gone. So behind a write or a hand-on that failed all of them but the last one have, and no
+-- later turn was made.
+abbrev pub EachHasGone : {K : Type 0} → (K → LinkState) → K → List Exchange → Type 0
+EachHasGone told link turned = (n : ℕ) → n < length turned → HaveGone told link (take n turned)
+
 -- What each read gave, the session text of it, which was written, and the exchanges, which are the turns that were made; each
 -- LINE among them is right, and is the one that the rounds choose.
-pub record Ended {D K : Type 0} (keeps : D → Type 0) (told : K → LinkState) (link after_link : K) (desk after : DeskState D) (kind : Kind) (count : ℕ) : Type 0 where
+pub record Ended {D K : Type 0} (keeps : D → Type 0) (told : K → LinkState) (when : HandOn) (link after_link : K) (desk after : DeskState D) (kind : Kind) (count : ℕ) : Type 0 where
   pub pieces : List (List ℕ)
   pub turned : List Exchange
   pub text : List ℕ
@@ -43,6 +57,7 @@ pub record Ended {D K : Type 0} (keeps : D → Type 0) (told : K → LinkState) 
   pub reads : (told after_link).reads ≡ up (length pieces) (told link).reads
   pub few : length pieces ≤ most_reads
   pub prompt : IsPrompt told link pieces turned
+  pub gone : when ≡ hand_ons.EachReply → EachHasGone told link turned
   pub lines : EachLineIsRight desk.held turned
   pub chosen : EachLineIsChosen desk.held turned
 

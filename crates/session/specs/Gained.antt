@@ -6,7 +6,7 @@ use Rattle.session.specs.Exchanges.{Exchange}
 use Rattle.session.specs.declared.kind.Kind.{Kind}
 use Rattle.client_link.specs.Links.{up, LinkState, IsEnd}
 use Rattle.session.specs.SessionText.{joined, most_reads, at_pass, IsSession}
-use Rattle.session.specs.Ends.{IsPrompt, Leaves}
+use Rattle.session.specs.Ends.{IsPrompt, EachHasGone, Leaves}
 
 -- an entry's call, its turn's reply, and the reply that is shown for it
 abbrev pub exchange_of : PassEntry → Exchange
@@ -30,19 +30,20 @@ pub record Gains (old : PassState) (exchanges : List Exchange) (new : PassState)
   pub number : new.number ≡ old.number
 
 -- A session over a pass: what each read gave, the session text of it, which was written, and the exchanges, which are those of the
--- entries that the pass gained; and what the link tells then: it was ended as the last thing, since no call
--- failed behind its end.
-pub record LinkServed (before told : LinkState) (fresh pass : PassState) (kind : Kind) (count : ℕ) : Type 0 where
+-- entries that the pass gained; before each turn all earlier replies had gone; and what the link tells then: it was ended as the last
+-- thing, since no call failed behind its end.
+pub record LinkServed {K : Type 0} (told : K → LinkState) (before now : K) (fresh pass : PassState) (kind : Kind) (count : ℕ) : Type 0 where
   pub pieces : List (List ℕ)
   pub turned : List Exchange
   pub text : List ℕ
   pub session : IsSession (at_pass fresh) pieces kind turned text count
   pub gains : Gains fresh turned pass
-  pub consumed : Consumes before.left told.left (joined pieces)
-  pub written : Appends before.held told.held text
-  pub reads : told.reads ≡ up (length pieces) before.reads
+  pub consumed : Consumes (told before).left (told now).left (joined pieces)
+  pub written : Appends (told before).held (told now).held text
+  pub reads : (told now).reads ≡ up (length pieces) (told before).reads
   pub few : length pieces ≤ most_reads
-  pub prompt : IsPrompt (λ (state : LinkState). state) before pieces turned
-  pub last : LinkState
-  pub leaves : Leaves kind before last
-  pub ends : IsEnd last told
+  pub prompt : IsPrompt told before pieces turned
+  pub gone : EachHasGone told before turned
+  pub last : K
+  pub leaves : Leaves kind (told before) (told last)
+  pub ends : IsEnd (told last) (told now)

@@ -19,10 +19,13 @@ use Rattle.coordinator.specs.declared.fault.CallFault.TheVariants as refused
 use Rattle.session.specs.Exchanges.{Exchange}
 use Rattle.session.specs.declared.kind.Kind.{Kind}
 use Rattle.session.specs.declared.kind.Kind.TheVariants as kinds
-use Rattle.client_link.specs.Links.{up, LinkState, IsSound, IsFault, Puts}
+use Rattle.client_link.specs.declared.link.LinkFault.{LinkFault}
+use Rattle.client_link.specs.Links.{up, LinkState, IsSound, IsFault, IsHandOn, Puts}
 use Rattle.session.specs.SessionText.{Mean, NoBye, LastSaysBye, Grounds, IsWorn, IsUnmade, IsForeign, session_text, ending_line, ending_count, IsCutShort, IsCutInReply, joined, most_reads, Gave, IsSession}
 use Rattle.session.specs.Turned.{MakesTurns}
-use Rattle.session.specs.Ends.{IsPrompt}
+use Rattle.session.specs.declared.handing.HandOn.{HandOn}
+use Rattle.session.specs.declared.handing.HandOn.TheVariants as hand_ons
+use Rattle.session.specs.Ends.{IsPrompt, EachHasGone}
 
 -- ---- a turn
 
@@ -111,6 +114,25 @@ one_reply None = 1
 one_reply (Some kinds.Bye) = 1
 one_reply _ = 0
 
+-- why a session ends behind a hand-on, where it ended so before it
+abbrev pub end_after : {E : Type 0} → Result (Unit {0}) E → Option Kind → Option Kind
+end_after (Ok _) end = end
+end_after (Err e) end = Some kinds.WriteFailed
+
+-- The reply to a line at which the session ends so was handed on, or that failed; or nothing was done, where there is none, or where they
+-- are not handed on one by one.
+abbrev pub HandsOn : HandOn → Option Kind → LinkState → LinkState → Option Kind → Type 0
+HandsOn when end old new result =
+    ((when ≡ hand_ons.EachReply → one_reply end ≡ 0) × (result ≡ end) × (new ≡ old))
+    ⊎ ((one_reply end ≡ 1) × ((tried : Result (Unit {0}) LinkFault) × IsHandOn old new tried × (result ≡ end_after tried end)))
+
+-- Lines were served; where each reply is handed on, and none waited before, all earlier ones had gone before each turn, and where it
+-- goes on none waits.
+pub record ServesLines {S K : Type 0} (makes : S → List Exchange → S → Type 0) (grounds : S → Grounds) (told : K → LinkState) (when : HandOn) (old new : K) (lines : List (List ℕ)) (state after : S) (end : Option Kind) (count : ℕ) : Type 0 where
+  pub served : Serves makes grounds (told old) (told new) lines state after end count
+  pub gone : when ≡ hand_ons.EachReply → (told old).waiting ≡ [] → EachHasGone told old served.turned
+  pub rests : when ≡ hand_ons.EachReply → (told old).waiting ≡ [] → end ≡ None → (told new).waiting ≡ []
+
 -- ---- reads
 
 -- how a read ends whose lines were served to this end, where the stream stands so
@@ -161,10 +183,15 @@ pub record Steps {S : Type 0} (makes : S → List Exchange → S → Type 0) (gr
   pub gave : GaveBy end piece
   pub reads : new.reads ≡ up 1 old.reads
 
+-- the same, where each reply is handed on: all earlier ones had gone before each turn
+pub record StepsOn {S K : Type 0} (makes : S → List Exchange → S → Type 0) (grounds : S → Grounds) (told : K → LinkState) (when : HandOn) (old new : K) (stand stand_after : Stand) (state after : S) (end : Option Kind) (count : ℕ) : Type 0 where
+  pub steps : Steps makes grounds (told old) (told new) stand stand_after state after end count
+  pub gone : when ≡ hand_ons.EachReply → (told old).waiting ≡ [] → EachHasGone told old steps.turned
+
 -- ---- a session
 
 -- so many reads were made, and each line that they complete was answered
-pub record Going {S K : Type 0} (makes : S → List Exchange → S → Type 0) (told : K → LinkState) (link now : K) (stand : Stand) (state after : S) (reads count : ℕ) : Type 0 where
+pub record Going {S K : Type 0} (makes : S → List Exchange → S → Type 0) (told : K → LinkState) (when : HandOn) (link now : K) (stand : Stand) (state after : S) (reads count : ℕ) : Type 0 where
   pub pieces : List (List ℕ)
   pub turned : List Exchange
   pub made : length pieces ≡ reads
@@ -180,6 +207,7 @@ pub record Going {S K : Type 0} (makes : S → List Exchange → S → Type 0) (
   pub reads_are : (told now).reads ≡ up reads (told link).reads
   pub sound : IsSound (told link) (told now)
   pub prompt : IsPrompt told link pieces turned
+  pub gone : when ≡ hand_ons.EachReply → EachHasGone told link turned
 
 -- the ending line was written and all was handed on, or that failed
 pub record Closing (kind : Kind) (old new : LinkState) (count : ℕ) (end : Kind) (total : ℕ) : Type 0 where
@@ -188,7 +216,7 @@ pub record Closing (kind : Kind) (old new : LinkState) (count : ℕ) (end : Kind
   pub closed : ((end ≡ kind) × (total ≡ count + ending_count kind) × Appends old.held new.held (ending_line kind) × IsSound old new × (new.waiting ≡ []))
       ⊎ ((end ≡ kinds.WriteFailed) × IsFault old new
       × (((total ≡ count) × ((part : List ℕ) × IsCutShort (ending_line kind) part × Appends old.held new.held part))
-      ⊎ ((total ≡ count + ending_count kind) × Appends old.held new.held (ending_line kind))))
+      ⊎ ((total ≡ count) × Appends old.held new.held (ending_line kind))))
 
 -- Behind the end of the reader, and where a call of the link failed, there is nothing to write, and all was handed on or
 -- cannot be.
@@ -199,7 +227,7 @@ Closes kinds.WriteFailed old new count end total = (end ≡ kinds.WriteFailed) �
 Closes kind old new count end total = Closing kind old new count end total
 
 -- what each read gave, the session text of it, which was written, and the exchanges, which are the turns that were made
-pub record Ran {S K : Type 0} (makes : S → List Exchange → S → Type 0) (grounds : S → Grounds) (told : K → LinkState) (link final : K) (state after : S) (kind : Kind) (count : ℕ) : Type 0 where
+pub record Ran {S K : Type 0} (makes : S → List Exchange → S → Type 0) (grounds : S → Grounds) (told : K → LinkState) (when : HandOn) (link final : K) (state after : S) (kind : Kind) (count : ℕ) : Type 0 where
   pub pieces : List (List ℕ)
   pub turned : List Exchange
   pub text : List ℕ
@@ -210,3 +238,4 @@ pub record Ran {S K : Type 0} (makes : S → List Exchange → S → Type 0) (gr
   pub reads : (told final).reads ≡ up (length pieces) (told link).reads
   pub few : length pieces ≤ most_reads
   pub prompt : IsPrompt told link pieces turned
+  pub gone : when ≡ hand_ons.EachReply → EachHasGone told link turned

@@ -106,16 +106,20 @@ IsCutShort line text = (more : List ℕ) × (line ≡ text ++ more) × (0 < leng
 abbrev pub IsWhole : Kind → List Exchange → List ℕ → ℕ → Type 0
 IsWhole kind turned text count = (text ≡ session_text turned ++ ending_line kind) × (count ≡ length turned + ending_count kind)
 
--- the reply to the last exchange was cut, and no earlier one said bye
+-- the reply to the last exchange was cut, or was written and could not be handed on, and no earlier one said bye
 pub record IsCutInReply (turned : List Exchange) (text : List ℕ) (count : ℕ) : Type 0 where
   pub before : List Exchange
   pub last : Exchange
   pub turned_are : turned ≡ before ++ last ∷ []
   pub none_before : NoBye before
   pub part : List ℕ
-  pub short : IsCutShort (exchange_line last) part
+  pub cut : IsCutShort (exchange_line last) part ⊎ (part ≡ exchange_line last)
   pub text_is : text ≡ session_text before ++ part
   pub count_is : count ≡ length before
+
+-- all was written, and could not be handed on: an ending line is not counted then
+abbrev pub IsHeldUp : Kind → List Exchange → List ℕ → ℕ → Type 0
+IsHeldUp kind turned text count = (text ≡ session_text turned ++ ending_line kind) × (count ≡ length turned)
 
 -- the ending line was cut
 pub record IsCutInEnding (kind : Kind) (turned : List Exchange) (text : List ℕ) (count : ℕ) : Type 0 where
@@ -152,11 +156,11 @@ Reached kinds.Endless grounds pieces stand front later turned = NoBye turned × 
 Reached kinds.WriteFailed grounds pieces stand front later turned = ⊥
 Reached _ grounds pieces stand front later turned = NoBye turned × (later ≡ []) × IsSome stand
 
--- a failed write cuts the text, in a reply or in the ending line; or all was written, and could not be handed on
+-- a failed write or hand-on cuts the text, in a reply or in the ending line; or all was written, and could not be handed on
 abbrev pub IsCutOff : Grounds → List (List ℕ) → Stand → List (List ℕ) → List (List ℕ) → List Exchange → List ℕ → ℕ → Type 0
 IsCutOff grounds pieces stand front later turned text count =
     IsCutInReply turned text count
-    ⊎ ((kind : Kind) × Reached kind grounds pieces stand front later turned × (IsCutInEnding kind turned text count ⊎ IsWhole kind turned text count))
+    ⊎ ((kind : Kind) × Reached kind grounds pieces stand front later turned × (IsCutInEnding kind turned text count ⊎ IsHeldUp kind turned text count))
 
 abbrev pub Ends : Kind → Grounds → List (List ℕ) → Stand → List (List ℕ) → List (List ℕ) → List Exchange → List ℕ → ℕ → Type 0
 Ends kinds.WriteFailed grounds pieces stand front later turned text count = IsCutOff grounds pieces stand front later turned text count

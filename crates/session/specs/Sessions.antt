@@ -5,9 +5,9 @@ use Rattle.session.specs.declared.kind.Kind.{Kind}
 use Rattle.session.specs.Gained.{LinkServed}
 use Rattle.client_link.specs.Links.{LinkState}
 
--- A link was served with a new pass, and ended so: it tells this now, and the pass is this now.
-pub record WasServed (now : LinkState) (pass : PassState) (kind : Kind) (count : ℕ) : Type 0 where
-  pub before : LinkState
+-- A link was served with a new pass, and ended so: this is the link now, and the pass is this now.
+pub record WasServed {K : Type 0} (told : K → LinkState) (now : K) (pass : PassState) (kind : Kind) (count : ℕ) : Type 0 where
+  pub before : K
   pub fresh : PassState
   pub is_new : IsNewPass fresh
-  pub served : LinkServed before now fresh pass kind count
+  pub served : LinkServed told before now fresh pass kind count

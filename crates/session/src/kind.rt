@@ -30,6 +30,6 @@ pub enum Kind {
 pub struct SessionEnd {
     /// Why it ended.
     pub kind: Kind,
-    /// How many lines were written whole.
+    /// How many lines were written whole, and where each is handed on by itself, handed on.
     pub replies: u64,
 }

@@ -1,9 +1,10 @@
 //! Clients: lines in, replies out.
 //!
-//! A session reads some bytes, answers each line that they complete, hands the replies on, and only then reads on. One client is
-//! served over a desk, or many over a coordinator by several threads.
+//! A session reads some bytes, answers each line that they complete, hands the replies on, and only then reads on; or it hands on each
+//! reply before the next line's turn. One client is served over a desk, or many over a coordinator by several threads.
 #![tactic(auto)]
 
+mod handing;
 mod kind;
 mod laws;
 mod numbered;
@@ -16,6 +17,7 @@ mod session;
 mod threads;
 mod turns;
 
+pub use handing::HandOn;
 pub use kind::{Kind, SessionEnd};
 pub use laws::{
     a_question_has_one_text, each_line_is_right_for_the_current_history, exchanges_keep_lists,

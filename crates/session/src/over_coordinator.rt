@@ -12,6 +12,7 @@ ghost use Rattle.session.specs.Gained.{GainsEach, LinkServed};
 ghost use Rattle.session.specs.Parts.{Serves, PutsLast, refused_as, one_reply};
 ghost use Rattle.session.specs.SessionText.{at_pass};
 
+use crate::handing::HandOn;
 use crate::kind::{Kind, SessionEnd};
 use crate::over_desk::is_bye;
 use crate::reply_line::put_reply;
@@ -123,7 +124,8 @@ impl<'a, R: Threads + Wait + Sync, L: Ledger, D: Disk, G: Gate> Server<Pass<L>>
 }
 
 /// Serves one client over a coordinator, as `run` does over a desk: each line takes its turn under the coordinator's lock and is
-/// added to the pass, and its reply is written before the next line's turn. The lines of other clients may take theirs in between.
+/// added to the pass, and its reply is written and handed on before the next line's turn. The lines of other clients may take theirs in
+/// between. Where a write or a hand-on fails, all replies but the last one have gone, and no later turn is made.
 /// What is written is the session text of what was read, and its exchanges are just the entries that the pass gained. Where the
 /// pass is of another coordinator, the session ends as Foreign with nothing more written. At last the link is ended, however the session
 /// ended.
@@ -134,14 +136,14 @@ pub fn serve_link<R: Threads + Wait + Sync, L: Ledger, D: Disk, G: Gate, K: Link
     gate: &G,
     link: &mut K,
 ) -> SessionEnd
-    ensures { LinkServed (K.told link.old) (K.told link.new) pass.old pass.new result.kind result.replies }
+    ensures { LinkServed K.told link.old link.new pass.old pass.new result.kind result.replies }
 {
     let server = Shared {
         rt,
         coordinator,
         gate,
     };
-    let end = serve(&server, pass, link);
+    let end = serve(&server, pass, link, HandOn::EachReply);
     link.end();
     end
 }

@@ -1,10 +1,12 @@
 //! Lines, a turn each.
 
 ghost use Rattle.std.specs.List.{AllByRecursion};
-ghost use Rattle.std.specs.Prelude.{◌≡◌, ◌≤◌, Some, length};
+ghost use Rattle.std.specs.Prelude.{◌≡◌, ◌≤◌, IsTrue, Some, false, length};
 ghost use Rattle.report_line.specs.Cutting.{IsLine};
-ghost use Rattle.session.specs.Parts.{AreLawful, Serves, one_reply};
+ghost use Rattle.session.specs.Parts.{AreLawful, HandsOn, ServesLines, one_reply};
+ghost use Rattle.session.specs.declared.handing.HandOn.TheVariants as hand_ons;
 
+use crate::handing::HandOn;
 use crate::kind::Kind;
 use crate::server::Server;
 use client_link::Link;
@@ -28,22 +30,53 @@ fn replies_at(kind: Kind) -> u64
     }
 }
 
-/// Lines, one after the other. Answers why the session ends, if it does, and how many replies were written whole.
+/// Whether a reply is to be handed on behind a line at which the session goes on, or ends so.
+fn is_due(when: HandOn, end: Option<Kind>) -> bool
+    ensures yes { IsTrue result → one_reply end ≡ 1 }
+    ensures no { result ≡ false → when ≡ hand_ons.EachReply → one_reply end ≡ 0 }
+{
+    match when {
+        HandOn::EachRead => false,
+        HandOn::EachReply => match end {
+            None => true,
+            Some(kind) => replies_at(kind) > 0,
+        },
+    }
+}
+
+/// Hands on the reply to a line at which the session goes on, or ends so, where each is handed on by itself. Answers why the session
+/// ends, if it does.
+fn hand_on_reply<K: Link>(link: &mut K, when: HandOn, end: Option<Kind>) -> Option<Kind>
+    ensures { HandsOn when end (K.told link.old) (K.told link.new) result }
+{
+    if !is_due(when, end) {
+        return end;
+    }
+    match link.hand_on() {
+        Ok(()) => end,
+        Err(_) => Some(Kind::WriteFailed),
+    }
+}
+
+/// Lines, one after the other. Answers why the session ends, if it does, and how many replies were written whole, and where each is handed
+/// on by itself, handed on.
 pub(crate) fn serve_lines<S, V: Server<S>, K: Link>(
     server: &V,
     state: &mut S,
     link: &mut K,
     lines: &Lines,
+    when: HandOn,
 ) -> (Option<Kind>, u64)
     requires leave { V.leave }
     requires laws { AreLawful V.makes V.grounds }
     requires lines { AllByRecursion IsLine lines.now }
-    ensures served { Serves V.makes V.grounds (K.told link.old) (K.told link.new) lines.now state.old state.new result.0 result.1 }
+    ensures served { ServesLines V.makes V.grounds K.told when link.old link.new lines.now state.old state.new result.0 result.1 }
     ensures few { result.1 ≤ length lines.now }
 {
     let mut replies = 0u64;
     for i in 0..lines.len() {
-        match server.serve_line(state, link, lines.line(i)) {
+        let end = server.serve_line(state, link, lines.line(i));
+        match hand_on_reply(link, when, end) {
             None => replies += 1,
             Some(kind) => return (Some(kind), replies + replies_at(kind)),
         }

@@ -3,8 +3,9 @@
 ghost use Rattle.std.specs.Prelude.{◌≡◌, ◌≢◌, ◌≤◌, ◌<◌, ◌^◌, ℕ, None};
 ghost use Rattle.session.specs.SessionText.{ending_line, ending_count};
 ghost use Rattle.session.specs.Ends.{Leaves};
-ghost use Rattle.session.specs.Parts.{AreLawful, Follows, Steps, Closing, Closes, Ran};
+ghost use Rattle.session.specs.Parts.{AreLawful, Follows, StepsOn, Closing, Closes, Ran};
 
+use crate::handing::HandOn;
 use crate::kind::{Kind, SessionEnd};
 use crate::server::Server;
 use crate::serving::serve_lines;
@@ -46,7 +47,8 @@ fn lines_of_end(kind: Kind) -> u64
     }
 }
 
-/// Writes the ending line of a session that ends so behind this many lines, and hands all on.
+/// Writes the ending line of a session that ends so behind this many lines, and hands all on. An ending line that was not handed on is
+/// not counted.
 fn close_by<K: Link>(link: &mut K, kind: Kind, replies: u64) -> SessionEnd
     requires { replies < 2 ^ 63 }
     ensures { Closing kind (K.told link.old) (K.told link.new) replies result.kind result.replies }
@@ -57,9 +59,11 @@ fn close_by<K: Link>(link: &mut K, kind: Kind, replies: u64) -> SessionEnd
             replies,
         };
     }
-    let replies = replies + lines_of_end(kind);
     match link.hand_on() {
-        Ok(()) => SessionEnd { kind, replies },
+        Ok(()) => SessionEnd {
+            kind,
+            replies: replies + lines_of_end(kind),
+        },
         Err(_) => SessionEnd {
             kind: Kind::WriteFailed,
             replies,
@@ -100,11 +104,12 @@ fn step<S, V: Server<S>, K: Link>(
     state: &mut S,
     feed: &mut Feed,
     link: &mut K,
+    when: HandOn,
 ) -> (Option<Kind>, u64)
     requires leave { V.leave }
     requires laws { AreLawful V.makes V.grounds }
     requires some { feed.old ≢ None }
-    ensures steps { Steps V.makes V.grounds (K.told link.old) (K.told link.new) feed.old feed.new state.old state.new result.0 result.1 }
+    ensures steps { StepsOn V.makes V.grounds K.told when link.old link.new feed.old feed.new state.old state.new result.0 result.1 }
     ensures few { result.1 ≤ 8192 }
 {
     let mut buf = [0u8; 8192];
@@ -117,16 +122,21 @@ fn step<S, V: Server<S>, K: Link>(
     let Ok(lines) = feed.push(&buf[..n]) else {
         return (Some(Kind::Memory), 0);
     };
-    let (end, replies) = serve_lines(server, state, link, &lines);
+    let (end, replies) = serve_lines(server, state, link, &lines, when);
     (kind_after(end, feed), replies)
 }
 
 /// Serves one client: after each read it answers the lines that are complete, and writes each reply before the next line's turn
-/// is made; before each read and at the end it hands on what it wrote.
-pub(crate) fn serve<S, V: Server<S>, K: Link>(server: &V, state: &mut S, link: &mut K) -> SessionEnd
+/// is made; before each read and at the end it hands on what it wrote, and each reply by itself where that is wanted.
+pub(crate) fn serve<S, V: Server<S>, K: Link>(
+    server: &V,
+    state: &mut S,
+    link: &mut K,
+    when: HandOn,
+) -> SessionEnd
     requires leave { V.leave }
     requires laws { AreLawful V.makes V.grounds }
-    ensures session { Ran V.makes V.grounds K.told link.old link.new state.old state.new result.kind result.replies }
+    ensures session { Ran V.makes V.grounds K.told when link.old link.new state.old state.new result.kind result.replies }
     ensures leaves { Leaves result.kind (K.told link.old) (K.told link.new) }
 {
     let mut feed = Feed::new(server.alloc(state));
@@ -138,7 +148,7 @@ pub(crate) fn serve<S, V: Server<S>, K: Link>(server: &V, state: &mut S, link: &
                 replies,
             };
         };
-        let (end, more) = step(server, state, &mut feed, link);
+        let (end, more) = step(server, state, &mut feed, link, when);
         replies += more;
         if let Some(kind) = end {
             return close(link, kind, replies);

@@ -23,7 +23,7 @@ pub struct Served<L: Ledger, K: Link + Drop> {
     pub link: K,
     /// How the session ended.
     pub end: SessionEnd,
-    ghost served: { ∥ WasServed (K.told link) pass end.kind end.replies ∥₁ },
+    ghost served: { ∥ WasServed K.told link pass end.kind end.replies ∥₁ },
 }
 
 /// Serves one link after the other, each with a pass of its own, until the channel is closed, or memory or a pass is wanting.

@@ -31,7 +31,7 @@ fn word_of(kind: Kind) -> &'static str {
     }
 }
 
-// Serves the client of these streams, to which each write goes through at once. Answers how the session ended.
+// Serves the client of these streams, with the buffer that a link of the program has. Answers how the session ended.
 fn serve_streams<L: Ledger, R: Wait + Threads + Sync, I: Read + Drop, W: Write + Drop>(
     rt: &R,
     coordinator: &Coordinator<L, File>,
@@ -39,9 +39,13 @@ fn serve_streams<L: Ledger, R: Wait + Threads + Sync, I: Read + Drop, W: Write +
     input: I,
     output: W,
 ) -> Result<SessionEnd> {
-    let output = BufWriter::with_capacity(coordinator.alloc(), 0, output)?;
+    let output = BufWriter::new(coordinator.alloc(), output)?;
     let mut link = Streams::new(input, output);
-    Ok(serve_link(rt, coordinator, pass, &OpenGate, &mut link))
+    let end = serve_link(rt, coordinator, pass, &OpenGate, &mut link);
+    let (_input, output) = link.into_inner();
+    // What could not be handed on is not tried once more, as it would be where the buffer is dropped.
+    let (_output, _unwritten) = output.into_parts();
+    Ok(end)
 }
 
 // Writes how a session ended.

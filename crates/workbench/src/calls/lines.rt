@@ -5,7 +5,7 @@ use client_link::Streams;
 use desk::Desk;
 use line_disk::MemoryDisk;
 use report_line::{Call, MarkedReport, read_line, write_marked};
-use session::run;
+use session::{HandOn, run};
 use std::alloc::{AllocError, Global};
 use std::io::BufWriter;
 
@@ -36,7 +36,7 @@ fn client_of(alloc: Global, line: &[u8]) -> Result<Streams<&[u8], Vec<u8>>, Allo
 
 // A session over the desk. It stands alone, since its clause is long.
 fn serve(desk: &mut Desk<MemoryDisk>, client: &mut Streams<&[u8], Vec<u8>>) {
-    let _end = run(desk, client);
+    let _end = run(desk, client, HandOn::EachRead);
 }
 
 fn put_without_end(reply: &[u8], out: &mut Vec<u8>) -> Result<(), AllocError> {

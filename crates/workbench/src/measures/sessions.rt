@@ -6,7 +6,7 @@ use client_link::Streams;
 use desk::Desk;
 use line_disk::NullDisk;
 use report_line::{Call, MarkedReport, read_line};
-use session::run;
+use session::{HandOn, run};
 use std::alloc::{AllocError, Global};
 use std::io::BufWriter;
 use std::rt::Clock;
@@ -72,7 +72,7 @@ fn time_plain_loop(rt: &HostRuntime, input: &[u8]) -> Result<u64> {
 
 /// A session that serves the lines; how many replies it wrote.
 fn serve(desk: &mut Desk<NullDisk>, client: &mut Streams<&[u8], Vec<u8>>) -> u64 {
-    run(desk, client).replies
+    run(desk, client, HandOn::EachRead).replies
 }
 
 /// How long a session takes, in microseconds.

@@ -1,5 +1,5 @@
 -- `conclude`: what the audit says of the desk under the lock is said of the disk that it leaves.
-use Rattle.std.proofs.Common.{◌≡◌, List, length, sym, ap, ◌∙◌, subst}
+use Rattle.std.proofs.Common.{◌≡◌, length, sym, ap, ◌∙◌, subst}
 use Rattle.chains.specs.Held.{held_of}
 use Rattle.coordinator.specs.Closing.{IsAudited}
 use Rattle.coordinator.proofs.WhatIsLeft.{ended}

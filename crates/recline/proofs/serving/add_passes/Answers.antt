@@ -10,7 +10,7 @@ loop-session-preserved g c =
     let session = c.in-Some.session in
     let before = c.loop-session in
     let more = c.in_ok-more.more in
-    let served = of_session (g.K.Link.told session.link) session.pass session.end.kind session.end.replies session.served in (
+    let served = of_session g.K.Link.told session.link session.pass session.end.kind session.end.replies session.served in (
       subst (λ (l : List PassState). AreServed l more) (sym c.in_ok-push.ensures.items)
           (one_more before.passes.items session.pass session.end.kind before.dropped more before.invariant.0 served c.in_ok-more.ensures),
       one_taken (λ s. s.pass) before.yielded session c.args.passes.now.items before.passes.items c.push.new.self.items before.invariant.1 c.in_ok-push.ensures.items,

@@ -1,9 +1,9 @@
 use Rattle.std.proofs.Common.{◌≤◌, take, None}
-use Rattle.session.specs.Parts.{Serves}
+use Rattle.session.specs.Parts.{ServesLines}
 use Rattle.session.proofs.serving.serve_lines.Given as goal
 
 abbrev pub invariant-loop-i : goal.invariant-loop-i
 invariant-loop-i g l = record {
-  served : Serves g.V.Server.makes g.V.Server.grounds (g.K.Link.told l.fn.link) (g.K.Link.told l.link) (take l.i l.fn.lines) l.fn.state l.state None l.replies;
+  served : ServesLines g.V.Server.makes g.V.Server.grounds g.K.Link.told l.fn.when l.fn.link l.link (take l.i l.fn.lines) l.fn.state l.state None l.replies;
   few : l.replies ≤ l.i;
 }

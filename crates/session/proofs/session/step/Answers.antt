@@ -1,20 +1,20 @@
 use Rattle.std.proofs.Common.{take, rules, arith}
 use Rattle.std.proofs.lemmas.List.{length-take}
-use Rattle.session.proofs.Steps.{read_failed, read_end, read_refused, read_served, few_served}
+use Rattle.session.proofs.Steps.{step_failed, step_end, step_refused, step_served, few_served}
 use Rattle.session.proofs.session.step.Goals as goal
 
 pub returns-in_default-clause-steps : goal.returns-in_default-clause-steps
-returns-in_default-clause-steps g c = read_failed g.V.Server.makes g.V.Server.grounds c.requires.laws _ _ _ _ _ c.read.new.buf c.requires.some c.in_default.ensures.read
+returns-in_default-clause-steps g c = step_failed g.V.Server.makes g.V.Server.grounds c.requires.laws g.K.Link.told c.args.when _ _ _ _ _ c.read.new.buf c.requires.some c.in_default.ensures.read
 
 pub returns-then-n-eq0-clause-steps : goal.returns-then-n-eq0-clause-steps
-returns-then-n-eq0-clause-steps g c = read_end g.V.Server.makes g.V.Server.grounds c.requires.laws _ _ _ _ c.in-Ok.n c.read.new.buf c.requires.some c.if-n-eq0.true (search rules) c.in-Ok.ensures.read
+returns-then-n-eq0-clause-steps g c = step_end g.V.Server.makes g.V.Server.grounds c.requires.laws g.K.Link.told c.args.when _ _ _ _ c.in-Ok.n c.read.new.buf c.requires.some c.if-n-eq0.true (search rules) c.in-Ok.ensures.read
 
 pub returns-in_default-push-clause-steps : goal.returns-in_default-push-clause-steps
-returns-in_default-push-clause-steps g c = read_refused g.V.Server.makes g.V.Server.grounds c.requires.laws _ _ _ _ _ c.in-Ok.n c.read.new.buf (omega (arith, length-take c.in-Ok.n c.read.new.buf, c.in-Ok.ensures.bound, c.if-n-eq0.false)) c.in-Ok.ensures.read
+returns-in_default-push-clause-steps g c = step_refused g.V.Server.makes g.V.Server.grounds c.requires.laws g.K.Link.told c.args.when _ _ _ _ _ c.in-Ok.n c.read.new.buf (omega (arith, length-take c.in-Ok.n c.read.new.buf, c.in-Ok.ensures.bound, c.if-n-eq0.false)) c.in-Ok.ensures.read
 
 pub returns-clause-steps : goal.returns-clause-steps
 returns-clause-steps g c =
-    read_served g.V.Server.makes g.V.Server.grounds c.requires.laws c.serve_lines-end.result.0 _ _ _ _ c.args.feed.now c.push.new.self _ _ c.in-Ok.n _ c.read.new.buf c.in-Ok-push.lines (omega (arith, length-take c.in-Ok.n c.read.new.buf, c.in-Ok.ensures.bound, c.if-n-eq0.false)) c.in-Ok.ensures.read c.in-Ok-push.ensures.cut c.serve_lines-end.ensures.served c.kind_after.ensures
+    step_served g.V.Server.makes g.V.Server.grounds c.requires.laws g.K.Link.told c.args.when c.serve_lines-end.result.0 _ _ _ _ c.args.feed.now c.push.new.self _ _ c.in-Ok.n _ c.read.new.buf c.in-Ok-push.lines (omega (arith, length-take c.in-Ok.n c.read.new.buf, c.in-Ok.ensures.bound, c.if-n-eq0.false)) c.in-Ok.ensures.read c.in-Ok-push.ensures.cut c.serve_lines-end.ensures.served c.kind_after.ensures
 
 pub returns-clause-few : goal.returns-clause-few
 returns-clause-few g c =

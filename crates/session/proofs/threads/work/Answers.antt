@@ -4,5 +4,5 @@ use Rattle.session.proofs.threads.work.Goals as goal
 pub invariant_of-push_reserved : goal.invariant_of-push_reserved
 invariant_of-push_reserved g c = record {
   served =
-      ∣ record { before = g.K.Link.told c.in-Ok-recv.link; fresh = c.in-Ok-pass.pass; is_new = c.in-Ok-pass.ensures.ok; served = c.serve_link-end.ensures } ∣₁;
+      ∣ record { before = c.in-Ok-recv.link; fresh = c.in-Ok-pass.pass; is_new = c.in-Ok-pass.ensures.ok; served = c.serve_link-end.ensures } ∣₁;
 }

@@ -4,7 +4,7 @@ use crate::digest::Digest;
 use anyhow::{Result, ensure};
 use client_link::Streams;
 use line_disk::{Disk, MemoryDisk, NullDisk};
-use recline::{HandOn, check_on, draw_on, drive_on, run_on};
+use recline::{check_on, draw_on, drive_on, run_on};
 use std::alloc::{AllocError, Global};
 use std::io::{self, BufWriter, Empty, Sink};
 
@@ -61,13 +61,7 @@ pub fn draw(alloc: Global, digest: &mut Digest, script: &[u8]) -> Result<()> {
 pub fn run(alloc: Global, digest: &mut Digest, lines: &[u8]) -> Result<Vec<u8>> {
     let mut client = client_of(alloc, lines)?;
     let mut faults = no_faults(alloc)?;
-    let (status, _disk) = run_on(
-        alloc,
-        NullDisk::new(),
-        &mut client,
-        &mut faults,
-        HandOn::EachRead,
-    );
+    let (status, _disk) = run_on(alloc, NullDisk::new(), &mut client, &mut faults);
     let replies = counted(digest, status, client);
     ensure!(status == 0, "run ended with {status}");
     Ok(replies)

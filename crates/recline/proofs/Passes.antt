@@ -51,7 +51,10 @@ as_told told link pass kind replies w =
         reads = l.reads;
         few = l.few;
         prompt = λ n lt. read_as_told told w.before n _ l.turned (l.prompt n lt);
-        gone = λ n lt. gone_as_told told w.before _ (l.gone n lt);
+        gone = record {
+          before_each = λ n lt. gone_as_told told w.before _ (l.gone.before_each n lt);
+          last = λ some all. gone_as_told told w.before _ (l.gone.last some all);
+        };
         last = told l.last;
         leaves = l.leaves;
         ends = l.ends;

@@ -12,6 +12,6 @@ mod telling;
 pub use checking::check_on;
 pub use drawing::draw_on;
 pub use driving::drive_on;
-pub use running::{run_on, run_over};
+pub use running::{run_handing_on, run_on, run_over};
 pub use serving::{Service, serve_on};
 pub use session::HandOn;

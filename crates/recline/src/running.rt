@@ -1,6 +1,7 @@
 //! The command `run`.
 
 ghost use Rattle.std.specs.Prelude.{◌≡◌};
+ghost use Rattle.session.specs.declared.handing.HandOn.TheVariants as hand_ons;
 ghost use Rattle.recline.specs.Outcome.{Runs, RunsOn, fault_line, status_of};
 
 use crate::telling::{tell, tell_unopened};
@@ -50,7 +51,7 @@ pub fn run_over<D: Disk, K: Link, F: Link>(
 
 /// The command `run`: opens the record file on a disk, serves one client over the desk of it, whose replies are handed on so, and answers
 /// the status of the process and the disk.
-pub fn run_on<D: Disk, K: Link, F: Link>(
+pub fn run_handing_on<D: Disk, K: Link, F: Link>(
     alloc: Global,
     disk: D,
     client: &mut K,
@@ -70,4 +71,16 @@ pub fn run_on<D: Disk, K: Link, F: Link>(
             (3, disk)
         }
     }
+}
+
+/// The same, where the replies to all lines of a read are handed on before the next read.
+pub fn run_on<D: Disk, K: Link, F: Link>(
+    alloc: Global,
+    disk: D,
+    client: &mut K,
+    faults: &mut F,
+) -> (u8, D)
+    ensures { RunsOn D.keeps D.view D.failed K.told F.told hand_ons.EachRead disk result.1 client.old client.new faults.old faults.new result.0 }
+{
+    run_handing_on(alloc, disk, client, faults, HandOn::EachRead)
 }

@@ -6,7 +6,7 @@ use clap::error::ErrorKind;
 use client_link::{Link, Streams};
 use command_line::{Command, read_args};
 use line_disk::{DiskFault, FileDisk, Modelled, NullDisk};
-use recline::{HandOn, Service, check_on, draw_on, drive_on, run_on, serve_on};
+use recline::{HandOn, Service, check_on, draw_on, drive_on, run_handing_on, run_on, serve_on};
 use record_file::RecordReach;
 use std::env;
 use std::fs::File;
@@ -129,18 +129,18 @@ fn run_over_file<K: Link, F: Link>(
     faults: &mut F,
 ) -> u8 {
     let Some(path) = file else {
-        let (status, _disk) = run_on(
-            rt.alloc(),
-            NullDisk::new(),
-            client,
-            faults,
-            HandOn::EachRead,
-        );
+        let (status, _disk) = run_on(rt.alloc(), NullDisk::new(), client, faults);
         return status;
     };
     match open_file(rt, path) {
         Ok(disk) => {
-            let (status, _disk) = run_on(rt.alloc(), disk, client, faults, HandOn::EachReply);
+            let (status, _disk) = run_handing_on(
+                rt.alloc(),
+                disk,
+                client,
+                faults,
+                HandOn::EachReply,
+            );
             status
         }
         Err(status) => status,

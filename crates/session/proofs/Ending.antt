@@ -20,7 +20,7 @@ use Rattle.session.specs.Parts.{AreLawful, IsSaid, FaultsAt, StepsTo, IsQuiet, G
 use Rattle.client_link.proofs.Sent.{appends_none, appends_then, sound_none, sound_then, fault_then}
 use Rattle.session.proofs.ServedTurns.{mean_then, mean_length, no_bye_then, bye_then, said_then, cut_then}
 use Rattle.session.proofs.ServeSteps.{faults_then}
-use Rattle.session.proofs.Gone.{gone_then}
+use Rattle.session.proofs.Gone.{nothing_gone, gone_then, gone_counted}
 
 consumes_none : (a : Option (List ℕ)) → Consumes a a []
 consumes_none None = tt
@@ -106,7 +106,7 @@ going_none makes grounds laws told when link stand state new =
       reads_are = omega arith;
       sound = sound_none (told link);
       prompt = λ n lt. absurd (omega arith);
-      gone = λ each n lt. absurd (omega arith);
+      gone = λ each. nothing_gone told link 0;
     }
 
 -- what a hand-on that succeeded leaves
@@ -176,7 +176,7 @@ going_on makes grounds laws told when link now reading next stand stand_after st
       reads_are = reads_more (told link).reads (told now).reads (told reading).reads (told next).reads reads s.reads_are hand.reads t.reads;
       sound = sound_then (told link) (told reading) (told next) sound t.faults;
       prompt = prompt_then told link s.pieces t.piece s.turned t.turned s.prompt (read_at makes grounds laws told when link now reading stand state mid reads count u t.turned s hand);
-      gone = λ each. gone_then told link reading s.turned t.turned (s.gone each) before sound (on.gone each hand.handed);
+      gone = λ each. gone_then told link reading s.turned t.turned count more (s.gone each) s.count_is before sound (on.gone each hand.handed);
     }
 
 -- ---- where it stops
@@ -209,7 +209,7 @@ pub record Stopping {S K : Type 0} (makes : S → List Exchange → S → Type 0
   pub reads : (told now).reads ≡ up (length pieces) (told link).reads
   pub few : length pieces ≤ most_reads
   pub prompt : IsPrompt told link pieces turned
-  pub gone : when ≡ hand_ons.EachReply → EachHasGone told link turned
+  pub gone : when ≡ hand_ons.EachReply → EachHasGone told link turned count
   pub leaves : LeftBy kind (told link) (told now)
   pub gave : GaveAll kind pieces
 
@@ -275,7 +275,7 @@ stopping makes grounds laws told when link now reading next kind stand stand_aft
       reads = reads_more (told link).reads (told now).reads (told reading).reads (told next).reads (length s.pieces) (rw s.made s.reads_are) hand.reads t.reads ∙ ap (λ (n : ℕ). up n (told link).reads) (sym (length_more s.pieces t.piece));
       few = omega (arith, length_more s.pieces t.piece, s.made);
       prompt = prompt_then told link s.pieces t.piece s.turned t.turned s.prompt (read_at makes grounds laws told when link now reading stand state mid reads count u t.turned s hand);
-      gone = λ each. gone_then told link reading s.turned t.turned (s.gone each) before sound (on.gone each hand.handed);
+      gone = λ each. gone_then told link reading s.turned t.turned count more (s.gone each) s.count_is before sound (on.gone each hand.handed);
       leaves = left_by kind (told link) (told next) (faults_then (Some kind) (told link) (told reading) (told next) sound t.faults) (quiet_end kind (told reading) (told next) hand.handed t.quiet)
           (quiet_failed kind (told reading) (told next) hand.handed t.quiet);
       gave = stop_gave kind s.pieces t.piece s.gave t.gave;
@@ -334,10 +334,10 @@ pub record Finished {S K : Type 0} (makes : S → List Exchange → S → Type 0
   pub leaves : Leaves end (told link) (told final)
 
 -- behind a session that stopped so, this more was written, and that is how it ends
-ended_then : {S K : Type 0} (makes : S → List Exchange → S → Type 0) (grounds : S → Grounds) (laws : AreLawful makes grounds) (told : K → LinkState) (when : HandOn) (link now final : K) (state after : S) (kind end : Kind) (count total : ℕ) (more : List ℕ) → (s : Stopping makes grounds told when link now state after kind count) → GaveAll end s.pieces
+ended_then : {S K : Type 0} (makes : S → List Exchange → S → Type 0) (grounds : S → Grounds) (laws : AreLawful makes grounds) (told : K → LinkState) (when : HandOn) (link now final : K) (state after : S) (kind end : Kind) (count total : ℕ) (more : List ℕ) → (s : Stopping makes grounds told when link now state after kind count) → GaveAll end s.pieces → (length s.turned ≤ total → length s.turned ≤ count)
     → Ends end (grounds state) s.pieces (cut_of (joined s.pieces)).1 s.front s.later s.turned (s.text ++ more) total → Appends (told now).held (told final).held more → (told final).left ≡ (told now).left → (told final).reads ≡ (told now).reads
     → Ran makes grounds told when link final state after end total
-ended_then makes grounds laws told when link now final state after kind end count total more s gave ends sent left reads =
+ended_then makes grounds laws told when link now final state after kind end count total more s gave counted ends sent left reads =
     record {
       pieces = s.pieces;
       turned = s.turned;
@@ -349,14 +349,14 @@ ended_then makes grounds laws told when link now final state after kind end coun
       reads = reads ∙ s.reads;
       few = s.few;
       prompt = s.prompt;
-      gone = s.gone;
+      gone = λ each. gone_counted told link s.turned count total counted (s.gone each);
     }
 
 -- nothing more was written
 ended_so : {S K : Type 0} (makes : S → List Exchange → S → Type 0) (grounds : S → Grounds) (laws : AreLawful makes grounds) (told : K → LinkState) (when : HandOn) (link now final : K) (state after : S) (kind : Kind) (count : ℕ) → (s : Stopping makes grounds told when link now state after kind count)
     → Ends kind (grounds state) s.pieces (cut_of (joined s.pieces)).1 s.front s.later s.turned s.text count → told final ≡ told now → Ran makes grounds told when link final state after kind count
 ended_so makes grounds laws told when link now final state after kind count s ends same =
-    ended_then makes grounds laws told when link now final state after kind kind count count [] s s.gave
+    ended_then makes grounds laws told when link now final state after kind kind count count [] s s.gave (λ all. all)
     (subst (λ (l : List ℕ). Ends kind (grounds state) s.pieces (cut_of (joined s.pieces)).1 s.front s.later s.turned l count) (sym (append-nil s.text)) ends)
     (subst (λ (h : Option (List ℕ)). Appends (told now).held h []) (sym (ap (λ (x : LinkState). x.held) same)) (appends_none (told now).held)) (ap (λ (x : LinkState). x.left) same) (ap (λ (x : LinkState). x.reads) same)
 
@@ -365,15 +365,15 @@ closed_by : {S K : Type 0} (makes : S → List Exchange → S → Type 0) (groun
     → (GaveAll kind s.pieces → Gave s.pieces) → Closing kind (told now) (told final) count end total → Finished makes grounds told when link final state after end total
 closed_by makes grounds laws told when link now final state after kind end count total s how sound leaves plain c = elim c.closed [
   | inl w ↦ rw w.0 record {
-    ended = ended_then makes grounds laws told when link now final state after kind kind count total (ending_line kind) s s.gave
+    ended = ended_then makes grounds laws told when link now final state after kind kind count total (ending_line kind) s s.gave (λ all. omega (arith, how.1.1))
         (ends_by kind (grounds state) s.pieces (cut_of (joined s.pieces)).1 s.front s.later s.turned (s.text ++ ending_line kind) total how.0 (whole_by kind s.turned s.text count total how.1 w.1)) w.2 c.left c.reads;
     leaves = leaves (sound_then (told link) (told now) (told final) sound w.3) w.4;
   }
   | inr w ↦ rw w.0 record {
     ended = elim w.2 [
-      | inl v ↦ ended_then makes grounds laws told when link now final state after kind kinds.WriteFailed count total v.1.0 s (plain s.gave)
+      | inl v ↦ ended_then makes grounds laws told when link now final state after kind kinds.WriteFailed count total v.1.0 s (plain s.gave) (λ all. omega (arith, how.1.1))
           (inr (kind, how.0, inl (record { part = v.1.0; short = v.1.1; text_is = ap (λ (l : List ℕ). l ++ v.1.0) how.1.0; count_is = v.0 ∙ how.1.1 }))) v.1.2 c.left c.reads
-      | inr v ↦ ended_then makes grounds laws told when link now final state after kind kinds.WriteFailed count total (ending_line kind) s (plain s.gave)
+      | inr v ↦ ended_then makes grounds laws told when link now final state after kind kinds.WriteFailed count total (ending_line kind) s (plain s.gave) (λ all. omega (arith, how.1.1))
           (inr (kind, how.0, inr (ap (λ (l : List ℕ). l ++ ending_line kind) how.1.0, v.0 ∙ how.1.1))) v.1 c.left c.reads
     ];
     leaves = fault_then (told link) (told now) (told final) sound w.1;

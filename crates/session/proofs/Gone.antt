@@ -1,5 +1,5 @@
 -- Replies that have gone before the next turn.
-use Rattle.std.proofs.Common.{◌≡◌, ℕ, ◌+◌, ◌-◌, ◌≤◌, ◌<◌, List, [], ◌∷◌, ◌++◌, length, take, refl, sym, ap, subst, ◌∙◌, arith, inl, inr}
+use Rattle.std.proofs.Common.{◌≡◌, ℕ, ◌+◌, ◌-◌, ◌≤◌, ◌<◌, List, [], ◌∷◌, ◌++◌, length, take, refl, sym, ap, subst, ◌∙◌, append-nil, arith, inl, inr}
 use Rattle.std.specs.Io.KnownBytes.{Appends}
 use Rattle.std.proofs.lemmas.List.{length-append, take-append-le}
 use Rattle.std.proofs.lemmas.List.Concat.{flat_map-append}
@@ -19,11 +19,19 @@ take_none : (es : List Exchange) → take 0 es ≡ []
 take_none [] = refl
 take_none (e ∷ es) = refl
 
--- of no turns or one
-pub gone_few : {K : Type 0} (told : K → LinkState) (link : K) (es : List Exchange) → length es ≤ 1 → (told link).waiting ≡ [] → EachHasGone told link es
-gone_few told link es few rests = λ n lt.
-    let first : n ≡ 0 = omega (arith, few, lt) in
-    subst (λ (l : List Exchange). HaveGone told link l) (sym (ap (λ (m : ℕ). take m es) first ∙ take_none es)) (none_gone told link rests)
+-- where no turn was made
+pub nothing_gone : {K : Type 0} (told : K → LinkState) (link : K) (count : ℕ) → EachHasGone told link [] count
+nothing_gone told link count = record { before_each = λ n lt. absurd (omega (arith, lt)); last = λ some all. absurd (omega (arith, some)) }
+
+-- of no turns or one, whose reply has gone where it is counted
+pub gone_few : {K : Type 0} (told : K → LinkState) (link : K) (es : List Exchange) (count : ℕ) → length es ≤ 1 → (told link).waiting ≡ [] → (0 < length es → length es ≤ count → HaveGone told link es) → EachHasGone told link es count
+gone_few told link es count few rests last =
+    record {
+      before_each = λ n lt.
+          let first : n ≡ 0 = omega (arith, few, lt) in
+          subst (λ (l : List Exchange). HaveGone told link l) (sym (ap (λ (m : ℕ). take m es) first ∙ take_none es)) (none_gone told link rests);
+      last = last;
+    }
 
 -- at a moment behind some turns, whose replies were written by then
 gone_behind : {K : Type 0} (told : K → LinkState) (link mid : K) (es fs : List Exchange) → Appends (told link).held (told mid).held (session_text es) → IsSound (told link) (told mid) → HaveGone told mid fs → HaveGone told link (es ++ fs)
@@ -36,14 +44,35 @@ gone_behind told link mid es fs written sound g =
       sound = sound_then (told link) (told mid) (told g.moment) sound g.sound;
     }
 
--- turns, and more turns behind them
-pub gone_then : {K : Type 0} (told : K → LinkState) (link mid : K) (es fs : List Exchange) → EachHasGone told link es → Appends (told link).held (told mid).held (session_text es) → IsSound (told link) (told mid) → EachHasGone told mid fs
-    → EachHasGone told link (es ++ fs)
-gone_then told link mid es fs before written sound behind = λ n lt. elim (cases_lt n (length es)) [
-  | inl less ↦ let within : n ≤ length es = omega (arith, less) in subst (λ (l : List Exchange). HaveGone told link l) (sym (take-append-le n es fs within)) (before n less)
+-- before a turn of some, or of more behind them
+gone_before : {K : Type 0} (told : K → LinkState) (link mid : K) (es fs : List Exchange) (m n : ℕ) → EachHasGone told link es m → Appends (told link).held (told mid).held (session_text es) → IsSound (told link) (told mid) → EachHasGone told mid fs n
+    → (k : ℕ) → k < length (es ++ fs) → HaveGone told link (take k (es ++ fs))
+gone_before told link mid es fs m n before written sound behind k lt = elim (cases_lt k (length es)) [
+  | inl less ↦ let within : k ≤ length es = omega (arith, less) in subst (λ (l : List Exchange). HaveGone told link l) (sym (take-append-le k es fs within)) (before.before_each k less)
   | inr more ↦
-      let m : ℕ = n - length es in
-      let whole : length es + m ≡ n = omega (arith, more) in
-      let some : m < length fs = omega (arith, lt, more, length-append es fs) in
-      subst (λ (l : List Exchange). HaveGone told link l) (sym (take-append-add es fs m) ∙ ap (λ (k : ℕ). take k (es ++ fs)) whole) (gone_behind told link mid es (take m fs) written sound (behind m some))
+      let i : ℕ = k - length es in
+      let whole : length es + i ≡ k = omega (arith, more) in
+      let some : i < length fs = omega (arith, lt, more, length-append es fs) in
+      subst (λ (l : List Exchange). HaveGone told link l) (sym (take-append-add es fs i) ∙ ap (λ (j : ℕ). take j (es ++ fs)) whole) (gone_behind told link mid es (take i fs) written sound (behind.before_each i some))
 ]
+
+-- the last one of all of them, which is one of the later ones, or, where there are none, of the first
+gone_last : {K : Type 0} (told : K → LinkState) (link mid : K) (es fs : List Exchange) (m n : ℕ) → EachHasGone told link es m → m ≡ length es → Appends (told link).held (told mid).held (session_text es) → IsSound (told link) (told mid) → EachHasGone told mid fs n
+    → 0 < length (es ++ fs) → length (es ++ fs) ≤ m + n → HaveGone told link (es ++ fs)
+gone_last told link mid es [] m n before same written sound behind some all =
+    subst (λ (l : List Exchange). HaveGone told link l) (sym (append-nil es)) (before.last (omega (arith, some, length-append es [])) (omega (arith, same)))
+gone_last told link mid es (f ∷ fs) m n before same written sound behind some all =
+    gone_behind told link mid es (f ∷ fs) written sound (behind.last (omega arith) (omega (arith, all, length-append es (f ∷ fs), same)))
+
+-- turns whose replies were counted, and more turns behind them
+pub gone_then : {K : Type 0} (told : K → LinkState) (link mid : K) (es fs : List Exchange) (m n : ℕ) → EachHasGone told link es m → m ≡ length es → Appends (told link).held (told mid).held (session_text es) → IsSound (told link) (told mid) → EachHasGone told mid fs n
+    → EachHasGone told link (es ++ fs) (m + n)
+gone_then told link mid es fs m n before same written sound behind =
+    record {
+      before_each = gone_before told link mid es fs m n before written sound behind;
+      last = gone_last told link mid es fs m n before same written sound behind;
+    }
+
+-- a larger count, which counts no further reply
+pub gone_counted : {K : Type 0} (told : K → LinkState) (link : K) (es : List Exchange) (count total : ℕ) → (length es ≤ total → length es ≤ count) → EachHasGone told link es count → EachHasGone told link es total
+gone_counted told link es count total counted gone = record { before_each = gone.before_each; last = λ some all. gone.last some (counted all) }

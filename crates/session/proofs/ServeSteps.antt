@@ -14,7 +14,8 @@ use Rattle.session.specs.SessionText.{Means, Mean, Grounds, IsWorn, IsUnmade, Is
 use Rattle.session.specs.Parts.{AreLawful, IsSaid, HowFar, FaultsAt, Serves, HandsOn, ServesLines, one_reply}
 use Rattle.client_link.proofs.Sent.{appends_none, appends_keeps, appends_then, sound_none, sound_then, fault_then}
 use Rattle.session.proofs.ServedTurns.{mean_then, mean_length, far_then}
-use Rattle.session.proofs.Gone.{gone_few, gone_then}
+use Rattle.session.specs.Ends.{HaveGone}
+use Rattle.session.proofs.Gone.{nothing_gone, gone_few, gone_then}
 
 pub faults_then : (end : Option Kind) (r s t : LinkState) → IsSound r s → FaultsAt end s t → FaultsAt end r t
 faults_then None r s t p q = sound_then r s t p q
@@ -287,21 +288,28 @@ line_served makes grounds told when old mid new line state after end result s (i
     let served : Serves makes grounds (told old) (told new) (line ∷ []) state after end (one_reply end) = subst (λ (x : LinkState). Serves makes grounds (told old) x (line ∷ []) state after end (one_reply end)) (sym none.2) s in
     rw none.1 record {
       served = served;
-      gone = λ each rests. gone_few told old served.turned (few_turned served.front served.later line served.turned served.lines_are served.mean) rests;
+      gone = λ each rests. gone_few told old served.turned (one_reply end) (few_turned served.front served.later line served.turned served.lines_are served.mean) rests (λ some all. absurd (let n = none.0 each in omega (arith, n, some, all)));
       rests = λ each rests goes. absurd (let n = none.0 each in let m : one_reply end ≡ 1 = ap one_reply goes in omega (arith, n, m));
     }
 line_served makes grounds told when old mid new line state after end result s (inr (one, (Ok u, hand, is))) =
     let served : Serves makes grounds (told old) (told new) (line ∷ []) state after end (one_reply end) = handed makes grounds (told old) (told mid) (told new) (line ∷ []) state after end (one_reply end) u one s hand in
+    let said = said_of end (grounds state) served.later served.turned served.text (one_reply end) one served.how in
+    let went : HaveGone told old served.turned = record {
+      moment = new;
+      written = subst (λ (x : List ℕ). Appends (told old).held (told new).held x) said.0 served.written;
+      nothing_waits = hand.handed;
+      sound = faults_sound end (told old) (told new) one served.faults;
+    } in
     rw is record {
       served = served;
-      gone = λ each rests. gone_few told old served.turned (few_turned served.front served.later line served.turned served.lines_are served.mean) rests;
+      gone = λ each rests. gone_few told old served.turned (one_reply end) (few_turned served.front served.later line served.turned served.lines_are served.mean) rests (λ some all. went);
       rests = λ each rests goes. hand.handed;
     }
 line_served makes grounds told when old mid new line state after end result s (inr (one, (Err e, hand, is))) =
     let served : Serves makes grounds (told old) (told new) (line ∷ []) state after (Some kinds.WriteFailed) 0 = not_handed makes grounds (told old) (told mid) (told new) line state after end e one (rw one at s) hand in
     rw is record {
       served = served;
-      gone = λ each rests. gone_few told old served.turned (few_turned served.front served.later line served.turned served.lines_are served.mean) rests;
+      gone = λ each rests. gone_few told old served.turned 0 (few_turned served.front served.later line served.turned served.lines_are served.mean) rests (λ some all. absurd (omega (arith, some, all)));
       rests = λ each rests goes. absurd (some_none goes);
     }
 
@@ -309,7 +317,7 @@ line_served makes grounds told when old mid new line state after end result s (i
 
 pub lines_none : {S K : Type 0} (makes : S → List Exchange → S → Type 0) (grounds : S → Grounds) (laws : AreLawful makes grounds) (told : K → LinkState) (when : HandOn) (link : K) (state : S) → ServesLines makes grounds told when link link [] state state None 0
 lines_none makes grounds laws told when link state =
-    record { served = serves_none makes grounds laws (told link) state; gone = λ each rests n lt. absurd (omega (arith, lt)); rests = λ each rests goes. rests }
+    record { served = serves_none makes grounds laws (told link) state; gone = λ each rests. nothing_gone told link 0; rests = λ each rests goes. rests }
 
 lines_then : {S K : Type 0} (makes : S → List Exchange → S → Type 0) (grounds : S → Grounds) (laws : AreLawful makes grounds) (told : K → LinkState) (when : HandOn) (end : Option Kind) (old mid new : K) (lines more later : List (List ℕ)) (state now after : S) (m n : ℕ) → ServesLines makes grounds told when old mid lines state now None m
     → ServesLines makes grounds told when mid new more now after end n → (end ≡ None → later ≡ []) → ServesLines makes grounds told when old new (lines ++ (more ++ later)) state after end (m + n)
@@ -317,7 +325,7 @@ lines_then makes grounds laws told when end old mid new lines more later state n
     let first = s.served in
     record {
       served = serves_then makes grounds laws end (told old) (told mid) (told new) lines more later state now after m n first t.served none;
-      gone = λ each rests. gone_then told old mid first.turned t.served.turned (s.gone each rests) (subst (λ (x : List ℕ). Appends (told old).held (told mid).held x) first.how.2.0 first.written) first.faults (t.gone each (s.rests each rests refl));
+      gone = λ each rests. gone_then told old mid first.turned t.served.turned m n (s.gone each rests) first.how.2.1 (subst (λ (x : List ℕ). Appends (told old).held (told mid).held x) first.how.2.0 first.written) first.faults (t.gone each (s.rests each rests refl));
       rests = λ each rests goes. t.rests each (s.rests each rests refl) goes;
     }
 

@@ -13,7 +13,7 @@ use Rattle.session.specs.declared.handing.HandOn.{HandOn}
 use Rattle.session.specs.Parts.{AreLawful, HowFar, FaultsAt, Serves, ServesLines, Follows, StepsTo, IsQuiet, GaveBy, Steps, StepsOn}
 use Rattle.client_link.proofs.Sent.{appends_none}
 use Rattle.session.proofs.ServeSteps.{faults_then, some_none}
-use Rattle.session.proofs.Gone.{gone_then}
+use Rattle.session.proofs.Gone.{nothing_gone, gone_then}
 
 pub consumes_keeps_none : (a b : Option (List ℕ)) → Keeps a b → Consumes a b []
 consumes_keeps_none None b k = tt
@@ -167,25 +167,22 @@ read_served makes grounds laws from end old mid new stand stand_after state afte
 
 -- ---- the same, where each reply is handed on
 
-none_gone_yet : {K : Type 0} (told : K → LinkState) (link : K) → EachHasGone told link []
-none_gone_yet told link = λ n lt. absurd (omega (arith, lt))
-
 pub step_failed : {S K E : Type 0} (makes : S → List Exchange → S → Type 0) (grounds : S → Grounds) (laws : AreLawful makes grounds) (told : K → LinkState) (when : HandOn) (old new : K) (stand : Stand) (state : S) (e : E) (buf : List ℕ) → ¬ (stand ≡ None) → IsRead (told old) (told new) (Err e) buf
     → StepsOn makes grounds told when old new stand stand state state (Some kinds.ReadFailed) 0
 step_failed makes grounds laws told when old new None state e buf some read = absurd (some refl)
 step_failed makes grounds laws told when old new (Some rest) state e buf some read =
-    record { steps = read_failed makes grounds laws (told old) (told new) (Some rest) state e buf some read; gone = λ each rests. none_gone_yet told old }
+    record { steps = read_failed makes grounds laws (told old) (told new) (Some rest) state e buf some read; gone = λ each rests. nothing_gone told old 0 }
 
 pub step_end : {S K E : Type 0} (makes : S → List Exchange → S → Type 0) (grounds : S → Grounds) (laws : AreLawful makes grounds) (told : K → LinkState) (when : HandOn) (old new : K) (stand : Stand) (state : S) (n : ℕ) (buf : List ℕ) → ¬ (stand ≡ None) → n ≡ 0 → 0 < length buf → IsRead {E = E} (told old) (told new) (Ok n) buf
     → StepsOn makes grounds told when old new stand stand state state (Some kinds.End) 0
 step_end makes grounds laws told when old new None state n buf some none room read = absurd (some refl)
 step_end makes grounds laws told when old new (Some rest) state n buf some none room read =
-    record { steps = read_end makes grounds laws (told old) (told new) (Some rest) state n buf some none room read; gone = λ each rests. none_gone_yet told old }
+    record { steps = read_end makes grounds laws (told old) (told new) (Some rest) state n buf some none room read; gone = λ each rests. nothing_gone told old 0 }
 
 pub step_refused : {S K E : Type 0} (makes : S → List Exchange → S → Type 0) (grounds : S → Grounds) (laws : AreLawful makes grounds) (told : K → LinkState) (when : HandOn) (old new : K) (stand stand_after : Stand) (state : S) (n : ℕ) (buf : List ℕ) → 0 < length (take n buf) → IsRead {E = E} (told old) (told new) (Ok n) buf
     → StepsOn makes grounds told when old new stand stand_after state state (Some kinds.Memory) 0
 step_refused makes grounds laws told when old new stand stand_after state n buf some read =
-    record { steps = read_refused makes grounds laws (told old) (told new) stand stand_after state n buf some read; gone = λ each rests. none_gone_yet told old }
+    record { steps = read_refused makes grounds laws (told old) (told new) stand stand_after state n buf some read; gone = λ each rests. nothing_gone told old 0 }
 
 pub step_served : {S K E : Type 0} (makes : S → List Exchange → S → Type 0) (grounds : S → Grounds) (laws : AreLawful makes grounds) (told : K → LinkState) (when : HandOn) (from end : Option Kind) (old mid new : K) (stand stand_after : Stand) (state after : S) (n count : ℕ) (buf : List ℕ) (lines : List (List ℕ)) → 0 < length (take n buf)
     → IsRead {E = E} (told old) (told mid) (Ok n) buf → cut_from stand (take n buf) ≡ (lines, stand_after) → ServesLines makes grounds told when mid new lines state after from count → Follows from stand_after end → StepsOn makes grounds told when old new stand stand_after state after end count
@@ -194,8 +191,10 @@ step_served makes grounds laws told when from end old mid new stand stand_after 
     record {
       steps = read_served makes grounds laws from end (told old) (told mid) (told new) stand stand_after state after n count buf lines some read cut t follows;
       gone = λ each rests.
-          gone_then told old mid [] t.turned (none_gone_yet told old) (same_held (told old).held (told mid).held read.held) (record { failures = read.failures; stalls = read.stalls; ended = read.ended })
-          (s.gone each (read.waiting ∙ rests));
+          let none : 0 + count ≡ count = omega arith in
+          subst (λ (n : ℕ). EachHasGone told old t.turned n) none
+          (gone_then told old mid [] t.turned 0 count (nothing_gone told old 0) refl (same_held (told old).held (told mid).held read.held) (record { failures = read.failures; stalls = read.stalls; ended = read.ended })
+          (s.gone each (read.waiting ∙ rests)));
     }
 
 -- ---- a piece has no more lines than bytes

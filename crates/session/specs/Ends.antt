@@ -39,10 +39,11 @@ pub record HaveGone {K : Type 0} (told : K → LinkState) (link : K) (earlier : 
   pub nothing_waits : (told moment).waiting ≡ []
   pub sound : IsSound (told link) (told moment)
 
--- Before each turn all earlier replies have gone. So behind a write or a hand-on that failed all of them but the last one have, and no
--- later turn was made.
-abbrev pub EachHasGone : {K : Type 0} → (K → LinkState) → K → List Exchange → Type 0
-EachHasGone told link turned = (n : ℕ) → n < length turned → HaveGone told link (take n turned)
+-- Before each turn all earlier replies have gone; and where the last one is counted it has gone, too, before an ending line is written.
+-- So behind a write or a hand-on that failed, be it of the ending line, all lines but the last one have gone, and no later turn was made.
+pub record EachHasGone {K : Type 0} (told : K → LinkState) (link : K) (turned : List Exchange) (count : ℕ) : Type 0 where
+  pub before_each : (n : ℕ) → n < length turned → HaveGone told link (take n turned)
+  pub last : 0 < length turned → length turned ≤ count → HaveGone told link turned
 
 -- What each read gave, the session text of it, which was written, and the exchanges, which are the turns that were made; each
 -- LINE among them is right, and is the one that the rounds choose.
@@ -57,7 +58,7 @@ pub record Ended {D K : Type 0} (keeps : D → Type 0) (told : K → LinkState) 
   pub reads : (told after_link).reads ≡ up (length pieces) (told link).reads
   pub few : length pieces ≤ most_reads
   pub prompt : IsPrompt told link pieces turned
-  pub gone : when ≡ hand_ons.EachReply → EachHasGone told link turned
+  pub gone : when ≡ hand_ons.EachReply → EachHasGone told link turned count
   pub lines : EachLineIsRight desk.held turned
   pub chosen : EachLineIsChosen desk.held turned
 

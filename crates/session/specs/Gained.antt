@@ -43,7 +43,7 @@ pub record LinkServed {K : Type 0} (told : K → LinkState) (before now : K) (fr
   pub reads : (told now).reads ≡ up (length pieces) (told before).reads
   pub few : length pieces ≤ most_reads
   pub prompt : IsPrompt told before pieces turned
-  pub gone : EachHasGone told before turned
+  pub gone : EachHasGone told before turned count
   pub last : K
   pub leaves : Leaves kind (told before) (told last)
   pub ends : IsEnd (told last) (told now)

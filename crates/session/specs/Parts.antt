@@ -130,7 +130,7 @@ HandsOn when end old new result =
 -- goes on none waits.
 pub record ServesLines {S K : Type 0} (makes : S → List Exchange → S → Type 0) (grounds : S → Grounds) (told : K → LinkState) (when : HandOn) (old new : K) (lines : List (List ℕ)) (state after : S) (end : Option Kind) (count : ℕ) : Type 0 where
   pub served : Serves makes grounds (told old) (told new) lines state after end count
-  pub gone : when ≡ hand_ons.EachReply → (told old).waiting ≡ [] → EachHasGone told old served.turned
+  pub gone : when ≡ hand_ons.EachReply → (told old).waiting ≡ [] → EachHasGone told old served.turned count
   pub rests : when ≡ hand_ons.EachReply → (told old).waiting ≡ [] → end ≡ None → (told new).waiting ≡ []
 
 -- ---- reads
@@ -186,7 +186,7 @@ pub record Steps {S : Type 0} (makes : S → List Exchange → S → Type 0) (gr
 -- the same, where each reply is handed on: all earlier ones had gone before each turn
 pub record StepsOn {S K : Type 0} (makes : S → List Exchange → S → Type 0) (grounds : S → Grounds) (told : K → LinkState) (when : HandOn) (old new : K) (stand stand_after : Stand) (state after : S) (end : Option Kind) (count : ℕ) : Type 0 where
   pub steps : Steps makes grounds (told old) (told new) stand stand_after state after end count
-  pub gone : when ≡ hand_ons.EachReply → (told old).waiting ≡ [] → EachHasGone told old steps.turned
+  pub gone : when ≡ hand_ons.EachReply → (told old).waiting ≡ [] → EachHasGone told old steps.turned count
 
 -- ---- a session
 
@@ -207,7 +207,7 @@ pub record Going {S K : Type 0} (makes : S → List Exchange → S → Type 0) (
   pub reads_are : (told now).reads ≡ up reads (told link).reads
   pub sound : IsSound (told link) (told now)
   pub prompt : IsPrompt told link pieces turned
-  pub gone : when ≡ hand_ons.EachReply → EachHasGone told link turned
+  pub gone : when ≡ hand_ons.EachReply → EachHasGone told link turned count
 
 -- the ending line was written and all was handed on, or that failed
 pub record Closing (kind : Kind) (old new : LinkState) (count : ℕ) (end : Kind) (total : ℕ) : Type 0 where
@@ -238,4 +238,4 @@ pub record Ran {S K : Type 0} (makes : S → List Exchange → S → Type 0) (gr
   pub reads : (told final).reads ≡ up (length pieces) (told link).reads
   pub few : length pieces ≤ most_reads
   pub prompt : IsPrompt told link pieces turned
-  pub gone : when ≡ hand_ons.EachReply → EachHasGone told link turned
+  pub gone : when ≡ hand_ons.EachReply → EachHasGone told link turned count

@@ -30,6 +30,7 @@ pub enum Kind {
 pub struct SessionEnd {
     /// Why it ended.
     pub kind: Kind,
-    /// How many lines were written whole, and where each is handed on by itself, handed on.
+    /// How many lines were written whole, and where each is handed on by itself, handed on. An ending line counts only where it was
+    /// handed on, however replies are.
     pub replies: u64,
 }

@@ -125,7 +125,7 @@ impl<'a, R: Threads + Wait + Sync, L: Ledger, D: Disk, G: Gate> Server<Pass<L>>
 
 /// Serves one client over a coordinator, as `run` does over a desk: each line takes its turn under the coordinator's lock and is
 /// added to the pass, and its reply is written and handed on before the next line's turn. The lines of other clients may take theirs in
-/// between. Where a write or a hand-on fails, all replies but the last one have gone, and no later turn is made.
+/// between. Where a write or a hand-on fails, be it of the ending line, all lines but the last one have gone, and no later turn is made.
 /// What is written is the session text of what was read, and its exchanges are just the entries that the pass gained. Where the
 /// pass is of another coordinator, the session ends as Foreign with nothing more written. At last the link is ended, however the session
 /// ended.

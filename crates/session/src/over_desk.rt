@@ -77,7 +77,8 @@ impl<D: Disk> Server<Desk<D>> for Alone {
 
 /// Serves one client over a desk: after each read it answers the lines that are complete, and writes each reply before the
 /// next line's turn is made; before each read and at the end it hands on what it wrote, and each reply by itself where that is
-/// wanted: then a turn is made only once all earlier replies have gone. What is written is the session text of what was read, its exchanges are just the turns that the desk made, and each `LINE` in it is the greatest closed cut of every
+/// wanted: then a turn is made, or an ending line written, only once all earlier replies have gone. What is written is the session text
+/// of what was read, its exchanges are just the turns that the desk made, and each `LINE` in it is the greatest closed cut of every
 /// lawful history that agrees at its place (`specs/Headline.antt`). What a crash leaves then says `Desk::lawful`.
 pub fn run<D: Disk, K: Link>(desk: &mut Desk<D>, link: &mut K, when: HandOn) -> SessionEnd
     ensures session { Ended D.keeps K.told when link.old link.new desk.old desk.new result.kind result.replies }

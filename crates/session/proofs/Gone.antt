@@ -23,6 +23,10 @@ take_none (e ∷ es) = refl
 pub nothing_gone : {K : Type 0} (told : K → LinkState) (link : K) (count : ℕ) → EachHasGone told link [] count
 nothing_gone told link count = record { before_each = λ n lt. absurd (omega (arith, lt)); last = λ some all. absurd (omega (arith, some)) }
 
+-- where no reply is counted
+pub nothing_counted : {K : Type 0} (told : K → LinkState) (link : K) (es : List Exchange) (count : ℕ) → count ≡ 0 → 0 < length es → length es ≤ count → HaveGone told link es
+nothing_counted told link es count none some all = absurd (omega (arith, none, some, all))
+
 -- of no turns or one, whose reply has gone where it is counted
 pub gone_few : {K : Type 0} (told : K → LinkState) (link : K) (es : List Exchange) (count : ℕ) → length es ≤ 1 → (told link).waiting ≡ [] → (0 < length es → length es ≤ count → HaveGone told link es) → EachHasGone told link es count
 gone_few told link es count few rests last =

@@ -15,7 +15,7 @@ use Rattle.session.specs.Parts.{AreLawful, IsSaid, HowFar, FaultsAt, Serves, Han
 use Rattle.client_link.proofs.Sent.{appends_none, appends_keeps, appends_then, sound_none, sound_then, fault_then}
 use Rattle.session.proofs.ServedTurns.{mean_then, mean_length, far_then}
 use Rattle.session.specs.Ends.{HaveGone}
-use Rattle.session.proofs.Gone.{nothing_gone, gone_few, gone_then}
+use Rattle.session.proofs.Gone.{nothing_gone, nothing_counted, gone_few, gone_then}
 
 pub faults_then : (end : Option Kind) (r s t : LinkState) → IsSound r s → FaultsAt end s t → FaultsAt end r t
 faults_then None r s t p q = sound_then r s t p q
@@ -288,7 +288,7 @@ line_served makes grounds told when old mid new line state after end result s (i
     let served : Serves makes grounds (told old) (told new) (line ∷ []) state after end (one_reply end) = subst (λ (x : LinkState). Serves makes grounds (told old) x (line ∷ []) state after end (one_reply end)) (sym none.2) s in
     rw none.1 record {
       served = served;
-      gone = λ each rests. gone_few told old served.turned (one_reply end) (few_turned served.front served.later line served.turned served.lines_are served.mean) rests (λ some all. absurd (let n = none.0 each in omega (arith, n, some, all)));
+      gone = λ each rests. gone_few told old served.turned (one_reply end) (few_turned served.front served.later line served.turned served.lines_are served.mean) rests (nothing_counted told old served.turned (one_reply end) (none.0 each));
       rests = λ each rests goes. absurd (let n = none.0 each in let m : one_reply end ≡ 1 = ap one_reply goes in omega (arith, n, m));
     }
 line_served makes grounds told when old mid new line state after end result s (inr (one, (Ok u, hand, is))) =
@@ -309,7 +309,7 @@ line_served makes grounds told when old mid new line state after end result s (i
     let served : Serves makes grounds (told old) (told new) (line ∷ []) state after (Some kinds.WriteFailed) 0 = not_handed makes grounds (told old) (told mid) (told new) line state after end e one (rw one at s) hand in
     rw is record {
       served = served;
-      gone = λ each rests. gone_few told old served.turned 0 (few_turned served.front served.later line served.turned served.lines_are served.mean) rests (λ some all. absurd (omega (arith, some, all)));
+      gone = λ each rests. gone_few told old served.turned 0 (few_turned served.front served.later line served.turned served.lines_are served.mean) rests (nothing_counted told old served.turned 0 refl);
       rests = λ each rests goes. absurd (some_none goes);
     }
 

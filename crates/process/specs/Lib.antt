@@ -1,0 +1,4 @@
+pub mod Steps
+pub mod Faults
+pub mod Texts
+pub mod Leaves

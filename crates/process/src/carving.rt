@@ -1,0 +1,1 @@
+//! A leaf of an id, cut off from the rest.

@@ -1,0 +1,1 @@
+//! The texts of processes and of what they hand to others.

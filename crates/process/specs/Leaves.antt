@@ -1,7 +1,8 @@
 -- Ids of one leaf, and ids of which a leaf can be given away.
-use Rattle.std.specs.Prelude.{◌≡◌, ◌≢◌, ◌⊎◌, ℕ, zero, suc, ◌<◌, ⊤}
+use Rattle.std.specs.Prelude.{◌≡◌, ◌≢◌, ◌⊎◌, ℕ, zero, suc, ◌+◌, ◌<◌, max, Option, Some, None, ⊤}
 use Rattle.id_tree.specs.IdTree.{IdTree, Zero, One, Pair}
 use Rattle.id_tree.specs.NormalForm.{depth_limit}
+use Rattle.id_tree.specs.Split.{IsSplit}
 
 -- the id owns one leaf, of this depth
 abbrev pub IsLeafAt : ℕ → IdTree → Type 0
@@ -20,3 +21,47 @@ HasLeafWithin (Pair l r) (suc d) = HasLeafWithin l d ⊎ HasLeafWithin r d
 -- A leaf of this depth can be given away, and something is kept: some leaf is no deeper, and the id is not that one leaf.
 abbrev pub HasRoomFor : IdTree → ℕ → Type 0
 HasRoomFor i depth = (depth < depth_limit + 1) × HasLeafWithin i depth × ¬ IsLeafAt depth i
+
+-- Working definitions from here on.
+
+-- the greater of two depths, seen from one level above
+abbrev pub above : Option ℕ → Option ℕ → Option ℕ
+above None None = None
+above (Some l) None = Some (l + 1)
+above None (Some r) = Some (r + 1)
+above (Some l) (Some r) = Some (max l r + 1)
+
+-- how deep the deepest leaf is that is no deeper than this
+abbrev pub deepest_within : IdTree → ℕ → Option ℕ
+deepest_within Zero d = None
+deepest_within One d = Some 0
+deepest_within (Pair l r) zero = None
+deepest_within (Pair l r) (suc d) = above (deepest_within l d) (deepest_within r d)
+
+-- how many leaves of this depth are in one of depth 0
+abbrev pub cells_of_all : ℕ → ℕ
+cells_of_all zero = 1
+cells_of_all (suc d) = cells_of_all d + cells_of_all d
+
+-- how many leaves of this depth it owns, where a deeper one counts as one
+abbrev pub cells : IdTree → ℕ → ℕ
+cells Zero d = 0
+cells One d = cells_of_all d
+cells (Pair l r) zero = cells l 0 + cells r 0
+cells (Pair l r) (suc d) = cells l d + cells r d
+
+-- the two, of which the last has a leaf that is no deeper
+pub record AreInOrder (l r : IdTree) (d : ℕ) (rest part : IdTree) : Type 0 where
+  pub leaf : HasLeafWithin part d
+  pub are : ((rest ≡ l) × (part ≡ r)) ⊎ ((rest ≡ r) × (part ≡ l))
+
+-- A part of the id with a leaf that is no deeper, and the rest of it: less than the whole in such leaves.
+pub record IsPartedOnce (i : IdTree) (d : ℕ) (rest part : IdTree) : Type 0 where
+  pub split : IsSplit i rest part
+  pub leaf : HasLeafWithin part d
+  pub smaller : cells part d < cells i d
+
+-- the id is parted into what is kept, and a leaf of just this depth
+pub record IsCarved (i : IdTree) (d : ℕ) (kept given : IdTree) : Type 0 where
+  pub split : IsSplit i kept given
+  pub leaf : IsLeafAt d given

@@ -2,3 +2,4 @@ pub mod Steps
 pub mod Faults
 pub mod Texts
 pub mod Leaves
+pub mod Telling

@@ -1,7 +1,6 @@
 -- What each call does: a step of the process by the clock's rules, and its report.
 use Rattle.std.specs.Prelude.{◌≡◌, ◌≢◌, ℕ, ◌+◌, ◌<◌, List}
 use Rattle.id_tree.specs.IdTree.{IdTree}
-use Rattle.id_tree.specs.Points.{AreDisjoint, AreTogether}
 use Rattle.id_tree.specs.Split.{left_part, right_part, IsSplit}
 use Rattle.event_tree.specs.EventTree.{EventTree}
 use Rattle.event_tree.specs.Event.{IsEventStep}
@@ -12,22 +11,27 @@ use Rattle.report_line.specs.declared.call.Call.TheVariants as calls
 use Rattle.report_line.specs.declared.report.Action.{Action}
 use Rattle.report_line.specs.declared.report.Action.TheVariants as actions
 use Rattle.report_line.specs.declared.report.Report.{Report}
-use Rattle.report_line.specs.declared.report.Report.TheVariants.{Begin, Numbered}
+use Rattle.report_line.specs.declared.report.Report.TheVariants.{Numbered}
 use Rattle.report_line.specs.History.{Name}
-use Rattle.report_line.specs.Spelling.{spelling}
+use Rattle.report_line.specs.Reading.{Spells}
 use Rattle.process.specs.declared.process.Process.{Process}
 use Rattle.process.specs.declared.handed.Message.{Message}
 use Rattle.process.specs.declared.handed.Start.{Start}
 use Rattle.process.specs.declared.handed.Retirement.{Retirement}
-use Rattle.process.specs.Leaves.{IsLeafAt}
 
--- the line of a report of this epoch
-abbrev pub line_of : ℕ → Report → List ℕ
-line_of epoch report = spelling (calls.Report (record { epoch = epoch; report = report }))
+-- the line is that of this report with this epoch: it is read as that, and as nothing else
+abbrev pub IsLineOf : ℕ → Report → List ℕ → Type 0
+IsLineOf epoch report line = Spells (calls.Report (record { epoch = epoch; report = report })) line
 
 -- the next report of the process, with this stamp and action
 abbrev pub next_report : Process → Stamp → Action → Report
 next_report p stamp action = Numbered (record { process = p.name; number = p.reports + 1; stamp = stamp; action = action })
+
+-- The next report of the process, of a fork: the process keeps this stamp, and the child is given this part. The stamp of the report is the
+-- one from before the id was split.
+abbrev pub fork_report : Process → Stamp → Name → IdTree → Report
+fork_report p kept child given =
+    next_report p (record { id = p.stamp.id; events = kept.events }) (actions.Fork (record { kept = kept.id; child = child; given = given }))
 
 -- The process goes on with another stamp, and has made so many more reports.
 pub record GoesOn (old new : Process) (reported : ℕ) : Type 0 where
@@ -54,7 +58,7 @@ pub record Sends (old new : Process) (message : Message) : Type 0 where
 pub record Tells (old new : Process) (action : Action) (line : List ℕ) : Type 0 where
   pub goes : GoesOn old new 1
   pub stamped : Counts old.stamp new.stamp
-  pub line_is : line ≡ line_of old.epoch (next_report old new.stamp action)
+  pub reported : IsLineOf old.epoch (next_report old new.stamp action) line
 
 -- what a message of its own epoch tells is joined, and then an event is counted
 pub record Receives (old : Process) (message : Message) (new : Process) : Type 0 where
@@ -71,8 +75,7 @@ pub record Forks (old new : Process) (start : Start) (line : List ℕ) : Type 0 
   pub epoch : start.epoch ≡ old.epoch
   pub same : start.stamp.events ≡ new.stamp.events
   pub split : IsSplit old.stamp.id new.stamp.id start.stamp.id
-  pub line_is : line ≡ line_of old.epoch (next_report old (record { id = old.stamp.id; events = new.stamp.events })
-      (actions.Fork (record { kept = new.stamp.id; child = start.child; given = start.stamp.id })))
+  pub reported : IsLineOf old.epoch (fork_report old new.stamp start.child start.stamp.id) line
 
 -- the id is halved
 pub record Halves (old new : IdTree) (given : IdTree) : Type 0 where
@@ -86,14 +89,14 @@ pub record Retires (old : Process) (target : Name) (retirement : Retirement) (li
   pub epoch : retirement.epoch ≡ old.epoch
   pub target_is : retirement.target ≡ target
   pub stamped : Counts old.stamp retirement.stamp
-  pub line_is : line ≡ line_of old.epoch (next_report old retirement.stamp (actions.Retire target))
+  pub reported : IsLineOf old.epoch (next_report old retirement.stamp (actions.Retire target)) line
 
 -- An event is counted on the own stamp, and then that of a process that retired into this one joins it.
 pub record Absorbs (old : Process) (retirement : Retirement) (new : Process) (line : List ℕ) : Type 0 where
   pub into_this : retirement.target ≡ old.name
   pub goes : GoesOn old new 1
   pub stamped : IsAbsorb old.stamp retirement.stamp new.stamp
-  pub line_is : line ≡ line_of old.epoch (next_report old new.stamp (actions.Absorb retirement.process))
+  pub reported : IsLineOf old.epoch (next_report old new.stamp (actions.Absorb retirement.process)) line
 
 -- Behind a settlement the process goes on from what it was at its position, in the epoch of the settlement.
 pub record Returns (kept new : Process) (epoch : ℕ) : Type 0 where

@@ -1,17 +1,19 @@
 //! One process.
 
-ghost use Rattle.std.specs.Prelude.{◌≡◌, ◌≢◌, ◌+◌, Some, None, IfOk, IfErr, IsErr, OnErr};
+ghost use Rattle.std.specs.Prelude.{◌≡◌, ◌≢◌, ◌≤◌, ◌+◌, ◌↔◌, false, IsTrue, IfOk, IfErr, IsErr, OnOk, OnErr};
 ghost use Rattle.id_tree.specs.IdTree.{One};
 ghost use Rattle.event_tree.specs.EventTree.{Leaf};
 ghost use Rattle.event_tree.specs.Event.{PassesLimit};
 ghost use Rattle.report_line.specs.declared.report.Action.TheVariants as actions;
 ghost use Rattle.report_line.specs.declared.report.Report.TheVariants.{Begin};
-ghost use Rattle.process.specs.Steps.{Works, Sends, Tells, Receives, Retires, Absorbs, Returns, Counts, line_of};
-ghost use Rattle.process.specs.Faults.{RefusesEvent, RefusesReport, RefusesReceipt, RefusesRetirement, RefusesAbsorption, RefusesKept};
+ghost use Rattle.process.specs.Steps.{Works, Sends, Tells, Receives, Retires, Absorbs, Returns, Counts, IsLineOf};
+ghost use Rattle.process.specs.Faults.{RefusesEvent, RefusesReport, RefusesReceipt, RefusesRetirement, RefusesAbsorption, RefusesKept, RefusesStamp, IsWorn, fault_of};
+ghost use Rattle.process.specs.Telling.{IsTold, IsReported, IsTold, IsAbsorbTold, RefusesSum, after_told};
+ghost use Rattle.stamp.specs.Operations.{IsReceive, IsAbsorb};
 
 use crate::fault::ProcessFault;
 use crate::handed::{Message, Retirement, Start};
-use crate::reporting::{line_of, line_of_root, next_number};
+use crate::reporting::{Told, line_of_root, next_number, reported};
 use event_tree::Events;
 use report_line::{Action, Name, Shared};
 use stamp::{Stamp, StampFault};
@@ -31,19 +33,11 @@ pub struct Process {
     pub stamp: Stamp,
 }
 
-/// What a reporting step leaves behind: the number and the line of its report, and the stamp after it.
-#[derive(Drop)]
-pub(crate) struct Told {
-    pub(crate) number: u32,
-    pub(crate) stamp: Stamp,
-    pub(crate) line: Vec<u8>,
-}
-
 impl Process {
     /// The root of a computation, which begins, and the line by which it says so.
     pub fn root(alloc: Global, name: &Name) -> Result<(Process, Vec<u8>), AllocError>
         ensures process { IfOk result (λ begun. begun.0 ≡ record { name = name.now; epoch = 0; reports = 0; stamp = record { id = One; events = Leaf 0 } }) }
-        ensures line { IfOk result (λ begun. begun.1.items ≡ line_of 0 (Begin name.now)) }
+        ensures line { IfOk result (λ begun. IsLineOf 0 (Begin name.now) begun.1.items) }
     {
         let line = line_of_root(alloc, name)?;
         Ok((
@@ -100,7 +94,7 @@ impl Process {
     /// One of a newer epoch waits until this process has returned, too.
     pub fn receive(&mut self, alloc: Global, message: &Message) -> Result<(), ProcessFault>
         ensures ok { OnOk result (Receives self.old message.now self.new) }
-        ensures err { IfErr result (λ fault. RefusesReceipt fault self.old message.now) }
+        ensures err { IfErr result (λ fault. RefusesReceipt fault self.old.epoch self.old.stamp message.now) }
         ensures unchanged { OnErr result (self.new ≡ self.old) }
     {
         let stamp = received(alloc, self.epoch, &self.stamp, message)?;
@@ -171,7 +165,16 @@ impl Process {
         ensures err { IfErr result (λ fault. RefusesAbsorption fault self.old retirement.now) }
         ensures unchanged { OnErr result (self.new ≡ self.old) }
     {
-        let told = absorbed_now(alloc, self, retirement)?;
+        if retirement.target.as_bytes() != self.name.as_bytes() {
+            return Err(ProcessFault::NotWaiting);
+        }
+        if retirement.epoch < self.epoch {
+            return Err(ProcessFault::Older);
+        }
+        if self.epoch < retirement.epoch {
+            return Err(ProcessFault::Newer);
+        }
+        let told = absorbed(alloc, self, retirement)?;
         Ok(self.go_on(told))
     }
 
@@ -187,7 +190,13 @@ impl Process {
         ensures err { IfErr result (λ fault. RefusesKept fault self.old retirement.now) }
         ensures unchanged { OnErr result (self.new ≡ self.old) }
     {
-        let told = absorbed_kept(alloc, self, retirement)?;
+        if retirement.target.as_bytes() != self.name.as_bytes() {
+            return Err(ProcessFault::NotWaiting);
+        }
+        if self.epoch < retirement.epoch {
+            return Err(ProcessFault::Newer);
+        }
+        let told = absorbed(alloc, self, retirement)?;
         Ok(self.go_on(told))
     }
 
@@ -206,7 +215,7 @@ impl Process {
 
     // Goes on behind a reporting step.
     pub(crate) fn go_on(&mut self, told: Told) -> Vec<u8>
-        ensures process { self.new ≡ record { name = self.old.name; epoch = self.old.epoch; reports = told.number; stamp = told.stamp } }
+        ensures process { self.new ≡ after_told self.old told }
         ensures line { result ≡ told.line }
     {
         self.reports = told.number;
@@ -275,23 +284,20 @@ fn received(
     }
 }
 
-// The next report of a process, with a stamp after it and with this action.
-pub(crate) fn reported(
-    alloc: Global,
-    process: &Process,
-    number: u32,
-    stamp: Stamp,
-    action: Action,
-) -> Result<Told, AllocError>
-    ensures { IfOk result (λ told. (told.number ≡ number) × (told.stamp ≡ stamp) × (told.line.items ≡ line_of process.now.epoch (Numbered (record { process = process.now.name; number = number; stamp = stamp; action = action })))) }
+// The number of the next report, and the stamp after an event.
+fn counted(alloc: Global, process: &Process) -> Result<(u32, Stamp), ProcessFault>
+    ensures ok { IfOk result (λ next. (next.0 ≡ process.now.reports + 1) × Counts process.now.stamp next.1) }
+    ensures err { IfErr result (λ fault. RefusesReport fault process.now) }
+    ensures worn { IsWorn process.now → IsErr result }
+    ensures full { PassesLimit process.now.stamp.id process.now.stamp.events → IsErr result }
 {
-    let copy = stamp.copy(alloc)?;
-    let line = line_of(alloc, process.epoch, &process.name, number, copy, action)?;
-    Ok(Told {
-        number,
-        stamp,
-        line,
-    })
+    let Some(number) = next_number(process.reports) else {
+        return Err(ProcessFault::Worn);
+    };
+    match after_event(alloc, &process.stamp) {
+        Ok(stamp) => Ok((number, stamp)),
+        Err(fault) => Err(fault),
+    }
 }
 
 // A step of its own, and its report with this action.
@@ -301,9 +307,16 @@ fn told(alloc: Global, process: &Process, action: Action) -> Result<Told, Proces
     ensures worn { IsWorn process.now → IsErr result }
     ensures full { PassesLimit process.now.stamp.id process.now.stamp.events → IsErr result }
 {
-    let number = next_number(process.reports)?;
-    let stamp = after_event(alloc, &process.stamp)?;
-    Ok(reported(alloc, process, number, stamp, action)?)
+    match counted(alloc, process) {
+        Ok((number, stamp)) => match reported(alloc, process, number, stamp, action) {
+            Ok(told) => Ok(told),
+            Err(_) => Err(ProcessFault::Memory),
+        },
+        Err(fault) => {
+            drop(action);
+            Err(fault)
+        }
+    }
 }
 
 // A retirement into the target, and its report.
@@ -323,25 +336,6 @@ fn retired(alloc: Global, process: &Process, target: &Name) -> Result<Told, Proc
     }
 }
 
-// An event on the own stamp, and then that of a retired process joins it; with the report.
-fn absorbed(
-    alloc: Global,
-    process: &Process,
-    retirement: &Retirement,
-) -> Result<Told, ProcessFault>
-    ensures ok { IfOk result (λ told. IsAbsorbTold process.now retirement.now told) }
-    ensures err { IfErr result (λ fault. RefusesStamp fault process.now retirement.now) }
-{
-    let number = next_number(process.reports)?;
-    let stamp = absorbed_stamp(alloc, &process.stamp, &retirement.stamp)?;
-    match Shared::new(alloc, retirement.process.copy()) {
-        Ok(retired) => {
-            Ok(reported(alloc, process, number, stamp, Action::Absorb { retired })?)
-        }
-        Err(_) => Err(ProcessFault::Memory),
-    }
-}
-
 // The stamp after an absorption.
 fn absorbed_stamp(alloc: Global, stamp: &Stamp, retired: &Stamp) -> Result<Stamp, ProcessFault>
     ensures ok { IfOk result (λ after. IsAbsorb stamp.now retired.now after) }
@@ -353,35 +347,38 @@ fn absorbed_stamp(alloc: Global, stamp: &Stamp, retired: &Stamp) -> Result<Stamp
     }
 }
 
-// The same, where the retirement is of the epoch of the process.
-fn absorbed_now(
+// An absorption with this stamp after it, and its report.
+fn reported_absorption(
     alloc: Global,
     process: &Process,
-    retirement: &Retirement,
+    number: u32,
+    stamp: Stamp,
+    retired: &Name,
 ) -> Result<Told, ProcessFault>
-    ensures ok { IfOk result (λ told. (retirement.now.target ≡ process.now.name) × (retirement.now.epoch ≡ process.now.epoch) × IsAbsorbTold process.now retirement.now told) }
-    ensures err { IfErr result (λ fault. RefusesAbsorption fault process.now retirement.now) }
+    requires { number ≡ process.now.reports + 1 }
+    ensures ok { IfOk result (λ told. IsReported process.now stamp (actions.Absorb retired.now) told) }
+    ensures err { IfErr result (λ fault. fault ≡ ProcessFault.Memory) }
 {
-    if retirement.target.as_bytes() == process.name.as_bytes() && retirement.epoch < process.epoch {
-        return Err(ProcessFault::Older);
+    let Ok(retired) = Shared::new(alloc, retired.copy()) else {
+        drop(stamp);
+        return Err(ProcessFault::Memory);
+    };
+    match reported(alloc, process, number, stamp, Action::Absorb { retired }) {
+        Ok(told) => Ok(told),
+        Err(_) => Err(ProcessFault::Memory),
     }
-    absorbed_kept(alloc, process, retirement)
 }
 
-// The same, where the retirement is of the epoch of the process or of an older one.
-fn absorbed_kept(
-    alloc: Global,
-    process: &Process,
-    retirement: &Retirement,
-) -> Result<Told, ProcessFault>
-    ensures ok { IfOk result (λ told. (retirement.now.target ≡ process.now.name) × (retirement.now.epoch ≤ process.now.epoch) × IsAbsorbTold process.now retirement.now told) }
-    ensures err { IfErr result (λ fault. RefusesKept fault process.now retirement.now) }
+// An event on the own stamp, and then that of a retired process joins it; with the report.
+fn absorbed(alloc: Global, process: &Process, retirement: &Retirement) -> Result<Told, ProcessFault>
+    ensures ok { IfOk result (λ told. IsAbsorbTold process.now retirement.now told) }
+    ensures err { IfErr result (λ fault. RefusesStamp fault process.now retirement.now) }
 {
-    if retirement.target.as_bytes() != process.name.as_bytes() {
-        return Err(ProcessFault::NotWaiting);
+    let Some(number) = next_number(process.reports) else {
+        return Err(ProcessFault::Worn);
+    };
+    match absorbed_stamp(alloc, &process.stamp, &retirement.stamp) {
+        Ok(stamp) => reported_absorption(alloc, process, number, stamp, &retirement.process),
+        Err(fault) => Err(fault),
     }
-    if process.epoch < retirement.epoch {
-        return Err(ProcessFault::Newer);
-    }
-    absorbed(alloc, process, retirement)
 }

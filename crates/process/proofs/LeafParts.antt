@@ -1,12 +1,13 @@
 -- The two parts of an id of which a leaf can be given away.
 use Rattle.std.proofs.Common.{◌≡◌, ◌≢◌, ◌⊎◌, inl, inr, ℕ, zero, suc, ◌+◌, ◌<◌, ◌≤◌, ◌||◌, max, Bool, true, false, Option, Some, None, List, [], ◌∷◌, IsTrue, refl, sym, ap, subst, ◌∙◌, arith}
-use Rattle.std.specs.Prelude.{MatchOption, IsSome}
+use Rattle.std.specs.Prelude.{MatchOption}
 use Rattle.std.proofs.lemmas.Bool.{cases_Bool, both_ways, true≢false}
 use Rattle.id_tree.specs.IdTree.{IdTree, Zero, One, Pair}
 use Rattle.id_tree.specs.NormalForm.{depth, depth_limit}
 use Rattle.id_tree.specs.Points.{Point, owns, OwnsSome, AreDisjoint, AreTogether}
 use Rattle.id_tree.specs.Split.{left_part, right_part, parts_depth, IsSplit}
-use Rattle.process.specs.Leaves.{IsLeafAt, HasLeafWithin, HasRoomFor, AreInOrder, IsPartedOnce, IsCarved, above, deepest_within, cells_of_all, cells}
+use Rattle.process.specs.Leaves.{IsLeafAt, HasLeafWithin, HasRoomFor, IsFromDeepest, AtMost, AreInOrder, IsPartedOnce, above, deepest_within, cells_of_all, cells}
+use Rattle.process.proofs.LeafWays.{LeavesFit, leaves_fit, leaves_turned, from_part}
 
 -- ---- what holds of two parts of an id, of which one has a leaf that is no deeper
 
@@ -104,60 +105,24 @@ turned i l r s = record {
     or_turned false true = refl
     or_turned false false = refl
 
-parted_so : (i l r : IdTree) (d : ℕ) → IsSplit i l r → cells l d + cells r d ≡ cells i d → HasLeafWithin r d → IsPartedOnce i d l r
-parted_so i l r d s counted leaf = record { split = s; leaf = leaf; smaller = omega (arith, counted, some_cells l d s.left.0 s.left.1) }
+parted_so : (i l r : IdTree) (d : ℕ) → IsSplit i l r → cells l d + cells r d ≡ cells i d → HasLeafWithin r d → ((given : IdTree) → IsFromDeepest r d given → IsFromDeepest i d given) → IsPartedOnce i d l r
+parted_so i l r d s counted leaf from = record { split = s; leaf = leaf; smaller = omega (arith, counted, some_cells l d s.left.0 s.left.1); deepest = from }
 
-parted_turned : (i l r : IdTree) (d : ℕ) → IsSplit i l r → cells l d + cells r d ≡ cells i d → HasLeafWithin l d → IsPartedOnce i d r l
-parted_turned i l r d s counted leaf = record { split = turned i l r s; leaf = leaf; smaller = omega (arith, counted, some_cells r d s.right.0 s.right.1) }
+parted_turned : (i l r : IdTree) (d : ℕ) → IsSplit i l r → cells l d + cells r d ≡ cells i d → HasLeafWithin l d → ((given : IdTree) → IsFromDeepest l d given → IsFromDeepest i d given) → IsPartedOnce i d r l
+parted_turned i l r d s counted leaf from = record { split = turned i l r s; leaf = leaf; smaller = omega (arith, counted, some_cells r d s.right.0 s.right.1); deepest = from }
 
 pub parted_once : (i l r rest part : IdTree) (d : ℕ) → HasRoomFor i d → l ≡ left_part i → r ≡ right_part i → IsSplit i l r → AreInOrder l r d rest part → IsPartedOnce i d rest part
 parted_once i l r rest part d room is_l is_r s o =
     let fit = parts_fit i d room.1 room.2 in
     let counted : cells l d + cells r d ≡ cells i d = rw (is_l, is_r) fit.counted in
+    let leaves : LeavesFit i l r = rw (is_l, is_r) (leaves_fit i) in
     elim o.are [
-      | inl e ↦ rw (e.0, e.1) (parted_so i l r d s counted (rw e.1 at o.leaf))
-      | inr e ↦ rw (e.0, e.1) (parted_turned i l r d s counted (rw e.1 at o.leaf))
+      | inl e ↦ let from = from_part i rest part d room.1 (rw (e.0, e.1) leaves) o.deepest in rw (e.0) (rw (e.1) (parted_so i l r d s counted (rw e.1 at o.leaf) (rw e.1 at from)))
+      | inr e ↦ let from = from_part i rest part d room.1 (rw (e.0, e.1) (leaves_turned i l r leaves)) o.deepest in rw (e.0) (rw (e.1) (parted_turned i l r d s counted (rw e.1 at o.leaf) (rw e.1 at from)))
     ]
 
 pub parts_leaf : (i l r : IdTree) (d : ℕ) → HasRoomFor i d → l ≡ left_part i → r ≡ right_part i → HasLeafWithin l d ⊎ HasLeafWithin r d
 parts_leaf i l r d room is_l is_r = rw (is_l, is_r) (parts_fit i d room.1 room.2).leaf
-
--- ---- a part of a part
-
-pub parts_apart : (i rest part kept given : IdTree) → IsSplit i rest part → IsSplit part kept given → AreDisjoint rest kept
-parts_apart i rest part kept given s t = λ p h. elim (cases_Bool (owns kept p)) [
-  | inl e ↦ absurd (both_ways (owns part p) (s.disjoint p h) (t.together p ∙ rw e refl))
-  | inr e ↦ e
-]
-
-or_true : (b : Bool) → (b || true) ≡ true
-or_true true = refl
-or_true false = refl
-
-or_grouped : (a b c : Bool) → (a || (b || c)) ≡ ((a || b) || c)
-or_grouped true b c = refl
-or_grouped false b c = refl
-
-or_parts_of : (a b : Bool) → (a || b) ≡ true → (a ≡ true) ⊎ (b ≡ true)
-or_parts_of true b e = inl refl
-or_parts_of false b e = inr e
-
-pub split_on : (i rest part kept given sum : IdTree) → IsSplit i rest part → IsSplit part kept given → AreTogether rest kept sum → IsSplit i sum given
-split_on i rest part kept given sum s t whole = record {
-  left = (s.left.0, whole s.left.0 ∙ rw (s.left.1) refl);
-  right = t.right;
-  disjoint = apart;
-  together = λ p. s.together p ∙ ap (λ (b : Bool). owns rest p || b) (t.together p) ∙ or_grouped (owns rest p) (owns kept p) (owns given p) ∙ ap (λ (b : Bool). b || owns given p) (sym (whole p));
-}
-  where
-    apart : AreDisjoint sum given
-    apart p h = elim (or_parts_of (owns rest p) (owns kept p) (sym (whole p) ∙ h)) [
-      | inl e ↦ elim (cases_Bool (owns given p)) [
-        | inl g ↦ absurd (both_ways (owns part p) (s.disjoint p e) (t.together p ∙ rw g (or_true (owns kept p))))
-        | inr g ↦ g
-      ]
-      | inr e ↦ t.disjoint p e
-    ]
 
 -- ---- what the looks tell
 
@@ -176,32 +141,12 @@ deepest_told (Pair l r) (suc d) = above_told (deepest_within l d) (deepest_withi
 pub leaf_told : (part i : IdTree) (d : ℕ) (found : Option ℕ) → part ≡ i → found ≡ deepest_within part d → MatchOption found (¬ HasLeafWithin i d) (λ n. HasLeafWithin i d)
 leaf_told part i d found e is = rw (is, e) (deepest_told i d)
 
--- of two looks, which of the two has the leaf
-pub in_second : (b : Option ℕ) (B : Type 0) → IsSome b → MatchOption b (¬ B) (λ n. B) → B
-in_second None B some k = absurd (true≢false (sym some))
-in_second (Some r) B some k = k
+-- of two looks, the greater one has the leaf
+pub in_greater : (a b : Option ℕ) (A B : Type 0) → MatchOption a (¬ A) (λ n. A) → MatchOption b (¬ B) (λ n. B) → AtMost a b → A ⊎ B → B
+in_greater a (Some y) A B h k f x = k
+in_greater None None A B h k f x = elim x [ inl y ↦ absurd (h y) | inr y ↦ y ]
+in_greater (Some l) None A B h k f x = absurd f
 
-pub in_first : (a b : Option ℕ) (A B : Type 0) → MatchOption a (¬ A) (λ n. A) → MatchOption b (¬ B) (λ n. B) → (IsSome b → IsSome a) → A ⊎ B → A
-in_first (Some l) b A B h k f x = h
-in_first None None A B h k f x = elim x [ inl y ↦ y | inr y ↦ absurd (k y) ]
-in_first None (Some r) A B h k f x = absurd (true≢false (sym (f refl)))
-
--- ---- ids of one leaf
-
-pub leaf_in_left : (d : ℕ) (l r : IdTree) → r ≡ Zero → IsLeafAt (suc d) (Pair l r) ≡ IsLeafAt d l
-leaf_in_left d l r e = rw e refl
-
-pub leaf_in_right : (d : ℕ) (l r : IdTree) → l ≡ Zero → r ≢ Zero → IsLeafAt (suc d) (Pair l r) ≡ IsLeafAt d r
-leaf_in_right d l Zero e some = absurd (some refl)
-leaf_in_right d l One e some = rw e refl
-leaf_in_right d l (Pair a b) e some = rw e refl
-
-pub no_one_leaf : (d : ℕ) (l r : IdTree) → l ≢ Zero → r ≢ Zero → ¬ IsLeafAt d (Pair l r)
-no_one_leaf zero l r g h k = k
-no_one_leaf (suc d) Zero r g h k = absurd (g refl)
-no_one_leaf (suc d) One Zero g h k = absurd (h refl)
-no_one_leaf (suc d) One One g h k = k
-no_one_leaf (suc d) One (Pair a b) g h k = k
-no_one_leaf (suc d) (Pair a b) Zero g h k = absurd (h refl)
-no_one_leaf (suc d) (Pair a b) One g h k = k
-no_one_leaf (suc d) (Pair a b) (Pair x y) g h k = k
+pub either_way : (A B : Type 0) → A ⊎ B → B ⊎ A
+either_way A B (inl x) = inr x
+either_way A B (inr x) = inl x

@@ -1,8 +1,8 @@
 //! A leaf of an id, cut off from the rest.
 
-ghost use Rattle.std.specs.Prelude.{◌≡◌, ◌≤◌, ◌<◌, ◌↔◌, ◌⊎◌, false, IsTrue, IsErr, IsSome, IfOk, IfErr, IfSome, MatchOption};
+ghost use Rattle.std.specs.Prelude.{◌≡◌, ◌≤◌, ◌<◌, ◌↔◌, ◌⊎◌, false, IsTrue, IsErr, IfOk, IfErr, IfSome, MatchOption};
 ghost use Rattle.id_tree.specs.Points.{AreDisjoint, AreTogether};
-ghost use Rattle.process.specs.Leaves.{IsLeafAt, HasLeafWithin, HasRoomFor, AreInOrder, IsPartedOnce, IsCarved, above, deepest_within};
+ghost use Rattle.process.specs.Leaves.{IsLeafAt, HasLeafWithin, HasRoomFor, AtMost, AreInOrder, IsPartedOnce, IsCarved, above, deepest_within};
 ghost use Rattle.process.specs.Telling.{RefusesCarving};
 
 use crate::fault::ProcessFault;
@@ -67,7 +67,8 @@ fn is_leaf_at(part: &IdView<'_>, depth: u8) -> bool
 
 // The same of a whole id: whether it has such a leaf.
 fn deepest_of(id: &Id, depth: u8) -> Option<u8>
-    ensures { MatchOption result (¬ HasLeafWithin id.now depth) (λ _. HasLeafWithin id.now depth) }
+    ensures leaf { MatchOption result (¬ HasLeafWithin id.now depth) (λ _. HasLeafWithin id.now depth) }
+    ensures depth { result ≡ deepest_within id.now depth }
 {
     deepest_within(&id.view(), depth)
 }
@@ -91,8 +92,8 @@ fn has_room(id: &Id, depth: u8) -> bool
 
 // Whether the second depth is the greater one.
 fn is_second(first: Option<u8>, second: Option<u8>) -> bool
-    ensures yes { IsTrue result → IsSome second }
-    ensures no { result ≡ false → IsSome second → IsSome first }
+    ensures yes { IsTrue result → AtMost first second }
+    ensures no { result ≡ false → AtMost second first }
 {
     match (first, second) {
         (_, None) => false,

@@ -1,10 +1,13 @@
 //! Forks: a child is given a part of the id.
 
-ghost use Rattle.std.specs.Prelude.{◌≡◌, ◌+◌, IfOk, IfErr, IsErr, OnErr};
+ghost use Rattle.std.specs.Prelude.{◌≡◌, ◌+◌, ◌<◌, IfOk, IfErr, IsErr, OnErr};
 ghost use Rattle.report_line.specs.declared.report.Action.TheVariants as actions;
+ghost use Rattle.id_tree.specs.NormalForm.{depth_limit};
+ghost use Rattle.id_tree.specs.Split.{parts_depth};
+ghost use Rattle.event_tree.specs.Event.{PassesLimit};
 ghost use Rattle.process.specs.Steps.{Forks, Halves, IsLineOf, fork_report};
-ghost use Rattle.process.specs.Faults.{RefusesFork, RefusesLeaf};
-ghost use Rattle.process.specs.Leaves.{IsLeafAt, HasRoomFor};
+ghost use Rattle.process.specs.Faults.{RefusesFork, RefusesLeaf, IsWorn};
+ghost use Rattle.process.specs.Leaves.{IsLeafAt, IsFromDeepest, HasRoomFor};
 ghost use Rattle.process.specs.Telling.{AreForkParts, IsForkTold, IsParted, AreCarved, RefusesHalves, RefusesCarving, RefusesCarved};
 
 use crate::carving::carve;
@@ -34,6 +37,9 @@ impl Process {
         ensures ok { IfOk result (λ made. (made.1.child ≡ child.now) × Forks self.old self.new made.1 made.0.items) }
         ensures halves { IfOk result (λ made. Halves self.old.stamp.id self.new.stamp.id made.1.stamp.id) }
         ensures err { IfErr result (λ fault. RefusesFork fault self.old child.now) }
+        ensures worn { IsWorn self.old → IsErr result }
+        ensures full { PassesLimit self.old.stamp.id self.old.stamp.events → IsErr result }
+        ensures deep { depth_limit < parts_depth self.old.stamp.id → IsErr result }
         ensures unchanged { OnErr result (self.new ≡ self.old) }
     {
         let parted = forked(alloc, self, child)?;
@@ -52,7 +58,10 @@ impl Process {
     ) -> Result<(Vec<u8>, Start), ProcessFault>
         ensures ok { IfOk result (λ made. (made.1.child ≡ child.now) × Forks self.old self.new made.1 made.0.items) }
         ensures leaf { IfOk result (λ made. IsLeafAt depth made.1.stamp.id) }
+        ensures deepest { IfOk result (λ made. IsFromDeepest self.old.stamp.id depth made.1.stamp.id) }
         ensures err { IfErr result (λ fault. RefusesLeaf fault self.old child.now depth) }
+        ensures worn { IsWorn self.old → IsErr result }
+        ensures full { PassesLimit self.old.stamp.id self.old.stamp.events → IsErr result }
         ensures room { (¬ HasRoomFor self.old.stamp.id depth) → IsErr result }
         ensures unchanged { OnErr result (self.new ≡ self.old) }
     {
@@ -146,6 +155,8 @@ fn halves(alloc: Global, stamp: &Stamp) -> Result<(Stamp, Stamp), ProcessFault>
     ensures parts { IfOk result (λ parts. AreForkParts stamp.now parts.0 parts.1) }
     ensures halves { IfOk result (λ parts. Halves stamp.now.id parts.0.id parts.1.id) }
     ensures err { IfErr result (λ fault. RefusesHalves fault stamp.now) }
+    ensures full { PassesLimit stamp.now.id stamp.now.events → IsErr result }
+    ensures deep { depth_limit < parts_depth stamp.now.id → IsErr result }
 {
     match stamp.fork(alloc) {
         Ok(parts) => Ok(parts),
@@ -158,6 +169,9 @@ fn forked(alloc: Global, process: &Process, child: &Name) -> Result<Parted, Proc
     ensures ok { IfOk result (λ parted. IsParted process.now child.now parted) }
     ensures halves { IfOk result (λ parted. Halves process.now.stamp.id parted.kept.id parted.given.id) }
     ensures err { IfErr result (λ fault. RefusesFork fault process.now child.now) }
+    ensures worn { IsWorn process.now → IsErr result }
+    ensures full { PassesLimit process.now.stamp.id process.now.stamp.events → IsErr result }
+    ensures deep { depth_limit < parts_depth process.now.stamp.id → IsErr result }
 {
     if child.as_bytes() == process.name.as_bytes() {
         return Err(ProcessFault::Taken);
@@ -220,7 +234,9 @@ fn carved_stamp(alloc: Global, after: Stamp, depth: u8) -> Result<(Stamp, Stamp)
 fn carved(alloc: Global, stamp: &Stamp, depth: u8) -> Result<(Stamp, Stamp), ProcessFault>
     ensures parts { IfOk result (λ parts. AreForkParts stamp.now parts.0 parts.1) }
     ensures leaf { IfOk result (λ parts. IsLeafAt depth parts.1.id) }
+    ensures deepest { IfOk result (λ parts. IsFromDeepest stamp.now.id depth parts.1.id) }
     ensures err { IfErr result (λ fault. RefusesCarved fault stamp.now depth) }
+    ensures full { PassesLimit stamp.now.id stamp.now.events → IsErr result }
     ensures room { (¬ HasRoomFor stamp.now.id depth) → IsErr result }
 {
     match after_event(alloc, stamp) {
@@ -238,7 +254,10 @@ fn forked_small(
 ) -> Result<Parted, ProcessFault>
     ensures ok { IfOk result (λ parted. IsParted process.now child.now parted) }
     ensures leaf { IfOk result (λ parted. IsLeafAt depth parted.given.id) }
+    ensures deepest { IfOk result (λ parted. IsFromDeepest process.now.stamp.id depth parted.given.id) }
     ensures err { IfErr result (λ fault. RefusesLeaf fault process.now child.now depth) }
+    ensures worn { IsWorn process.now → IsErr result }
+    ensures full { PassesLimit process.now.stamp.id process.now.stamp.events → IsErr result }
     ensures room { (¬ HasRoomFor process.now.stamp.id depth) → IsErr result }
 {
     if child.as_bytes() == process.name.as_bytes() {

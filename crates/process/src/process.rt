@@ -2,14 +2,14 @@
 
 ghost use Rattle.std.specs.Prelude.{◌≡◌, ◌≢◌, ◌≤◌, ◌+◌, ◌↔◌, false, IsTrue, IfOk, IfErr, IsErr, OnOk, OnErr};
 ghost use Rattle.id_tree.specs.IdTree.{One};
-ghost use Rattle.event_tree.specs.EventTree.{Leaf};
+ghost use Rattle.event_tree.specs.EventTree.{EventTree, Leaf};
 ghost use Rattle.event_tree.specs.Event.{PassesLimit};
 ghost use Rattle.report_line.specs.declared.report.Action.TheVariants as actions;
 ghost use Rattle.report_line.specs.declared.report.Report.TheVariants.{Begin};
 ghost use Rattle.process.specs.Steps.{Works, Sends, Tells, Receives, Retires, Absorbs, Returns, Counts, IsLineOf};
 ghost use Rattle.process.specs.Faults.{RefusesEvent, RefusesReport, RefusesReceipt, RefusesRetirement, RefusesAbsorption, RefusesKept, RefusesStamp, IsWorn, fault_of};
 ghost use Rattle.process.specs.Telling.{IsTold, IsReported, IsTold, IsAbsorbTold, RefusesSum, after_told};
-ghost use Rattle.stamp.specs.Operations.{IsReceive, IsAbsorb};
+ghost use Rattle.stamp.specs.Operations.{IsNormalJoin, IsReceive, IsAbsorb};
 
 use crate::fault::ProcessFault;
 use crate::handed::{Message, Retirement, Start};
@@ -95,6 +95,7 @@ impl Process {
     pub fn receive(&mut self, alloc: Global, message: &Message) -> Result<(), ProcessFault>
         ensures ok { OnOk result (Receives self.old message.now self.new) }
         ensures err { IfErr result (λ fault. RefusesReceipt fault self.old.epoch self.old.stamp message.now) }
+        ensures full { (joined : EventTree) → IsNormalJoin self.old.stamp.events message.now.events joined → PassesLimit self.old.stamp.id joined → IsErr result }
         ensures unchanged { OnErr result (self.new ≡ self.old) }
     {
         let stamp = received(alloc, self.epoch, &self.stamp, message)?;
@@ -163,9 +164,11 @@ impl Process {
         ensures ok { IfOk result (λ line. Absorbs self.old retirement.now self.new line.items) }
         ensures epoch { OnOk result (retirement.now.epoch ≡ self.old.epoch) }
         ensures err { IfErr result (λ fault. RefusesAbsorption fault self.old retirement.now) }
+        ensures worn { IsWorn self.old → IsErr result }
+        ensures full { PassesLimit self.old.stamp.id self.old.stamp.events → IsErr result }
         ensures unchanged { OnErr result (self.new ≡ self.old) }
     {
-        if retirement.target.as_bytes() != self.name.as_bytes() {
+        if !is_into(retirement, &self.name) {
             return Err(ProcessFault::NotWaiting);
         }
         if retirement.epoch < self.epoch {
@@ -188,9 +191,11 @@ impl Process {
         ensures ok { IfOk result (λ line. Absorbs self.old retirement.now self.new line.items) }
         ensures epoch { OnOk result (retirement.now.epoch ≤ self.old.epoch) }
         ensures err { IfErr result (λ fault. RefusesKept fault self.old retirement.now) }
+        ensures worn { IsWorn self.old → IsErr result }
+        ensures full { PassesLimit self.old.stamp.id self.old.stamp.events → IsErr result }
         ensures unchanged { OnErr result (self.new ≡ self.old) }
     {
-        if retirement.target.as_bytes() != self.name.as_bytes() {
+        if !is_into(retirement, &self.name) {
             return Err(ProcessFault::NotWaiting);
         }
         if self.epoch < retirement.epoch {
@@ -271,6 +276,7 @@ fn received(
 ) -> Result<Stamp, ProcessFault>
     ensures ok { IfOk result (λ after. (message.now.epoch ≡ epoch) × IsReceive stamp.now message.now.events after) }
     ensures err { IfErr result (λ fault. RefusesReceipt fault epoch stamp.now message.now) }
+    ensures full { (joined : EventTree) → IsNormalJoin stamp.now.events message.now.events joined → PassesLimit stamp.now.id joined → IsErr result }
 {
     if message.epoch < epoch {
         return Err(ProcessFault::Older);
@@ -336,10 +342,18 @@ fn retired(alloc: Global, process: &Process, target: &Name) -> Result<Told, Proc
     }
 }
 
+// Whether the retirement is into the process of this name.
+fn is_into(retirement: &Retirement, name: &Name) -> bool
+    ensures { IsTrue result ↔ (retirement.now.target ≡ name.now) }
+{
+    retirement.target.as_bytes() == name.as_bytes()
+}
+
 // The stamp after an absorption.
 fn absorbed_stamp(alloc: Global, stamp: &Stamp, retired: &Stamp) -> Result<Stamp, ProcessFault>
     ensures ok { IfOk result (λ after. IsAbsorb stamp.now retired.now after) }
     ensures err { IfErr result (λ fault. RefusesSum fault stamp.now retired.now) }
+    ensures full { PassesLimit stamp.now.id stamp.now.events → IsErr result }
 {
     match stamp.absorb(alloc, retired) {
         Ok(after) => Ok(after),
@@ -373,6 +387,8 @@ fn reported_absorption(
 fn absorbed(alloc: Global, process: &Process, retirement: &Retirement) -> Result<Told, ProcessFault>
     ensures ok { IfOk result (λ told. IsAbsorbTold process.now retirement.now told) }
     ensures err { IfErr result (λ fault. RefusesStamp fault process.now retirement.now) }
+    ensures worn { IsWorn process.now → IsErr result }
+    ensures full { PassesLimit process.now.stamp.id process.now.stamp.events → IsErr result }
 {
     let Some(number) = next_number(process.reports) else {
         return Err(ProcessFault::Worn);

@@ -1,10 +1,10 @@
 -- The two parts of an id of which a leaf can be given away.
-use Rattle.std.proofs.Common.{◌≡◌, ◌≢◌, ◌⊎◌, inl, inr, ℕ, zero, suc, ◌+◌, ◌<◌, ◌≤◌, ◌||◌, max, Bool, true, false, Option, Some, None, List, [], ◌∷◌, IsTrue, refl, sym, ap, subst, ◌∙◌, arith}
+use Rattle.std.proofs.Common.{◌≡◌, ◌≢◌, ◌⊎◌, inl, inr, ℕ, zero, suc, ◌+◌, ◌<◌, ◌≤◌, ◌||◌, max, Bool, true, false, Option, Some, None, [], ◌∷◌, IsTrue, refl, sym, ◌∙◌, arith}
 use Rattle.std.specs.Prelude.{MatchOption}
 use Rattle.std.proofs.lemmas.Bool.{cases_Bool, both_ways, true≢false}
 use Rattle.id_tree.specs.IdTree.{IdTree, Zero, One, Pair}
 use Rattle.id_tree.specs.NormalForm.{depth, depth_limit}
-use Rattle.id_tree.specs.Points.{Point, owns, OwnsSome, AreDisjoint, AreTogether}
+use Rattle.id_tree.specs.Points.{Point, owns}
 use Rattle.id_tree.specs.Split.{left_part, right_part, parts_depth, IsSplit}
 use Rattle.process.specs.Leaves.{IsLeafAt, HasLeafWithin, HasRoomFor, IsFromDeepest, AtMost, AreInOrder, IsPartedOnce, above, deepest_within, cells_of_all, cells}
 use Rattle.process.proofs.LeafWays.{LeavesFit, leaves_fit, leaves_turned, from_part}

@@ -1,9 +1,9 @@
 -- The leaves of an id, by the ways to them, and those of its two parts.
-use Rattle.std.proofs.Common.{◌≡◌, ◌≢◌, ◌⊎◌, inl, inr, ℕ, zero, suc, ◌+◌, ◌<◌, ◌≤◌, max, true, false, Option, Some, None, [], ◌∷◌, length, IsTrue, refl, sym, ap, ◌∙◌, arith}
+use Rattle.std.proofs.Common.{◌≡◌, ◌⊎◌, inl, inr, ℕ, zero, suc, ◌+◌, ◌≤◌, max, true, false, Option, Some, None, [], ◌∷◌, length, refl, sym, ap, arith}
 use Rattle.std.proofs.lemmas.Bool.{cases_lt}
 use Rattle.id_tree.specs.IdTree.{IdTree, Zero, One, Pair}
 use Rattle.id_tree.specs.OneWay.{id_of_way}
-use Rattle.id_tree.specs.Points.{Point, owns, Covers}
+use Rattle.id_tree.specs.Points.{Point, Covers}
 use Rattle.id_tree.specs.Split.{left_part, right_part}
 use Rattle.process.specs.Leaves.{IsLeafAt, HasLeafWithin, HasLeafThere, IsFromDeepest, AtMost, IsAsDeep, above, deepest_within}
 

@@ -2,7 +2,6 @@
 use Rattle.std.specs.Prelude.{◌≡◌, ◌≢◌, ℕ, ◌+◌, ◌<◌, List}
 use Rattle.id_tree.specs.IdTree.{IdTree}
 use Rattle.id_tree.specs.Split.{left_part, right_part, IsSplit}
-use Rattle.event_tree.specs.EventTree.{EventTree}
 use Rattle.event_tree.specs.Event.{IsEventStep}
 use Rattle.event_tree.specs.Grown.{IsGrown}
 use Rattle.stamp.specs.declared.stamp.Stamp.{Stamp}

@@ -1,0 +1,5 @@
+use Rattle.process.specs.Leaves.{cells}
+use Rattle.process.proofs.carving.+carved.Given as goal
+
+abbrev pub decreases-carved : goal.decreases-carved
+decreases-carved l = cells l.id.now l.depth

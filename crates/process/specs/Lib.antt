@@ -1,0 +1,5 @@
+pub mod Steps
+pub mod Faults
+pub mod Texts
+pub mod Leaves
+pub mod Telling

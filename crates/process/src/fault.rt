@@ -1,0 +1,62 @@
+//! Why a process refuses a call.
+
+ghost use Rattle.std.specs.Prelude.{◌≡◌};
+ghost use Rattle.process.specs.declared.fault.ProcessFault.TheVariants.{Memory};
+
+use std::alloc::{AllocError, AllocFailed};
+use thiserror::Error;
+
+/// Why a process refuses a call, and stays as it was. Where several apply, the first of this list is answered, but for `Memory`, which may
+/// come in place of any.
+#[derive(Clone, Copy, Debug, PartialEq, Eq, Error)]
+pub enum ProcessFault {
+    /// The process is to retire into itself.
+    #[error("self target")]
+    SelfTarget,
+    /// The child is to have the name of the process.
+    #[error("name taken")]
+    Taken,
+    /// The retirement is into another process.
+    #[error("not waiting")]
+    NotWaiting,
+    /// What came is of an older epoch, so it may be undone: it is dropped.
+    #[error("older epoch")]
+    Older,
+    /// What came is of a newer epoch: it waits until this process has returned, too.
+    #[error("newer epoch")]
+    Newer,
+    /// The process made 4,294,967,295 reports.
+    #[error("no number left")]
+    Worn,
+    /// The id owns nothing. No process that began as the root or from a start has such an id.
+    #[error("nothing owned")]
+    NothingOwned,
+    /// Some value would be greater than 4,294,967,295.
+    #[error("clock full")]
+    ClockFull,
+    /// A part of the id would be deeper than 40, or has no leaf of the depth that is asked for.
+    #[error("too deep")]
+    TooDeep,
+    /// Some point is owned by the process and by the retired one.
+    #[error("overlap")]
+    Overlap,
+    /// A growth was refused.
+    #[error("memory")]
+    Memory,
+}
+
+impl From<AllocError> for ProcessFault {
+    ghost from_gives = { λ _ e. e ≡ Memory };
+
+    fn from(_error: AllocError) -> ProcessFault {
+        ProcessFault::Memory
+    }
+}
+
+impl<T: Drop> From<AllocFailed<T>> for ProcessFault {
+    ghost from_gives = { λ _ e. e ≡ Memory };
+
+    fn from(_error: AllocFailed<T>) -> ProcessFault {
+        ProcessFault::Memory
+    }
+}

@@ -1,0 +1,104 @@
+#!/usr/bin/env python3
+"""Tests recline.py. The last line is "N passed, M failed"."""
+
+import sys
+import threading
+
+import recline
+from recline import Fault, Process
+
+passed = failed = 0
+
+
+def expect(what, told, wanted):
+    global passed, failed
+    if told == wanted:
+        passed += 1
+    else:
+        failed += 1
+        print("bindings/python: %s FAILED: %r, and not %r" % (what, told, wanted))
+
+
+def fault_of(call, *handed):
+    try:
+        return "no fault: %r" % (call(*handed),)
+    except Fault as fault:
+        return fault.number
+
+
+def example():
+    """What stands in docs/STAMPING.md: two processes, two messages, and an end."""
+    a, line = Process.root("a")
+    expect("BEGIN", line, "BEGIN a")
+    line, start = a.fork("b")
+    b = Process.born(start)
+    expect("FORK", line, "FORK a 1 1;1 (1,0) b (0,1)")
+    expect("CHECK", a.check(), "CHECK a 2 (1,0);(1,1,0)")
+    kept = a.state
+    a.receive(b.send())
+    expect("CHECK behind a receipt", a.check(), "CHECK a 3 (1,0);(2,2,0)")
+    b.receive(a.send())
+    expect("CHECK of b", b.check(), "CHECK b 1 (0,1);(5,0,1)")
+    line, retirement = b.retire("a")
+    expect("RETIRE", (line, retirement), ("RETIRE b 2 (0,1);(5,0,2) a", "retirement b 0 a (0,1);(5,0,2)"))
+    expect("ABSORB", a.absorb(retirement), "ABSORB a 4 1;(6,0,1) b")
+    expect("a step behind the end", fault_of(b.check), recline.NO_STATE)
+    state = a.state
+    expect("an absorption once more", fault_of(a.absorb, retirement), recline.OVERLAP)
+    expect("what is refused changes nothing", a.state, state)
+    a = Process(kept)
+    a.returned(1)
+    a.work()
+    expect("PRESENT with a mark", a.present(), "PRESENT@1 a 3 (1,0);(1,3,0)")
+    expect("an older retirement", fault_of(a.absorb, retirement), recline.OLDER)
+    expect("an older retirement that was kept", a.absorb(retirement, kept=True), "ABSORB@1 a 4 1;(5,0,2) b")
+
+
+def faults():
+    expect("no name", fault_of(Process.root, "A"), recline.NO_NAME)
+    expect("no state", fault_of(Process("process a").check), recline.NO_STATE)
+    expect("no start", fault_of(Process.born, "process a 0 0 1;0"), recline.NO_TEXT)
+    a = Process("process a 0 0 (1,0);1")
+    expect("its own name", fault_of(a.fork, "a"), recline.NAME_TAKEN)
+    expect("into itself", fault_of(a.retire, "a"), recline.SELF_TARGET)
+    expect("the only leaf", fault_of(a.fork, "b", 1), recline.TOO_DEEP)
+    expect("a newer message", fault_of(a.receive, "message 1 9"), recline.NEWER)
+    expect("the same epoch once more", fault_of(a.returned, 0), recline.OLDER)
+    expect("what is refused changes nothing", a.state, "process a 0 0 (1,0);1")
+
+
+def long_texts():
+    """More than there is room for at first."""
+    a, _ = Process.root("a")
+    for k in range(255):
+        line, start = a.fork("c%d" % k, 8)
+        child = Process.born(start)
+        for _ in range(k % 9 + 1):
+            child.work()
+        a.receive(child.send())
+    expect("a state of some length", len(a.state) > 1024, True)
+    expect("what is sent with it", a.send()[10:], a.state.partition(";")[2])
+
+
+def threads():
+    """Calls from many threads at once give what they give one by one."""
+    def run(name, lines):
+        process, line = Process.root(name)
+        lines.append(line)
+        for k in range(20):
+            lines += process.fork("%s%d" % (name, k))
+    told = [[] for _ in range(8)]
+    running = [threading.Thread(target=run, args=("p", lines)) for lines in told]
+    for thread in running:
+        thread.start()
+    for thread in running:
+        thread.join()
+    wanted = []
+    run("p", wanted)
+    expect("threads", told, [wanted] * len(told))
+
+
+for test in (example, faults, long_texts, threads):
+    test()
+print("%d passed, %d failed" % (passed, failed))
+sys.exit(failed != 0)

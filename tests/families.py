@@ -1,0 +1,277 @@
+"""Random families of processes, which each binding makes: tests/bindings calls this with the program, the folder of the client in Python, how many
+families, a seed, and NAME=COMMAND for each binding. The command takes steps, one a line, and writes the line of each that reports:
+
+    root p                p begins as the root, in a family of its own
+    work p, check p, present p
+    send p m, receive p m
+    fork p c, fork p c d  the child c gets half of the id, or a leaf of depth d
+    retire p q, absorb q p, absorb_kept q p
+    keep p k              the state of p is kept as k
+    return p k e          p returns to the state k, in the epoch e
+    again p m             the message m bears the epoch of p from now on
+
+What is refused is written as FAULT and its number. The reports have to be those of examples/client/stamps.py, and, where all parts of ids are
+halves, those of `recline drive`; and `recline run` has to accept all of them. Every eighth family settles.
+"""
+
+import json
+import random
+import subprocess
+import sys
+import tempfile
+
+recline, client, families, seed, *makers = sys.argv[1:]
+sys.path.insert(0, client)
+from stamps import Stamp, leaves, text
+
+OLDER, NEWER, NOT_WAITING, SELF_TARGET, NAME_TAKEN, OVERLAP = -8, -9, -7, -5, -6, -14
+LARGEST = 64
+
+
+class Family:
+    """Processes, the steps that they take, and the lines that report them."""
+
+    def __init__(self, chance, depth):
+        self.chance, self.depth = chance, depth
+        self.steps, self.script, self.lines, self.told = [], [], [], []
+        self.stamps, self.numbers, self.epochs, self.elements = {}, {}, {}, {}
+        self.messages, self.retired, self.absorbed = {}, {}, {}
+        self.names = self.sent = 0
+        name = self.new_name()
+        self.step("root " + name)
+        self.report("BEGIN " + name)
+        self.birth(name, Stamp(), 0)
+
+    def new_name(self):
+        self.names += 1
+        return "p%d" % (self.names - 1)
+
+    def step(self, step, script=True):
+        self.steps.append(step)
+        if script:
+            self.script.append(step)
+
+    def report(self, line):
+        self.lines.append(line)
+        self.told.append(line)
+
+    def refused(self, step, fault):
+        self.step(step, False)
+        self.told.append("FAULT %d" % fault)
+
+    def report_of(self, kind, name, stamp, rest=""):
+        self.numbers[name] += 1
+        mark = "@%d" % self.epochs[name] if self.epochs[name] else ""
+        self.report("%s%s %s %d %s%s" % (kind, mark, name, self.numbers[name], stamp, rest))
+
+    def birth(self, name, stamp, epoch):
+        self.stamps[name], self.numbers[name], self.epochs[name] = stamp, 0, epoch
+        self.elements[name], self.absorbed[name] = [], set()
+        self.keep(name)
+
+    def keep(self, name):
+        """A new element, whose state is kept."""
+        self.elements[name].append((self.stamps[name].copy(), self.numbers[name], set(self.absorbed[name])))
+        self.step("keep %s %s.%d" % (name, name, len(self.elements[name])), False)
+
+    def live(self):
+        return sorted(self.stamps)
+
+    def work(self, name):
+        self.stamps[name].event()
+        self.step("work " + name)
+
+    def tell(self, kind, name):
+        self.stamps[name].event()
+        self.step("%s %s" % (kind, name))
+        self.report_of(kind.upper(), name, self.stamps[name])
+        if kind == "check":
+            self.keep(name)
+
+    def send(self, name):
+        message = "m%d" % self.sent
+        self.sent += 1
+        self.step("send %s %s" % (name, message))
+        self.messages[message] = self.stamps[name].event(), self.epochs[name], name, len(self.elements[name])
+
+    def receive(self, name):
+        if not self.messages:
+            return
+        message = self.chance.choice(list(self.messages))
+        events, epoch, _, _ = self.messages[message]
+        step = "receive %s %s" % (name, message)
+        if epoch == self.epochs[name]:
+            self.stamps[name].receive(events)
+            self.step(step)
+        else:
+            self.refused(step, OLDER if epoch < self.epochs[name] else NEWER)
+
+    def fork(self, name):
+        if len(self.stamps) == LARGEST:
+            return
+        stamp, child, depth = self.stamps[name], self.new_name(), None
+        if self.depth is not None and self.chance.random() < 0.8:
+            # The leaf of this depth that examples/client carves where there is none is not given here.
+            depth, paths = self.depth, [len(path) for path in leaves(stamp.id)]
+            if min(paths) > depth or paths == [depth]:
+                depth = None
+        before = stamp.id
+        other = stamp.fork(depth)
+        self.step("fork %s %s" % (name, child) + ("" if depth is None else " %d" % depth))
+        self.report_of("FORK", name, Stamp(before, stamp.events), " %s %s %s" % (text(stamp.id), child, text(other.id)))
+        self.birth(child, other, self.epochs[name])
+
+    def retire(self, name):
+        if name == "p0":
+            return
+        target = self.chance.choice([other for other in self.live() if other != name])
+        self.stamps[name].event()
+        self.step("retire %s %s" % (name, target))
+        self.report_of("RETIRE", name, self.stamps[name], " " + target)
+        self.retired[name] = target, self.stamps.pop(name), self.epochs[name]
+
+    def waiting(self):
+        """Who waits for a process that lives."""
+        return [gone for gone, (target, _, _) in self.retired.items() if target in self.stamps and gone not in self.absorbed[target]]
+
+    def absorb(self, kept=False):
+        waiting = self.waiting()
+        if not waiting:
+            return
+        gone = self.chance.choice(waiting)
+        target, stamp, epoch = self.retired[gone]
+        others = [name for name in self.live() if name != target]
+        if others and self.chance.random() < 0.1:
+            self.refused("absorb %s %s" % (self.chance.choice(others), gone), NOT_WAITING)
+        call = "absorb"
+        if epoch < self.epochs[target]:
+            self.refused("absorb %s %s" % (target, gone), OLDER)
+            call = "absorb_kept"
+        self.stamps[target].absorb(stamp)
+        self.absorbed[target].add(gone)
+        self.step("%s %s %s" % (call, target, gone), False)
+        self.script.append("absorb %s %s" % (target, gone))
+        self.report_of("ABSORB", target, self.stamps[target], " " + gone)
+        if self.chance.random() < 0.1:
+            self.refused("absorb_kept %s %s" % (target, gone), OVERLAP)
+
+    def refuse(self, name):
+        if self.chance.random() < 0.5:
+            self.refused("retire %s %s" % (name, name), SELF_TARGET)
+        else:
+            self.refused("fork %s %s" % (name, name), NAME_TAKEN)
+
+    def go(self, steps, presents=True):
+        kinds = ["work", "check", "send", "send", "receive", "receive", "fork", "fork", "retire", "absorb"] + ["present"] * presents
+        for _ in range(steps):
+            name, what = self.chance.choice(self.live()), self.chance.choice(kinds)
+            if what in ("check", "present"):
+                self.tell(what, name)
+            elif what == "absorb":
+                self.absorb()
+            else:
+                getattr(self, what)(name)
+            if name in self.stamps and self.chance.random() < 0.02:
+                self.refuse(name)
+
+    def settle(self):
+        """Some processes fail, and each returns to the line that recline has then."""
+        names = list(self.elements)
+        failed = ",".join(sorted(self.chance.sample(names, min(len(names), self.chance.randrange(1, 3)))))
+        reply = replies_to(self.lines + ["LINE " + failed])[-1]
+        line = dict(json.loads(reply.partition(" ")[2])["line"])
+        self.lines.append("SETTLE %d %s" % (len(self.lines), failed))
+        self.script.append("settle " + failed)
+        self.messages = {m: sent for m, sent in self.messages.items() if line[sent[2]] == "retired" or sent[3] < line[sent[2]]}
+        self.retired = {name: gone for name, gone in self.retired.items() if line[name] == "retired" and line[gone[0]] != 0}
+        late = list(self.stamps)
+        self.stamps = {}
+        order = [name for name, position in line.items() if position not in (0, "retired")]
+        self.chance.shuffle(order)
+        for name in order:
+            self.return_to(name, line[name])
+            late = [other for other in late if other not in self.stamps]
+            if late and self.chance.random() < 0.3:
+                # One that has not returned yet lets wait what another one hands over.
+                self.send(name)
+                self.refused("receive %s %s" % (self.chance.choice(late), list(self.messages)[-1]), NEWER)
+        for message, (events, _, sender, count) in list(self.messages.items()):
+            if self.messages[message][1] == 0 and self.chance.random() < 0.7:
+                self.step("again %s %s" % (order[0], message), False)
+                self.messages[message] = events, 1, sender, count
+        self.elements = {name: elements for name, elements in self.elements.items() if line[name] != 0}
+
+    def return_to(self, name, position):
+        stamp, number, absorbed = self.elements[name][position - 1]
+        self.stamps[name], self.numbers[name], self.absorbed[name] = stamp.copy(), number, set(absorbed)
+        self.epochs[name] = 1
+        self.elements[name] = self.elements[name][:position]
+        self.step("return %s %s.%d 1" % (name, name, position), False)
+
+
+def replies_to(lines):
+    ran = subprocess.run([recline, "run"], input="".join(line + "\n" for line in lines), capture_output=True, text=True, timeout=60)
+    return ran.stdout.splitlines()
+
+
+def drive(script):
+    with tempfile.NamedTemporaryFile("w", suffix=".script") as file:
+        file.write("".join(step + "\n" for step in script))
+        file.flush()
+        return subprocess.run([recline, "drive", file.name], capture_output=True, text=True, timeout=60).stdout.splitlines()
+
+
+def a_family(k):
+    """Of every four families one carves, and of every eight one settles."""
+    chance = random.Random("%s %d" % (seed, k))
+    family = Family(chance, chance.choice([6, 8, 10]) if k % 4 == 0 else None)
+    family.go(chance.randrange(120) if k % 50 else 600, presents=k % 8 != 1)
+    if k % 8 == 1:
+        family.settle()
+        family.go(chance.randrange(60), presents=False)
+        while family.waiting():
+            family.absorb()
+    return family
+
+
+passed = failed = 0
+
+
+def expect(what, told, wanted):
+    global passed, failed
+    if told == wanted:
+        passed += 1
+        return
+    failed += 1
+    if failed < 10:
+        differs = next((k for k, (one, two) in enumerate(zip(told, wanted)) if one != two), min(len(told), len(wanted)))
+        print("bindings: %s FAILED (seed %s), at line %d:\n  %s\n  %s was wanted" % (
+            what, seed, differs + 1, told[differs:differs + 1], wanted[differs:differs + 1]))
+
+
+def accepted(lines):
+    """The replies where each line is accepted."""
+    return ["SETTLED 1 %d" % (k + 1) if line.startswith("SETTLE ") else "OK %d" % (k + 1) for k, line in enumerate(lines)]
+
+
+made = []
+for k in range(int(families)):
+    family = a_family(k)
+    made.append(family)
+    expect("recline run on family %d" % k, replies_to(family.lines), accepted(family.lines))
+    if family.depth is None:
+        expect("recline drive on family %d" % k, drive(family.script), family.lines)
+largest = max(len(family.elements) for family in made)
+expect("%d processes are in one family" % largest, [largest >= LARGEST or len(made) < 100], [True])
+steps = "".join(step + "\n" for family in made for step in family.steps)
+for maker in makers:
+    name, _, command = maker.partition("=")
+    ran = subprocess.run([command], input=steps, capture_output=True, text=True, timeout=300)
+    told = ran.stdout.splitlines()
+    at = 0
+    for k, family in enumerate(made):
+        expect("family %d by %s" % (k, name), told[at:at + len(family.told)], family.told)
+        at += len(family.told)
+    expect("the end of the steps by %s" % name, [ran.returncode, len(told), ran.stderr], [0, at, ""])
+print("%d passed, %d failed" % (passed, failed))
+sys.exit(failed != 0)

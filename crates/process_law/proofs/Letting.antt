@@ -1,0 +1,122 @@
+-- The step of a call is allowed, where its process has returned.
+use Rattle.std.proofs.Common.{◌≡◌, ◌≢◌, ℕ, ◌<◌, [], ◌∷◌, length, inl, inr, sym, ◌∙◌, ap, subst, arith}
+use Rattle.std.specs.Prelude.{Contains}
+use Rattle.id_tree.specs.IdTree.{IdTree}
+use Rattle.id_tree.specs.Points.{owns}
+use Rattle.id_tree.specs.Split.{IsSplit}
+use Rattle.event_tree.specs.EventTree.{EventTree}
+use Rattle.event_tree.specs.Grown.{IsGrown}
+use Rattle.event_tree.specs.Join.{IsJoin}
+use Rattle.stamp.specs.declared.stamp.Stamp.{Stamp}
+use Rattle.stamp.specs.Operations.{IsReceive, IsAbsorb}
+use Rattle.histories.proofs.Rules.{retired_waits}
+use Rattle.report_line.specs.declared.step.Deed.{Deed}
+use Rattle.report_line.specs.declared.step.Deed.TheVariants as deeds
+use Rattle.report_line.specs.declared.step.Step.{Step}
+use Rattle.report_line.specs.History.{Name, History, Event, Retired, status}
+use Rattle.report_line.specs.Lawful.{IsSameId, IsOwnWork, IsLawfulReceive, IsLawfulFork, IsLawfulAbsorption, IsAllowed, IsLawful}
+use Rattle.settled_lists.specs.Runs.{Run, epoch, current}
+use Rattle.process.specs.declared.process.Process.{Process}
+use Rattle.process.specs.declared.handed.Message.{Message}
+use Rattle.process.specs.declared.handed.Start.{Start}
+use Rattle.process.specs.declared.handed.Retirement.{Retirement}
+use Rattle.process.specs.Steps.{Counts}
+use Rattle.process_law.specs.Accounts.{Act, Work, Send, Receive, Check, Present, Fork, Begin, Retire, Absorb, Return, DoesSo, deed_of}
+use Rattle.process_law.specs.Handing.{Past, stamp_of, MayAbsorb, MayDo}
+use Rattle.process_law.proofs.Calls.{GaveRetirement, new_is_unnamed}
+use Rattle.process_law.proofs.CallKinds.{OnDeed, first_byte}
+use Rattle.process_law.proofs.Standing.{step_of, unforked_is_unborn, unsent}
+use Rattle.process_law.proofs.Holding.{AreCurrent, IsSent}
+
+same_ids : (i j : IdTree) → i ≡ j → IsSameId i j
+same_ids i j same t = ap (λ (k : IdTree). owns k t) same
+
+own_work : (x : Event) (old new : Process) (deed : Deed) → stamp_of x ≡ old.stamp → Counts old.stamp new.stamp → IsOwnWork x x.values (step_of old deed new)
+own_work x old new deed same counts =
+    let w = subst (λ (t : Stamp). Counts t new.stamp) (sym same) counts in
+    record { same_id = same_ids new.stamp.id x.id w.event.id; grown = w.grown }
+
+receives : (h : History) (x : Event) (old new : Process) (n : ℕ) (m : Message) → stamp_of x ≡ old.stamp → IsSent h n m → IsReceive old.stamp m.events new.stamp
+    → IsLawfulReceive h x (step_of old (deeds.Receive (n ∷ [])) new) (n ∷ [])
+receives h x old new n m same sent stamped =
+    let w = subst (λ (t : Stamp). IsReceive t m.events new.stamp) (sym same) stamped in
+    record {
+      sent = sent.0;
+      is_sent = sent.1;
+      joined = w.joined;
+      is_join = subst (λ (v : EventTree). IsJoin x.values v w.joined) (sym sent.2) w.is_join.join;
+      own = record { same_id = same_ids new.stamp.id x.id w.id; grown = w.grown };
+    }
+
+forks : (root : Name) (h : History) (x : Event) (old new : Process) (s : Start) → stamp_of x ≡ old.stamp → IsGrown old.stamp.id old.stamp.events new.stamp.events
+    → IsSplit old.stamp.id new.stamp.id s.stamp.id → s.child ≢ root → ((t : Step) (i : IdTree) → Contains h t → t.deed ≢ deeds.Fork s.child i) → IsLawful root h
+    → IsLawfulFork root h x (step_of old (deeds.Fork s.child s.stamp.id) new) s.child s.stamp.id
+forks root h x old new s same grown split differs never lawful =
+    let parts = subst (λ (t : Stamp). IsSplit t.id new.stamp.id s.stamp.id) (sym same) split in
+    record {
+      grown = subst (λ (t : Stamp). IsGrown t.id t.events new.stamp.events) (sym same) grown;
+      new_name = unforked_is_unborn lawful s.child differs never;
+      not_root = differs;
+      disjoint = parts.disjoint;
+      not_empty = parts.left;
+      child_not_empty = parts.right;
+      together = parts.together;
+    }
+
+-- who left the retirement waits for this process, by an event with its stamp
+abbrev Waits : Name → History → Process → Retirement → Type 0
+Waits root h old r = (y : Event) × (status root h r.process ≡ Retired y old.name) × (stamp_of y ≡ r.stamp)
+
+absorbs : (root : Name) (h : History) (x : Event) (old new : Process) (r : Retirement) → stamp_of x ≡ old.stamp → Waits root h old r → IsAbsorb old.stamp r.stamp new.stamp
+    → IsLawfulAbsorption root h x (step_of old (deeds.Absorb r.process) new) r.process
+absorbs root h x old new r same waits stamped =
+    let w = subst (λ (t : Stamp). IsAbsorb (stamp_of x) t new.stamp) (sym waits.2) (subst (λ (t : Stamp). IsAbsorb t r.stamp new.stamp) (sym same) stamped) in
+    record {
+      retirement = waits.0;
+      into_this = waits.1;
+      between = w.after;
+      grown = w.grown;
+      joined = w.join;
+      disjoint = w.disjoint;
+      together = w.together;
+    }
+
+module _ (root : Name) (run : Run) (past : Past) (lawful : IsLawful root (current run)) (holds : AreCurrent root past (current run) (epoch run)) where
+  unsent_yet : (s : Step) → Contains (current run) s → s.deed ≢ deeds.Send (length past ∷ [])
+  unsent_yet s at is =
+      let w = holds.numbered s (length past ∷ []) at is in
+      let lt : w.0 < length past = w.2 in
+      let same : length past ≡ w.0 = first_byte (length past) w.0 w.1 in
+      omega arith
+
+  waits_for : (old : Process) (from : ℕ) (r : Retirement) → old.epoch ≡ epoch run → r.target ≡ old.name → GaveRetirement past from r → MayAbsorb root run past old from r
+      → Waits root (current run) old r
+  waits_for old from r now into_this gave (inl w) =
+      elim (holds.retired from r gave (w.0 ∙ now)) [
+        | inl v ↦ (v.0, v.1 ∙ ap (λ (q : Name). Retired v.0 q) into_this, v.2)
+        | inr v ↦ absurd (v.1 w.1)
+      ]
+  waits_for old from r now into_this gave (inr keeps) =
+      let k = keeps now in
+      (k.event, retired_waits lawful r.process old.name k.event k.waits.occurs k.waits.of_process k.waits.retires k.waits.not_absorbed, k.stamp)
+
+  pub is_allowed : (a : Act) (old new : Process) (x : Event) → DoesSo a old new → MayDo root run past a old → old.epoch ≡ epoch run → stamp_of x ≡ old.stamp
+      → OnDeed (deed_of (length past) a) (λ deed. IsAllowed root (current run) x (step_of old deed new) deed)
+  is_allowed Work old new x does may now same = own_work x old new deeds.Work same does.stamped
+  is_allowed (Send m) old new x does may now same =
+      (own_work x old new (deeds.Send (length past ∷ [])) same does.works.stamped, unsent (current run) (length past ∷ []) unsent_yet)
+  is_allowed (Receive from m) old new x does may now same =
+      receives (current run) x old new from m same (holds.sent from m may.1 (does.epoch ∙ now)) does.stamped
+  is_allowed (Check line) old new x does may now same = own_work x old new deeds.Check same does.stamped
+  is_allowed (Present line) old new x does may now same = own_work x old new deeds.Present same does.stamped
+  is_allowed (Fork s line) old new x does may now same =
+      forks root (current run) x old new s same does.grown does.split may.1.0
+      (λ t i at is. new_is_unnamed root past s.child may.1 (inr (holds.forked t s.child i at is))) lawful
+  is_allowed (Begin from s) old new x does may now same = tt
+  is_allowed (Retire target r line) old new x does may now same = (
+    own_work x old new (deeds.Retire target) same (subst (λ (t : Stamp). Counts old.stamp t) (sym (ap (λ (p : Process). p.stamp) does.1)) does.0.stamped),
+    does.0.other,
+  )
+  is_allowed (Absorb from r line) old new x does may now same =
+      absorbs root (current run) x old new r same (waits_for old from r now does.into_this may.1 may.2) does.stamped
+  is_allowed (Return epoch) old new x does may now same = tt

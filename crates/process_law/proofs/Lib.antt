@@ -1,0 +1,14 @@
+pub mod Calls
+pub mod CallKinds
+pub mod Orders
+pub mod Standing
+pub mod Holding
+pub mod Resting
+pub mod Stepping
+pub mod Letting
+pub mod Telling
+pub mod Running
+pub mod Calling
+pub mod Turning
+pub mod Written
+pub mod Returned

@@ -1,0 +1,205 @@
+-- A step of a process that has returned, and is allowed.
+use Rattle.std.proofs.Common.{◌≡◌, ◌≢◌, ◌⊎◌, ℕ, ◌<◌, Some, List, [], ◌∷◌, length, inl, inr, refl, sym, ◌∙◌, ap, subst, arith}
+use Rattle.id_tree.specs.IdTree.{IdTree}
+use Rattle.event_tree.specs.EventTree.{EventTree}
+use Rattle.history_law.proofs.Listed.{first_in, in_cases}
+use Rattle.histories.proofs.Bytes.{cases_name}
+use Rattle.histories.proofs.Rules.{retired_not_living}
+use Rattle.report_line.specs.declared.step.Deed.{Deed}
+use Rattle.report_line.specs.declared.step.Deed.TheVariants as deeds
+use Rattle.report_line.specs.declared.step.Step.{Step}
+use Rattle.report_line.specs.History.{Name, History, event_of, status}
+use Rattle.report_line.specs.Lawful.{IsAllowed}
+use Rattle.settled_lists.specs.Runs.{Run, epoch, current}
+use Rattle.process.specs.declared.process.Process.{Process}
+use Rattle.process.specs.declared.handed.Message.{Message}
+use Rattle.process.specs.declared.handed.Start.{Start}
+use Rattle.process.specs.declared.handed.Retirement.{Retirement}
+use Rattle.process_law.specs.Accounts.{Act, Work, Send, Receive, Check, Present, Fork, Begin, Retire, Absorb, Return, DoesSo, begun_by, deed_of}
+use Rattle.process_law.specs.Handing.{Past, goes_on, GoesFromNewest, IsUnbegun, IsUnabsorbed, MayAbsorb, MayDo}
+use Rattle.process_law.proofs.Calls.{call_within, GaveMessage, GaveStart, GaveRetirement, message_cases, start_cases, retirement_cases, unbegun_before, unabsorbed_before, forked_later, goes_on_is, newest_cases, newest_is, call_in}
+use Rattle.process_law.proofs.CallKinds.{doing, first_byte, same_deed, OnDeed, on_deed, sent_name, forked_child, absorbed_of}
+use Rattle.process_law.proofs.Orders.{AreInOrder}
+use Rattle.process_law.proofs.Standing.{absorbed_not_living, LivesAs, step_of, lives_on, counted, uncounted, lives_by, child_lives, retires_by, retired_stays, retired_ends, absorbed_stays, sends_now, sent_stays}
+use Rattle.process_law.proofs.Holding.{IsSent, HasRetired, AreCurrent, message_of, start_of, retirement_of}
+use Rattle.stamp.specs.declared.stamp.Stamp.{Stamp}
+use Rattle.std.proofs.lemmas.Option.{none-some}
+
+-- what is known of it
+pub record IsStepNow (root : Name) (run : Run) (past : Past) (a : Act) (old new : Process) (deed : Deed) : Type 0 where
+  pub is_deed : deed_of (length past) a ≡ Some deed
+  pub now : old.epoch ≡ epoch run
+  pub from : GoesFromNewest root past old
+  pub living : LivesAs root (current run) old
+  pub allowed : IsAllowed root (current run) living.event (step_of old deed new) deed
+
+-- who acts lives by its step, unless it retires
+lives_next : (root : Name) (h : History) (n : ℕ) (a : Act) (old new s : Process) → DoesSo a old new → LivesAs root h old → goes_on a new ≡ Some s
+    → OnDeed (deed_of n a) (λ deed. LivesAs root (step_of old deed new ∷ h) new)
+lives_next root h n Work old new s does w on = lives_by root h old new deeds.Work 0 (λ x. refl) (uncounted h (step_of old deeds.Work new) refl) does.goes w
+lives_next root h n (Send m) old new s does w on =
+    lives_by root h old new (deeds.Send (n ∷ [])) 0 (λ x. refl) (uncounted h (step_of old (deeds.Send (n ∷ [])) new) refl) does.works.goes w
+lives_next root h n (Receive from m) old new s does w on =
+    lives_by root h old new (deeds.Receive (from ∷ [])) 0 (λ x. refl) (uncounted h (step_of old (deeds.Receive (from ∷ [])) new) refl) does.goes w
+lives_next root h n (Check line) old new s does w on = lives_by root h old new deeds.Check 1 (λ x. refl) (counted h (step_of old deeds.Check new) refl) does.goes w
+lives_next root h n (Present line) old new s does w on = lives_by root h old new deeds.Present 1 (λ x. refl) (counted h (step_of old deeds.Present new) refl) does.goes w
+lives_next root h n (Fork t line) old new s does w on =
+    lives_by root h old new (deeds.Fork t.child t.stamp.id) 1 (λ x. refl) (counted h (step_of old (deeds.Fork t.child t.stamp.id) new) refl) does.goes w
+lives_next root h n (Begin from t) old new s does w on = tt
+lives_next root h n (Retire target r line) old new s does w on = absurd (none-some s on)
+lives_next root h n (Absorb from r line) old new s does w on =
+    lives_by root h old new (deeds.Absorb r.process) 1 (λ x. refl) (counted h (step_of old (deeds.Absorb r.process) new) refl) does.goes w
+lives_next root h n (Return epoch) old new s does w on = tt
+
+absorbed_name : (r p : Name) → deeds.Absorb r ≡ deeds.Absorb p → r ≡ p
+absorbed_name r p is = cc
+
+cases_absorbs : (a : Deed) (p : Name) → (a ≡ deeds.Absorb p) ⊎ (a ≢ deeds.Absorb p)
+cases_absorbs deeds.Work p = inr (λ is. cc)
+cases_absorbs deeds.Check p = inr (λ is. cc)
+cases_absorbs deeds.Present p = inr (λ is. cc)
+cases_absorbs (deeds.Send m) p = inr (λ is. cc)
+cases_absorbs (deeds.Receive m) p = inr (λ is. cc)
+cases_absorbs (deeds.Fork c i) p = inr (λ is. cc)
+cases_absorbs (deeds.Retire q) p = inr (λ is. cc)
+cases_absorbs (deeds.Absorb r) p = elim (cases_name r p) [ inl same ↦ inl (ap (λ (q : Name). deeds.Absorb q) same) | inr differs ↦ inr (λ is. differs (absorbed_name r p is)) ]
+
+abbrev stamp_with : IdTree → EventTree → Stamp
+stamp_with i e = record { id = i; events = e }
+
+module _ (root : Name) (run : Run) (past : Past) (a : Act) (old new : Process) (deed : Deed) (order : AreInOrder root past (epoch run))
+    (holds : AreCurrent root past (current run) (epoch run)) (does : DoesSo a old new) (may : MayDo root run past a old) (name : new.name ≡ old.name)
+    (w : IsStepNow root run past a old new deed) where
+  -- an older call's process that stands retired: so it does, unless it is absorbed now
+  retired_next : (n : ℕ) (r : Retirement) → GaveRetirement past n r → r.epoch ≡ epoch run
+      → HasRetired root (step_of old deed new ∷ current run) (doing a old new ∷ past) n r
+  retired_next n r gave now =
+      let h = current run in
+      let s = step_of old deed new in
+      elim (holds.retired n r gave now) [
+        | inr ended ↦ inr (
+          absorbed_stays root h w.living.event s w.living.lives w.allowed r.process ended.0,
+          λ none. ended.1 (unabsorbed_before past (doing a old new) n none),
+        )
+        | inl waits ↦ elim (cases_absorbs deed r.process) [
+          | inr other ↦ inl (waits.0, retired_stays root h w.living.event s w.living.lives w.allowed r.process r.target waits.0 other waits.1, waits.2)
+          | inl is ↦ inr (
+            retired_ends root h w.living.event s w.living.lives w.allowed r.process r.target waits.0 is waits.1,
+            absorbed_by n r gave now (absorbed_of (length past) a r.process (w.is_deed ∙ ap (λ (c : Deed). Some c) is)),
+          )
+        ]
+      ]
+    where
+      -- the call that absorbs it now was given the retirement of that call
+      absorbed_by : (n : ℕ) (r : Retirement) → GaveRetirement past n r → r.epoch ≡ epoch run
+          → (from : ℕ) × (q : Retirement) × (line : List ℕ) × (a ≡ Absorb from q line) × (q.process ≡ r.process) → ¬ IsUnabsorbed (doing a old new ∷ past) n
+      absorbed_by n r gave now (from, q, line, is, same) none = by may_absorb.2
+        where
+          may_absorb : MayDo root run past (Absorb from q line) old
+          may_absorb = subst (λ (b : Act). MayDo root run past b old) is may
+
+          by : MayAbsorb root run past old from q → ⊥
+          by (inl v) =
+              (let place : from ≡ n = holds.once from n q r may_absorb.1 gave (v.0 ∙ w.now) now same in
+              none (doing a old new) q line (first_in (doing a old new) past) (is ∙ ap (λ (k : ℕ). Absorb k q line) place))
+          by (inr keeps) = (keeps w.now).not_anew gave.0 gave.1 r gave.2 (call_in past n gave.0 gave.3) gave.4 (sym same) now
+
+  -- who retires now did not retire before in this epoch
+  not_again : (n : ℕ) (r : Retirement) → GaveRetirement past n r → r.epoch ≡ epoch run → r.process ≢ old.name
+  not_again n r gave now same =
+      elim (holds.retired n r gave now) [
+        | inl waits ↦ retired_not_living waits.0 w.living.event r.target (sym waits.1 ∙ (ap (status root (current run)) same ∙ w.living.lives))
+        | inr ended ↦ absorbed_not_living w.living.event (sym ended.0 ∙ (ap (status root (current run)) same ∙ w.living.lives))
+      ]
+
+  child_starts : (s : Start) (line : List ℕ) → a ≡ Fork s line → LivesAs root (step_of old deed new ∷ current run) (begun_by s)
+  child_starts s line is =
+      let g = start_of (length past) a s line old new does is in
+      let same : deed ≡ deeds.Fork s.child s.stamp.id = same_deed deed (deeds.Fork s.child s.stamp.id) (sym w.is_deed ∙ g.deed) in
+      child_lives root (current run) w.living.event (step_of old deed new) (begun_by s) s.stamp.id w.living.lives w.allowed same
+      (ap (stamp_with s.stamp.id) (sym g.events)) refl
+
+  pub current_next : AreCurrent root (doing a old new ∷ past) (step_of old deed new ∷ current run) (epoch run)
+  current_next = record {
+    lives = λ p s is now.
+        elim (newest_cases root past (doing a old new) p s is) [
+          | inl v ↦
+              subst (λ (q : Process). LivesAs root (step_of old deed new ∷ current run) q) (sym (goes_on_is a new s v.1))
+              (on_deed (deed_of (length past) a) deed (λ c. LivesAs root (step_of old c new ∷ current run) new) w.is_deed
+              (lives_next root (current run) (length past) a old new s does w.living v.1))
+          | inr v ↦
+              lives_on root (current run) w.living.event (step_of old deed new) s w.living.lives w.allowed
+              (λ same. v.0 (sym (newest_is root past p s v.1).0 ∙ (same ∙ sym name))) (holds.lives p s v.1 now)
+        ];
+    forked = λ s c i at is.
+        elim (in_cases (step_of old deed new) s (current run) at) [
+          | inl same ↦
+              (let v = forked_child (length past) a c i (w.is_deed ∙ ap (λ (x : Deed). Some x) (ap (λ (t : Step). t.deed) same ∙ is)) in
+              (doing a old new, v.0, v.1, first_in (doing a old new) past, v.2, v.3))
+          | inr before ↦ forked_later past (doing a old new) c (holds.forked s c i before is)
+        ];
+    numbered = λ s m at is.
+        elim (in_cases (step_of old deed new) s (current run) at) [
+          | inl same ↦
+              (length past, sent_name (length past) a m (w.is_deed ∙ ap (λ (x : Deed). Some x) (ap (λ (t : Step). t.deed) same ∙ is)), omega arith)
+          | inr before ↦ (let v = holds.numbered s m before is in let lt : v.0 < length past = v.2 in (v.0, v.1, omega arith))
+        ];
+    sent = λ n m gave now.
+        elim (message_cases past (doing a old new) n m gave) [
+          | inl v ↦ sent_now n m v.0 v.1
+          | inr before ↦ sent_before n m before now
+        ];
+    started = λ n s gave now none.
+        elim (start_cases past (doing a old new) n s gave) [
+          | inl v ↦ child_starts s v.0 v.1
+          | inr before ↦
+              lives_on root (current run) w.living.event (step_of old deed new) (begun_by s) w.living.lives w.allowed (not_begun_yet n s before none)
+              (holds.started n s before now (unbegun_before past (doing a old new) n none))
+        ];
+    retired = λ n r gave now.
+        elim (retirement_cases past (doing a old new) n r gave) [
+          | inl v ↦
+              (let g = retirement_of (length past) a v.0 r v.1 old new does v.2 in
+              inl (
+                event_of (current run) (step_of old deed new),
+                retires_by root (current run) (step_of old deed new) r.process r.target g.process (same_deed deed (deeds.Retire r.target) (sym w.is_deed ∙ g.deed)),
+                g.stamp,
+              ))
+          | inr before ↦ retired_next n r before now
+        ];
+    once = λ n m r q gave_r gave_q now also equal.
+        elim (retirement_cases past (doing a old new) n r gave_r) [
+          | inl v ↦ elim (retirement_cases past (doing a old new) m q gave_q) [
+            | inl u ↦ sym v.3 ∙ u.3
+            | inr before ↦ absurd (not_again m q before also (sym equal ∙ (retirement_of (length past) a v.0 r v.1 old new does v.2).process))
+          ]
+          | inr before ↦ elim (retirement_cases past (doing a old new) m q gave_q) [
+            | inl u ↦ absurd (not_again n r before now (equal ∙ (retirement_of (length past) a u.0 q u.1 old new does u.2).process))
+            | inr earlier ↦ holds.once n m r q before earlier now also equal
+          ]
+        ];
+  }
+    where
+      sent_now : (n : ℕ) (m : Message) → a ≡ Send m → length past ≡ n → IsSent (step_of old deed new ∷ current run) n m
+      sent_now n m is place =
+          let g = message_of (length past) a m old new does is in
+          let same : deed ≡ deeds.Send (length past ∷ []) = same_deed deed (deeds.Send (length past ∷ [])) (sym w.is_deed ∙ g.0) in (
+            event_of (current run) (step_of old deed new),
+            sends_now (current run) (step_of old deed new) (n ∷ []) (same ∙ ap (λ (k : ℕ). deeds.Send (k ∷ [])) place),
+            sym g.2,
+          )
+
+      sent_before : (n : ℕ) (m : Message) → GaveMessage past n m → m.epoch ≡ epoch run → IsSent (step_of old deed new ∷ current run) n m
+      sent_before n m gave now =
+          let v = holds.sent n m gave now in
+          let lt : n < length past = call_within past n gave.0 gave.1 in (
+            v.0,
+            sent_stays (current run) (step_of old deed new) (n ∷ [])
+                (λ is. let same : n ≡ length past = first_byte n (length past) (sent_name (length past) a (n ∷ []) (w.is_deed ∙ ap (λ (x : Deed). Some x) is)) in omega arith)
+                ∙ v.1,
+            v.2,
+          )
+
+      not_begun_yet : (n : ℕ) (s : Start) → GaveStart past n s → IsUnbegun (doing a old new ∷ past) n → s.child ≢ old.name
+      not_begun_yet n s gave none same =
+          order.unbegun n s gave (unbegun_before past (doing a old new) n none) old (newest_is root past old.name old w.from).1 (sym same)

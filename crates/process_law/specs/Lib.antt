@@ -1,0 +1,4 @@
+pub mod Accounts
+pub mod Handing
+pub mod Obeying
+pub mod Example

@@ -1,0 +1,25 @@
+//! Whoever takes its steps by the calls of `process` has what the headline asks of processes.
+//!
+//! An account tells which calls processes made and which turns the coordinator took, in order. What goes from one process to another is
+//! handed over as it was given out, each start and each retirement once, and no process goes on from an older state than it returned to.
+//! Then the steps obey the rules. These are laws of definitions.
+#![tactic(auto)]
+
+ghost use Rattle.process_law.specs.Obeying.{StepsOfCallsObey, StepsOfCallsAreLawful};
+ghost use Rattle.process_law.specs.Example.{AFamilyIsPossible, AReturnIsPossible};
+
+/// The steps of processes that call, with the turns between them, are those of processes that obey.
+pub fn steps_of_calls_obey()
+    ensures { StepsOfCallsObey }
+{}
+
+/// Where nothing was settled, they are a lawful history, and the lines that were given are its reports.
+pub fn steps_of_calls_are_lawful()
+    ensures { StepsOfCallsAreLawful }
+{}
+
+/// There is an account with every kind of call but a return, and one with turns, a settlement and a return.
+pub fn a_family_is_possible()
+    ensures family { AFamilyIsPossible }
+    ensures returned { AReturnIsPossible }
+{}

@@ -22,9 +22,8 @@ ghost use Rattle.process_c.specs.Given.{IsWork, IsTelling, IsSending, IsReceipt,
 ghost use Rattle.process_c.specs.Refusals.{ByProcess, ByName, ByText, Refuses, RefusesRoot, RefusesChild, RefusesReturn};
 
 use crate::answer::answer;
-use std::alloc::Global;
-
 pub use fault::Fault;
+use std::alloc::Global;
 
 /// The root of a computation begins: its state, and the line of its `BEGIN`.
 #[unsafe(no_mangle)]
@@ -76,7 +75,12 @@ pub extern "C" fn recline_send(alloc: Global, state: &[u8], out: &mut [u8]) -> i
 
 /// A message is received: the new state.
 #[unsafe(no_mangle)]
-pub extern "C" fn recline_receive(alloc: Global, state: &[u8], message: &[u8], out: &mut [u8]) -> i64
+pub extern "C" fn recline_receive(
+    alloc: Global,
+    state: &[u8],
+    message: &[u8],
+    out: &mut [u8],
+) -> i64
     ensures { IsAnswer (Gives (Handed IsMessageOf IsReceipt message.now) state.now) (Refuses (ByText IsMessageOf (λ m fault p. RefusesReceipt fault p.epoch p.stamp m) message.now) state.now) result out.old out.new }
 {
     answer(calls::receive(alloc, state, message), out)
@@ -92,7 +96,13 @@ pub extern "C" fn recline_fork(alloc: Global, state: &[u8], child: &[u8], out: &
 
 /// A child gets a leaf of this depth: the same.
 #[unsafe(no_mangle)]
-pub extern "C" fn recline_fork_small(alloc: Global, state: &[u8], child: &[u8], depth: u8, out: &mut [u8]) -> i64
+pub extern "C" fn recline_fork_small(
+    alloc: Global,
+    state: &[u8],
+    child: &[u8],
+    depth: u8,
+    out: &mut [u8],
+) -> i64
     ensures { IsAnswer (Gives (IsCarving child.now depth) state.now) (Refuses (ByName (λ fault p. RefusesLeaf fault p child.now depth) child.now) state.now) result out.old out.new }
 {
     answer(calls::fork_small(alloc, state, child, depth), out)
@@ -100,12 +110,7 @@ pub extern "C" fn recline_fork_small(alloc: Global, state: &[u8], child: &[u8], 
 
 /// The process ends: the line of the `RETIRE`, and what its target is to absorb.
 #[unsafe(no_mangle)]
-pub extern "C" fn recline_retire(
-    alloc: Global,
-    state: &[u8],
-    target: &[u8],
-    out: &mut [u8],
-) -> i64
+pub extern "C" fn recline_retire(alloc: Global, state: &[u8], target: &[u8], out: &mut [u8]) -> i64
     ensures { IsAnswer (GivesRetirement target.now state.now) (Refuses (ByName (λ fault p. RefusesRetirement fault p target.now) target.now) state.now) result out.old out.new }
 {
     answer(calls::retire(alloc, state, target), out)
@@ -113,7 +118,12 @@ pub extern "C" fn recline_retire(
 
 /// A process that retired into this one is absorbed: the new state, and the line of the `ABSORB`.
 #[unsafe(no_mangle)]
-pub extern "C" fn recline_absorb(alloc: Global, state: &[u8], retirement: &[u8], out: &mut [u8]) -> i64
+pub extern "C" fn recline_absorb(
+    alloc: Global,
+    state: &[u8],
+    retirement: &[u8],
+    out: &mut [u8],
+) -> i64
     ensures { IsAnswer (Gives (Handed IsRetirementOf IsAbsorption retirement.now) state.now) (Refuses (ByText IsRetirementOf (λ r fault p. RefusesAbsorption fault p r) retirement.now) state.now) result out.old out.new }
 {
     answer(calls::absorb(alloc, state, retirement), out)
@@ -121,7 +131,12 @@ pub extern "C" fn recline_absorb(alloc: Global, state: &[u8], retirement: &[u8],
 
 /// The same where it is of this epoch or an older one, and each settlement since has kept its retirement.
 #[unsafe(no_mangle)]
-pub extern "C" fn recline_absorb_kept(alloc: Global, state: &[u8], retirement: &[u8], out: &mut [u8]) -> i64
+pub extern "C" fn recline_absorb_kept(
+    alloc: Global,
+    state: &[u8],
+    retirement: &[u8],
+    out: &mut [u8],
+) -> i64
     ensures { IsAnswer (Gives (Handed IsRetirementOf IsKeptAbsorption retirement.now) state.now) (Refuses (ByText IsRetirementOf (λ r fault p. RefusesKept fault p r) retirement.now) state.now) result out.old out.new }
 {
     answer(calls::absorb_kept(alloc, state, retirement), out)

@@ -108,7 +108,12 @@ fn carved(alloc: Global, process: &mut Process, child: &Name, depth: u8) -> Resu
 }
 
 /// Makes a child of this name with a leaf of this depth.
-pub fn fork_small(alloc: Global, process: &mut Process, name: &[u8], depth: u8) -> Result<Vec<u8>, Fault>
+pub fn fork_small(
+    alloc: Global,
+    process: &mut Process,
+    name: &[u8],
+    depth: u8,
+) -> Result<Vec<u8>, Fault>
     ensures ok { IfOk result (λ v. Becomes (IsCarving name.now depth process.old) v.items) }
     ensures err { IfErr result (ByName (λ fault p. RefusesLeaf fault p name.now depth) name.now process.old) }
 {
@@ -136,7 +141,11 @@ pub fn absorb(alloc: Global, process: &mut Process, text: &[u8]) -> Result<Vec<u
 }
 
 // Absorbs this retirement, which settlements kept.
-fn absorbed_kept(alloc: Global, process: &mut Process, retirement: &Retirement) -> Result<Vec<u8>, Fault>
+fn absorbed_kept(
+    alloc: Global,
+    process: &mut Process,
+    retirement: &Retirement,
+) -> Result<Vec<u8>, Fault>
     ensures ok { IfOk result (λ v. Becomes (IsKeptAbsorption retirement.now process.old) v.items) }
     ensures err { IfErr result (ByProcess (λ fault p. RefusesKept fault p retirement.now) process.old) }
 {

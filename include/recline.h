@@ -68,7 +68,7 @@ int64_t recline_send(const char *state, size_t state_len, char *out, size_t out_
 int64_t recline_receive(const char *state, size_t state_len, const char *message, size_t message_len, char *out, size_t out_len);
 
 /* A child is made of a name that no other process has or had. Gives: the new state, the line "FORK ..", and the start of the child, to be
- * handed over once the line was answered OK. Each gets half of the id: the 41st fork of a process that takes nothing back is RECLINE_TOO_DEEP. */
+ * handed over once the line was answered OK. Each gets half of the id: the 41st fork of a root that takes nothing back is RECLINE_TOO_DEEP. */
 int64_t recline_fork(const char *state, size_t state_len, const char *child, size_t child_len, char *out, size_t out_len);
 
 /* The same, but the child gets a leaf of this depth, of 0 to 40, and the process keeps the rest: so at most 2^depth - 1 children may live at

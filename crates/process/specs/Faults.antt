@@ -56,7 +56,7 @@ RefusesRetirement faults.SelfTarget p target = target ≡ p.name
 RefusesRetirement faults.Memory p target = ⊤
 RefusesRetirement fault p target = (target ≢ p.name) × RefusesReport fault p
 
--- an absorption is refused, of a retirement that has the right epoch
+-- an absorption of a retirement that has the right target and epoch is refused: no number is left, or its stamp is refused
 abbrev pub RefusesStamp : ProcessFault → Process → Retirement → Type 0
 RefusesStamp faults.Worn p r = IsWorn p
 RefusesStamp faults.NothingOwned p r = (¬ IsWorn p) × IsAbsorbFault stamps.NothingOwned p.stamp r.stamp

@@ -65,7 +65,7 @@ fn is_leaf_at(part: &IdView<'_>, depth: u8) -> bool
     }
 }
 
-// The same of a whole id: whether it has such a leaf.
+// How deep the deepest leaf of a whole id is that is no deeper than this, if there is one.
 fn deepest_of(id: &Id, depth: u8) -> Option<u8>
     ensures leaf { MatchOption result (¬ HasLeafWithin id.now depth) (λ _. HasLeafWithin id.now depth) }
     ensures depth { result ≡ deepest_within id.now depth }

@@ -19,7 +19,7 @@ pub enum ProcessFault {
     /// The retirement is into another process.
     #[error("not waiting")]
     NotWaiting,
-    /// What came is of an older epoch, so it may be undone: it is dropped.
+    /// What came is of an older epoch, so it may be undone. A message is dropped; a retirement may be kept (`Process::absorb_kept`).
     #[error("older epoch")]
     Older,
     /// What came is of a newer epoch: it waits until this process has returned, too.
@@ -28,13 +28,13 @@ pub enum ProcessFault {
     /// The process made 4,294,967,295 reports.
     #[error("no number left")]
     Worn,
-    /// The id owns nothing. No process that began as the root or from a start has such an id.
+    /// The id owns nothing. No process that began as the root, or from a start that a fork gave, has such an id.
     #[error("nothing owned")]
     NothingOwned,
     /// Some value would be greater than 4,294,967,295.
     #[error("clock full")]
     ClockFull,
-    /// A part of the id would be deeper than 40, or has no leaf of the depth that is asked for.
+    /// A part of the id would be deeper than 40; or a leaf is asked for that is, each leaf of the id is deeper, or that leaf is all of it.
     #[error("too deep")]
     TooDeep,
     /// Some point is owned by the process and by the retired one.

@@ -32,7 +32,7 @@ pub(crate) struct Parted {
 
 impl Process {
     /// Makes a child of this name, which no other process has or had, and gives the line of the report, and what the child starts from. Each
-    /// gets half of the id; so the 41st fork of a process that takes nothing back is too deep.
+    /// gets half of the id, which is a level deeper each time: so the 41st fork of a root that takes nothing back is too deep.
     pub fn fork(&mut self, alloc: Global, child: &Name) -> Result<(Vec<u8>, Start), ProcessFault>
         ensures ok { IfOk result (λ made. (made.1.child ≡ child.now) × Forks self.old self.new made.1 made.0.items) }
         ensures halves { IfOk result (λ made. Halves self.old.stamp.id self.new.stamp.id made.1.stamp.id) }
@@ -46,8 +46,9 @@ impl Process {
         Ok(self.part(child, parted))
     }
 
-    /// The same, but the child gets a leaf of this depth, and the process keeps the rest: no id gets deeper than that, however many children
-    /// come and go, as long as they retire into this process. The leaf is cut from the deepest one that is no deeper.
+    /// The same, but the child gets a leaf of this depth, and the process keeps the rest. The leaf is cut from the deepest one that is no
+    /// deeper; which of several as deep ones is left open. An id that is no deeper stays so, however many children come and go, as long as
+    /// they fork nothing and retire into this process.
     ///
     /// `TooDeep` where the depth is above 40, where each leaf is deeper, or where the one leaf of that depth is all that the process owns.
     pub fn fork_small(

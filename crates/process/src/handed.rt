@@ -13,7 +13,7 @@ pub struct Message {
     pub events: Events,
 }
 
-/// What a child starts from. One child is born of it.
+/// What a child starts from. One child is born of it; behind a settlement that has it at its birth it is born once more.
 #[derive(Drop)]
 pub struct Start {
     /// The child.
@@ -24,7 +24,7 @@ pub struct Start {
     pub stamp: Stamp,
 }
 
-/// What a process leaves that ended. It is absorbed once.
+/// What a process leaves that ended. It is absorbed once, and once more where a settlement undid that.
 #[derive(Drop)]
 pub struct Retirement {
     /// The process that ended.

@@ -8,7 +8,7 @@ ghost use Rattle.report_line.specs.declared.report.Action.TheVariants as actions
 ghost use Rattle.report_line.specs.declared.report.Report.TheVariants.{Begin};
 ghost use Rattle.process.specs.Steps.{Works, Sends, Tells, Receives, Retires, Absorbs, Returns, Counts, IsLineOf};
 ghost use Rattle.process.specs.Faults.{RefusesEvent, RefusesReport, RefusesReceipt, RefusesRetirement, RefusesAbsorption, RefusesKept, RefusesStamp, IsWorn, fault_of};
-ghost use Rattle.process.specs.Telling.{IsTold, IsReported, IsTold, IsAbsorbTold, RefusesSum, after_told};
+ghost use Rattle.process.specs.Telling.{IsTold, IsReported, IsAbsorbTold, RefusesSum, after_told};
 ghost use Rattle.stamp.specs.Operations.{IsNormalJoin, IsReceive, IsAbsorb};
 
 use crate::fault::ProcessFault;
@@ -34,7 +34,20 @@ pub struct Process {
 }
 
 impl Process {
-    /// The root of a computation, which begins, and the line by which it says so.
+    /// The same process once more, as it is kept with a checkpoint.
+    pub fn copy(&self, alloc: Global) -> Result<Process, AllocError>
+        ensures { IfOk result (λ p. p ≡ self.now) }
+    {
+        let stamp = self.stamp.copy(alloc)?;
+        Ok(Process {
+            name: self.name.copy(),
+            epoch: self.epoch,
+            reports: self.reports,
+            stamp,
+        })
+    }
+
+    /// The root of a computation, which begins, and the line by which it says so, without an LF, as each line here.
     pub fn root(alloc: Global, name: &Name) -> Result<(Process, Vec<u8>), AllocError>
         ensures process { IfOk result (λ begun. begun.0 ≡ record { name = name.now; epoch = 0; reports = 0; stamp = record { id = One; events = Leaf 0 } }) }
         ensures line { IfOk result (λ begun. IsLineOf 0 (Begin name.now) begun.1.items) }
@@ -63,7 +76,7 @@ impl Process {
         }
     }
 
-    /// Works on. What a process does between its other steps needs no work to be counted; it may be.
+    /// Works on. Whether work is counted is the caller's choice: the other steps are what counts.
     pub fn work(&mut self, alloc: Global) -> Result<(), ProcessFault>
         ensures ok { OnOk result (Works self.old self.new) }
         ensures err { IfErr result (λ fault. RefusesEvent fault self.old.stamp) }
@@ -90,8 +103,8 @@ impl Process {
         })
     }
 
-    /// Receives a message of its own epoch. One of an older epoch is refused, and dropped: where its sending is not undone it comes again.
-    /// One of a newer epoch waits until this process has returned, too.
+    /// Receives a message of its own epoch. One of an older epoch is refused, and dropped: where its sending is not undone its sender sends
+    /// it once more. One of a newer epoch waits until this process has returned, too.
     pub fn receive(&mut self, alloc: Global, message: &Message) -> Result<(), ProcessFault>
         ensures ok { OnOk result (Receives self.old message.now self.new) }
         ensures err { IfErr result (λ fault. RefusesReceipt fault self.old.epoch self.old.stamp message.now) }
@@ -205,8 +218,9 @@ impl Process {
         Ok(self.go_on(told))
     }
 
-    /// Returns to what it is here, which was kept with its checkpoint at its position in the line of a settlement: it goes on in this
-    /// epoch, that of the settlement. `false` where it has that epoch or a later one, and then nothing changes.
+    /// Returns to what it is here, which was kept at its position in the line of a settlement, be it a checkpoint, a birth or a present
+    /// state: it goes on in this epoch, that of the settlement. `false` where what was kept has that epoch or a later one, and then nothing
+    /// changes. Whether the process had returned to a later settlement by now is the caller's to know.
     pub fn returned(&mut self, epoch: u32) -> bool
         ensures returned { IsTrue result → Returns self.old self.new epoch }
         ensures refused { result ≡ false → (epoch ≤ self.old.epoch) × (self.new ≡ self.old) }

@@ -33,7 +33,7 @@ enum recline_fault {
     RECLINE_SELF_TARGET = -5,   /* the process is to retire into itself */
     RECLINE_NAME_TAKEN = -6,    /* the child is to have the name of the process */
     RECLINE_NOT_WAITING = -7,   /* the retirement is into another process */
-    RECLINE_OLDER = -8,         /* it is of an older epoch, so it may be undone: drop it */
+    RECLINE_OLDER = -8,         /* it is of an older epoch, so it may be undone: drop a message; recline_absorb_kept takes a retirement that was kept */
     RECLINE_NEWER = -9,         /* it is of a newer epoch: keep it until this process has returned, too */
     RECLINE_WORN = -10,         /* the process made 4,294,967,295 reports */
     RECLINE_NOTHING_OWNED = -11, /* the id owns nothing; no process that began as the root or from a start has such an id */

@@ -37,7 +37,7 @@ pub enum Fault {
     NameTaken = -6,
     /// The retirement is into another process.
     NotWaiting = -7,
-    /// It is of an older epoch, so it may be undone: drop it.
+    /// It is of an older epoch, so it may be undone: a message is dropped; `absorb_kept` takes a retirement that was kept.
     Older = -8,
     /// It is of a newer epoch: keep it until this process has returned, too.
     Newer = -9,

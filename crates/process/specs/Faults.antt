@@ -1,5 +1,5 @@
 -- Why calls are refused: of the faults that apply the first of their list is answered, and memory may be wanting for any.
-use Rattle.std.specs.Prelude.{◌≡◌, ◌≢◌, ℕ, ◌^◌, ◌-◌, ◌<◌, ⊤}
+use Rattle.std.specs.Prelude.{◌≡◌, ◌≢◌, ◌⊎◌, ℕ, ◌^◌, ◌-◌, ◌<◌, ◌≤◌, ⊤}
 use Rattle.stamp.specs.declared.stamp.Stamp.{Stamp}
 use Rattle.stamp.specs.Operations.{IsEventFault, IsForkFault, IsReceiveFault, IsAbsorbFault}
 use Rattle.stamp.specs.declared.fault.StampFault.{StampFault}
@@ -40,15 +40,35 @@ RefusesReceipt faults.ClockFull epoch s m = (m.epoch ≡ epoch) × IsReceiveFaul
 RefusesReceipt faults.Memory epoch s m = ⊤
 RefusesReceipt _ epoch s m = ⊥
 
+-- a stamp is not parted by halves
+abbrev pub RefusesHalves : ProcessFault → Stamp → Type 0
+RefusesHalves faults.NothingOwned s = IsForkFault stamps.NothingOwned s
+RefusesHalves faults.ClockFull s = IsForkFault stamps.ClockFull s
+RefusesHalves faults.TooDeep s = IsForkFault stamps.TooDeep s
+RefusesHalves faults.Memory s = ⊤
+RefusesHalves _ s = ⊥
+
 -- a fork by halves is refused
 abbrev pub RefusesFork : ProcessFault → Process → Name → Type 0
 RefusesFork faults.Taken p child = child ≡ p.name
 RefusesFork faults.Worn p child = (child ≢ p.name) × IsWorn p
-RefusesFork faults.NothingOwned p child = (child ≢ p.name) × (¬ IsWorn p) × IsForkFault stamps.NothingOwned p.stamp
-RefusesFork faults.ClockFull p child = (child ≢ p.name) × (¬ IsWorn p) × IsForkFault stamps.ClockFull p.stamp
-RefusesFork faults.TooDeep p child = (child ≢ p.name) × (¬ IsWorn p) × IsForkFault stamps.TooDeep p.stamp
 RefusesFork faults.Memory p child = ⊤
-RefusesFork _ p child = ⊥
+RefusesFork fault p child = (child ≢ p.name) × (¬ IsWorn p) × RefusesHalves fault p.stamp
+
+-- no event is counted on a stamp, or no leaf of this depth is cut off its id
+abbrev pub RefusesCarved : ProcessFault → Stamp → ℕ → Type 0
+RefusesCarved faults.NothingOwned s depth = IsEventFault stamps.NothingOwned s.id s.events
+RefusesCarved faults.ClockFull s depth = IsEventFault stamps.ClockFull s.id s.events
+RefusesCarved faults.TooDeep s depth = (s.id ≢ Zero) × (¬ PassesLimit s.id s.events) × ¬ HasRoomFor s.id depth
+RefusesCarved faults.Memory s depth = ⊤
+RefusesCarved _ s depth = ⊥
+
+-- a fork that gives a leaf of this depth is refused
+abbrev pub RefusesLeaf : ProcessFault → Process → Name → ℕ → Type 0
+RefusesLeaf faults.Taken p child depth = child ≡ p.name
+RefusesLeaf faults.Worn p child depth = (child ≢ p.name) × IsWorn p
+RefusesLeaf faults.Memory p child depth = ⊤
+RefusesLeaf fault p child depth = (child ≢ p.name) × (¬ IsWorn p) × RefusesCarved fault p.stamp depth
 
 -- a retirement is refused
 abbrev pub RefusesRetirement : ProcessFault → Process → Name → Type 0
@@ -56,29 +76,44 @@ RefusesRetirement faults.SelfTarget p target = target ≡ p.name
 RefusesRetirement faults.Memory p target = ⊤
 RefusesRetirement fault p target = (target ≢ p.name) × RefusesReport fault p
 
--- an absorption of a retirement that has the right target and epoch is refused: no number is left, or its stamp is refused
+-- a stamp is not absorbed
+abbrev pub RefusesSum : ProcessFault → Stamp → Stamp → Type 0
+RefusesSum faults.NothingOwned s retired = IsAbsorbFault stamps.NothingOwned s retired
+RefusesSum faults.ClockFull s retired = IsAbsorbFault stamps.ClockFull s retired
+RefusesSum faults.Overlap s retired = IsAbsorbFault stamps.Overlap s retired
+RefusesSum faults.Memory s retired = ⊤
+RefusesSum _ s retired = ⊥
+
+-- an absorption of a retirement that is for this process, and of the right epoch, is refused: no number is left, or its stamp is refused
 abbrev pub RefusesStamp : ProcessFault → Process → Retirement → Type 0
 RefusesStamp faults.Worn p r = IsWorn p
-RefusesStamp faults.NothingOwned p r = (¬ IsWorn p) × IsAbsorbFault stamps.NothingOwned p.stamp r.stamp
-RefusesStamp faults.ClockFull p r = (¬ IsWorn p) × IsAbsorbFault stamps.ClockFull p.stamp r.stamp
-RefusesStamp faults.Overlap p r = (¬ IsWorn p) × IsAbsorbFault stamps.Overlap p.stamp r.stamp
 RefusesStamp faults.Memory p r = ⊤
-RefusesStamp _ p r = ⊥
+RefusesStamp fault p r = (¬ IsWorn p) × RefusesSum fault p.stamp r.stamp
 
--- an absorption is refused: the retirement is into another process, or of another epoch, or its stamp is refused
+-- the retirement is another process's, into this one
+abbrev pub IsForThis : Process → Retirement → Type 0
+IsForThis p r = (r.target ≡ p.name) × (r.process ≢ p.name)
+
+-- an absorption is refused: the retirement is not for this process, or of another epoch, or its stamp is refused
 abbrev pub RefusesAbsorption : ProcessFault → Process → Retirement → Type 0
-RefusesAbsorption faults.NotWaiting p r = r.target ≢ p.name
-RefusesAbsorption faults.Older p r = (r.target ≡ p.name) × (r.epoch < p.epoch)
-RefusesAbsorption faults.Newer p r = (r.target ≡ p.name) × (p.epoch < r.epoch)
+RefusesAbsorption faults.NotWaiting p r = ¬ IsForThis p r
+RefusesAbsorption faults.Older p r = IsForThis p r × (r.epoch < p.epoch)
+RefusesAbsorption faults.Newer p r = IsForThis p r × (p.epoch < r.epoch)
 RefusesAbsorption faults.Memory p r = ⊤
-RefusesAbsorption fault p r = (r.target ≡ p.name) × (r.epoch ≡ p.epoch) × RefusesStamp fault p r
+RefusesAbsorption fault p r = IsForThis p r × (r.epoch ≡ p.epoch) × RefusesStamp fault p r
 
 -- the same of a retirement that settlements kept, which may be of an older epoch
 abbrev pub RefusesKept : ProcessFault → Process → Retirement → Type 0
-RefusesKept faults.NotWaiting p r = r.target ≢ p.name
-RefusesKept faults.Newer p r = (r.target ≡ p.name) × (p.epoch < r.epoch)
+RefusesKept faults.NotWaiting p r = ¬ IsForThis p r
+RefusesKept faults.Newer p r = IsForThis p r × (p.epoch < r.epoch)
 RefusesKept faults.Memory p r = ⊤
-RefusesKept fault p r = (r.target ≡ p.name) × (¬ (p.epoch < r.epoch)) × RefusesStamp fault p r
+RefusesKept fault p r = IsForThis p r × (¬ (p.epoch < r.epoch)) × RefusesStamp fault p r
+
+-- a return of the process to what was kept is refused: it has this epoch or a later one, or what was kept has; or that is another process's
+abbrev pub RefusesReturn : ProcessFault → Process → Process → ℕ → Type 0
+RefusesReturn faults.Older p kept epoch = (epoch ≤ p.epoch) ⊎ (epoch ≤ kept.epoch)
+RefusesReturn faults.OtherProcess p kept epoch = (p.epoch < epoch) × (kept.epoch < epoch) × (kept.name ≢ p.name)
+RefusesReturn _ p kept epoch = ⊥
 
 -- the fault of a stamp as that of a process
 abbrev pub fault_of : StampFault → ProcessFault
@@ -87,13 +122,3 @@ fault_of stamps.ClockFull = faults.ClockFull
 fault_of stamps.TooDeep = faults.TooDeep
 fault_of stamps.Overlap = faults.Overlap
 fault_of stamps.Memory = faults.Memory
-
--- a fork that gives a leaf of this depth is refused
-abbrev pub RefusesLeaf : ProcessFault → Process → Name → ℕ → Type 0
-RefusesLeaf faults.Taken p child depth = child ≡ p.name
-RefusesLeaf faults.Worn p child depth = (child ≢ p.name) × IsWorn p
-RefusesLeaf faults.NothingOwned p child depth = (child ≢ p.name) × (¬ IsWorn p) × IsEventFault stamps.NothingOwned p.stamp.id p.stamp.events
-RefusesLeaf faults.ClockFull p child depth = (child ≢ p.name) × (¬ IsWorn p) × IsEventFault stamps.ClockFull p.stamp.id p.stamp.events
-RefusesLeaf faults.TooDeep p child depth = (child ≢ p.name) × (¬ IsWorn p) × (p.stamp.id ≢ Zero) × (¬ PassesLimit p.stamp.id p.stamp.events) × ¬ HasRoomFor p.stamp.id depth
-RefusesLeaf faults.Memory p child depth = ⊤
-RefusesLeaf _ p child depth = ⊥

@@ -93,6 +93,7 @@ pub record Retires (old : Process) (target : Name) (retirement : Retirement) (li
 -- An event is counted on the own stamp, and then that of a process that retired into this one joins it.
 pub record Absorbs (old : Process) (retirement : Retirement) (new : Process) (line : List ℕ) : Type 0 where
   pub into_this : retirement.target ≡ old.name
+  pub other : retirement.process ≢ old.name
   pub goes : GoesOn old new 1
   pub stamped : IsAbsorb old.stamp retirement.stamp new.stamp
   pub reported : IsLineOf old.epoch (next_report old new.stamp (actions.Absorb retirement.process)) line

@@ -1,12 +1,11 @@
 -- Working definitions: what a step that is reported leaves behind.
 use Rattle.std.specs.Prelude.{◌≡◌, ◌≢◌, ℕ, ◌+◌, ⊤}
-use Rattle.id_tree.specs.IdTree.{IdTree, Zero}
+use Rattle.id_tree.specs.IdTree.{IdTree}
 use Rattle.id_tree.specs.Split.{IsSplit}
-use Rattle.event_tree.specs.Event.{IsEventStep, PassesLimit}
+use Rattle.event_tree.specs.Event.{IsEventStep}
 use Rattle.event_tree.specs.Grown.{IsGrown}
 use Rattle.stamp.specs.declared.stamp.Stamp.{Stamp}
-use Rattle.stamp.specs.Operations.{IsAbsorb, IsEventFault, IsAbsorbFault, IsForkFault}
-use Rattle.stamp.specs.declared.fault.StampFault.TheVariants as stamps
+use Rattle.stamp.specs.Operations.{IsAbsorb}
 use Rattle.report_line.specs.declared.report.Action.{Action}
 use Rattle.report_line.specs.declared.report.Action.TheVariants as actions
 use Rattle.report_line.specs.History.{Name}
@@ -62,22 +61,6 @@ pub record IsParted (old : Process) (child : Name) (parted : Parted) : Type 0 wh
   pub parts : AreForkParts old.stamp parted.kept parted.given
   pub line_is : IsLineOf old.epoch (fork_report old parted.kept child parted.given.id) parted.line.items
 
--- a stamp is not absorbed
-abbrev pub RefusesSum : ProcessFault → Stamp → Stamp → Type 0
-RefusesSum faults.NothingOwned s retired = IsAbsorbFault stamps.NothingOwned s retired
-RefusesSum faults.ClockFull s retired = IsAbsorbFault stamps.ClockFull s retired
-RefusesSum faults.Overlap s retired = IsAbsorbFault stamps.Overlap s retired
-RefusesSum faults.Memory s retired = ⊤
-RefusesSum _ s retired = ⊥
-
--- a stamp is not parted by halves
-abbrev pub RefusesHalves : ProcessFault → Stamp → Type 0
-RefusesHalves faults.NothingOwned s = IsForkFault stamps.NothingOwned s
-RefusesHalves faults.ClockFull s = IsForkFault stamps.ClockFull s
-RefusesHalves faults.TooDeep s = IsForkFault stamps.TooDeep s
-RefusesHalves faults.Memory s = ⊤
-RefusesHalves _ s = ⊥
-
 -- no leaf of this depth is cut off an id
 abbrev pub RefusesCarving : ProcessFault → IdTree → ℕ → Type 0
 RefusesCarving faults.TooDeep i depth = ¬ HasRoomFor i depth
@@ -89,11 +72,3 @@ pub record AreCarved (after : Stamp) (depth : ℕ) (kept given : Stamp) : Type 0
   pub carved : IsCarved after.id depth kept.id given.id
   pub kept_events : kept.events ≡ after.events
   pub given_events : given.events ≡ after.events
-
--- no event is counted on a stamp, or no leaf of this depth is cut off its id
-abbrev pub RefusesCarved : ProcessFault → Stamp → ℕ → Type 0
-RefusesCarved faults.NothingOwned s depth = IsEventFault stamps.NothingOwned s.id s.events
-RefusesCarved faults.ClockFull s depth = IsEventFault stamps.ClockFull s.id s.events
-RefusesCarved faults.TooDeep s depth = (s.id ≢ Zero) × (¬ PassesLimit s.id s.events) × ¬ HasRoomFor s.id depth
-RefusesCarved faults.Memory s depth = ⊤
-RefusesCarved _ s depth = ⊥

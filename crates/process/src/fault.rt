@@ -16,10 +16,11 @@ pub enum ProcessFault {
     /// The child is to have the name of the process.
     #[error("name taken")]
     Taken,
-    /// The retirement is into another process.
+    /// The retirement is into another process, or this one's own.
     #[error("not waiting")]
     NotWaiting,
-    /// What came is of an older epoch, so it may be undone. A message is dropped; a retirement may be kept (`Process::absorb_kept`).
+    /// What came is of an older epoch, so it may be undone. A message is dropped; a retirement may be kept (`Process::absorb_kept`). Or the
+    /// process has the epoch that it is to return to, or a later one.
     #[error("older epoch")]
     Older,
     /// What came is of a newer epoch: it waits until this process has returned, too.
@@ -40,6 +41,9 @@ pub enum ProcessFault {
     /// Some point is owned by the process and by the retired one.
     #[error("overlap")]
     Overlap,
+    /// What was kept, and is to be returned to, is another process's.
+    #[error("other process")]
+    OtherProcess,
     /// A growth was refused.
     #[error("memory")]
     Memory,

@@ -6,9 +6,9 @@ ghost use Rattle.id_tree.specs.NormalForm.{depth_limit};
 ghost use Rattle.id_tree.specs.Split.{parts_depth};
 ghost use Rattle.event_tree.specs.Event.{PassesLimit};
 ghost use Rattle.process.specs.Steps.{Forks, Halves, IsLineOf, fork_report};
-ghost use Rattle.process.specs.Faults.{RefusesFork, RefusesLeaf, IsWorn};
+ghost use Rattle.process.specs.Faults.{RefusesFork, RefusesHalves, RefusesLeaf, RefusesCarved, IsWorn};
 ghost use Rattle.process.specs.Leaves.{IsLeafAt, IsFromDeepest, HasRoomFor};
-ghost use Rattle.process.specs.Telling.{AreForkParts, IsForkTold, IsParted, AreCarved, RefusesHalves, RefusesCarving, RefusesCarved};
+ghost use Rattle.process.specs.Telling.{AreForkParts, IsForkTold, IsParted, AreCarved, RefusesCarving};
 
 use crate::carving::carve;
 use crate::fault::ProcessFault;
@@ -232,7 +232,7 @@ fn carved_stamp(alloc: Global, after: Stamp, depth: u8) -> Result<(Stamp, Stamp)
 }
 
 // The stamp after an event, of whose id a leaf of this depth is given away.
-fn carved(alloc: Global, stamp: &Stamp, depth: u8) -> Result<(Stamp, Stamp), ProcessFault>
+fn leaf_parts(alloc: Global, stamp: &Stamp, depth: u8) -> Result<(Stamp, Stamp), ProcessFault>
     ensures parts { IfOk result (λ parts. AreForkParts stamp.now parts.0 parts.1) }
     ensures leaf { IfOk result (λ parts. IsLeafAt depth parts.1.id) }
     ensures deepest { IfOk result (λ parts. IsFromDeepest stamp.now.id depth parts.1.id) }
@@ -267,7 +267,7 @@ fn forked_small(
     let Some(number) = next_number(process.reports) else {
         return Err(ProcessFault::Worn);
     };
-    match carved(alloc, &process.stamp, depth) {
+    match leaf_parts(alloc, &process.stamp, depth) {
         Ok(parts) => reported_fork(alloc, process, number, child, parts),
         Err(fault) => Err(fault),
     }

@@ -1,14 +1,14 @@
 //! One process.
 
-ghost use Rattle.std.specs.Prelude.{◌≡◌, ◌≢◌, ◌≤◌, ◌+◌, ◌↔◌, false, IsTrue, IfOk, IfErr, IsErr, OnOk, OnErr};
+ghost use Rattle.std.specs.Prelude.{◌≡◌, ◌≢◌, ◌≤◌, ◌<◌, ◌+◌, ◌↔◌, false, IsTrue, IfOk, IfErr, IsErr, OnOk, OnErr, MatchOption};
 ghost use Rattle.id_tree.specs.IdTree.{One};
 ghost use Rattle.event_tree.specs.EventTree.{EventTree, Leaf};
 ghost use Rattle.event_tree.specs.Event.{PassesLimit};
 ghost use Rattle.report_line.specs.declared.report.Action.TheVariants as actions;
 ghost use Rattle.report_line.specs.declared.report.Report.TheVariants.{Begin};
 ghost use Rattle.process.specs.Steps.{Works, Sends, Tells, Receives, Retires, Absorbs, Returns, Counts, IsLineOf};
-ghost use Rattle.process.specs.Faults.{RefusesEvent, RefusesReport, RefusesReceipt, RefusesRetirement, RefusesAbsorption, RefusesKept, RefusesStamp, IsWorn, fault_of};
-ghost use Rattle.process.specs.Telling.{IsTold, IsReported, IsAbsorbTold, RefusesSum, after_told};
+ghost use Rattle.process.specs.Faults.{RefusesEvent, RefusesReport, RefusesReceipt, RefusesRetirement, RefusesAbsorption, RefusesKept, RefusesStamp, RefusesSum, RefusesReturn, IsWorn, fault_of};
+ghost use Rattle.process.specs.Telling.{IsTold, IsReported, IsAbsorbTold, after_told};
 ghost use Rattle.stamp.specs.Operations.{IsNormalJoin, IsReceive, IsAbsorb};
 
 use crate::fault::ProcessFault;
@@ -34,6 +34,16 @@ pub struct Process {
 }
 
 impl Process {
+    /// Whether the two are one state of one process.
+    pub fn equal(&self, other: &Process) -> bool
+        ensures { IsTrue result ↔ (self.now ≡ other.now) }
+    {
+        self.name == other.name
+            && self.epoch == other.epoch
+            && self.reports == other.reports
+            && self.stamp.equal(&other.stamp)
+    }
+
     /// The same process once more, as it is kept with a checkpoint.
     pub fn copy(&self, alloc: Global) -> Result<Process, AllocError>
         ensures { IfOk result (λ p. p ≡ self.now) }
@@ -181,7 +191,7 @@ impl Process {
         ensures full { PassesLimit self.old.stamp.id self.old.stamp.events → IsErr result }
         ensures unchanged { OnErr result (self.new ≡ self.old) }
     {
-        if !is_into(retirement, &self.name) {
+        if !is_for(retirement, &self.name) {
             return Err(ProcessFault::NotWaiting);
         }
         if retirement.epoch < self.epoch {
@@ -208,7 +218,7 @@ impl Process {
         ensures full { PassesLimit self.old.stamp.id self.old.stamp.events → IsErr result }
         ensures unchanged { OnErr result (self.new ≡ self.old) }
     {
-        if !is_into(retirement, &self.name) {
+        if !is_for(retirement, &self.name) {
             return Err(ProcessFault::NotWaiting);
         }
         if self.epoch < retirement.epoch {
@@ -218,9 +228,28 @@ impl Process {
         Ok(self.go_on(told))
     }
 
-    /// Returns to what it is here, which was kept at its position in the line of a settlement, be it a checkpoint, a birth or a present
-    /// state: it goes on in this epoch, that of the settlement. `false` where what was kept has that epoch or a later one, and then nothing
-    /// changes. Whether the process had returned to a later settlement by now is the caller's to know.
+    /// Returns to what was kept of it at its position in the line of a settlement, be it a checkpoint, a birth or a present state: it goes on
+    /// from that, in this epoch, which is that of the settlement. `Older` where the process or what was kept has that epoch or a later one,
+    /// `OtherProcess` where that is another process's; then the process stays as it was, and what was kept is given back.
+    pub fn return_to(&mut self, kept: Process, epoch: u32) -> Result<(), (ProcessFault, Process)>
+        ensures ok { OnOk result (Returns kept self.new epoch) }
+        ensures same { OnOk result (kept.name ≡ self.old.name) }
+        ensures later { OnOk result (self.old.epoch < epoch) }
+        ensures err { IfErr result (λ refused. RefusesReturn refused.0 self.old kept epoch) }
+        ensures unchanged { OnErr result (self.new ≡ self.old) }
+        ensures given_back { IfErr result (λ refused. refused.1 ≡ kept) }
+    {
+        if let Some(fault) = return_fault(self, &kept, epoch) {
+            return Err((fault, kept));
+        }
+        *self = kept;
+        self.epoch = epoch;
+        Ok(())
+    }
+
+    /// The same for a process that is no more but for what was kept of it, which this is: it goes on from that in this epoch. `false` where
+    /// what was kept has that epoch or a later one, and then nothing changes. Whether the process had returned to a later settlement before it
+    /// was lost is the caller's to know.
     pub fn returned(&mut self, epoch: u32) -> bool
         ensures returned { IsTrue result → Returns self.old self.new epoch }
         ensures refused { result ≡ false → (epoch ≤ self.old.epoch) × (self.new ≡ self.old) }
@@ -356,11 +385,26 @@ fn retired(alloc: Global, process: &Process, target: &Name) -> Result<Told, Proc
     }
 }
 
-// Whether the retirement is into the process of this name.
-fn is_into(retirement: &Retirement, name: &Name) -> bool
-    ensures { IsTrue result ↔ (retirement.now.target ≡ name.now) }
+// Whether the retirement is for the process of this name: into it, and another one's.
+fn is_for(retirement: &Retirement, name: &Name) -> bool
+    ensures yes { IsTrue result → (retirement.now.target ≡ name.now) × (retirement.now.process ≢ name.now) }
+    ensures no { result ≡ false → ¬ ((retirement.now.target ≡ name.now) × (retirement.now.process ≢ name.now)) }
 {
     retirement.target.as_bytes() == name.as_bytes()
+        && retirement.process.as_bytes() != name.as_bytes()
+}
+
+// Why the process does not return to what was kept, in this epoch.
+fn return_fault(process: &Process, kept: &Process, epoch: u32) -> Option<ProcessFault>
+    ensures { MatchOption result ((process.now.epoch < epoch) × (kept.now.epoch < epoch) × (kept.now.name ≡ process.now.name)) (λ fault. RefusesReturn fault process.now kept.now epoch) }
+{
+    if epoch <= process.epoch || epoch <= kept.epoch {
+        return Some(ProcessFault::Older);
+    }
+    if kept.name.as_bytes() != process.name.as_bytes() {
+        return Some(ProcessFault::OtherProcess);
+    }
+    None
 }
 
 // The stamp after an absorption.

@@ -1,5 +1,5 @@
 -- What each call gives: texts, by a step of the process that the state is the text of.
-use Rattle.std.specs.Prelude.{◌≡◌, ◌≤◌, ℕ, List, [], ◌∷◌}
+use Rattle.std.specs.Prelude.{◌≡◌, ◌≤◌, ◌<◌, ℕ, List, [], ◌∷◌}
 use Rattle.id_tree.specs.IdTree.{One}
 use Rattle.event_tree.specs.EventTree.{Leaf}
 use Rattle.report_line.specs.History.{Name}
@@ -52,8 +52,13 @@ IsAbsorption r p q texts = (line : List ℕ) × Absorbs p r q line × (r.epoch �
 abbrev pub IsKeptAbsorption : Retirement → Process → Process → List (List ℕ) → Type 0
 IsKeptAbsorption r p q texts = (line : List ℕ) × Absorbs p r q line × (r.epoch ≤ p.epoch) × (texts ≡ line ∷ [])
 
-abbrev pub IsReturn : ℕ → Process → Process → List (List ℕ) → Type 0
-IsReturn epoch p q texts = Returns p q epoch × (texts ≡ [])
+-- of a process that is there, to what was kept of it
+abbrev pub IsReturn : ℕ → Process → Process → Process → List (List ℕ) → Type 0
+IsReturn epoch kept p q texts = Returns kept q epoch × (kept.name ≡ p.name) × (p.epoch < epoch) × (texts ≡ [])
+
+-- of one that was lost, to what it is here
+abbrev pub IsReturned : ℕ → Process → Process → List (List ℕ) → Type 0
+IsReturned epoch p q texts = Returns p q epoch × (texts ≡ [])
 
 -- ---- what each call gives
 

@@ -48,8 +48,8 @@ RefusesChild start faults.Text = (s : Start) → ¬ IsStartOf s start
 RefusesChild start (faults.Refused refusals.Memory) = ⊤
 RefusesChild start _ = ⊥
 
--- a return
-abbrev pub RefusesReturn : ℕ → ProcessFault → Process → Type 0
-RefusesReturn epoch refusals.Older p = epoch ≤ p.epoch
-RefusesReturn epoch refusals.Memory p = ⊤
-RefusesReturn epoch _ p = ⊥
+-- a return of what was kept of a process that was lost
+abbrev pub RefusesReturned : ℕ → ProcessFault → Process → Type 0
+RefusesReturned epoch refusals.Older p = epoch ≤ p.epoch
+RefusesReturned epoch refusals.Memory p = ⊤
+RefusesReturned epoch _ p = ⊥

@@ -2,12 +2,12 @@
 
 ghost use Rattle.std.specs.Prelude.{◌≡◌, IfOk, IfErr, MatchResult};
 ghost use Rattle.report_line.specs.declared.report.Action.TheVariants as actions;
-ghost use Rattle.process.specs.Faults.{RefusesEvent, RefusesReport, RefusesReceipt, RefusesFork, RefusesLeaf, RefusesRetirement, RefusesAbsorption, RefusesKept};
+ghost use Rattle.process.specs.Faults.{RefusesEvent, RefusesReport, RefusesReceipt, RefusesFork, RefusesLeaf, RefusesRetirement, RefusesAbsorption, RefusesKept, RefusesReturn};
 ghost use Rattle.process.specs.declared.fault.ProcessFault.TheVariants.{Memory};
 ghost use Rattle.process_c.specs.declared.fault.Fault.TheVariants.{Refused};
-ghost use Rattle.process_c.specs.Texts.{IsMessageOf, IsRetirementOf};
-ghost use Rattle.process_c.specs.Given.{IsWork, IsTelling, IsSending, IsReceipt, IsHalving, IsCarving, IsAbsorption, IsKeptAbsorption, IsReturn, Handed, Gives, GivesRoot, GivesChild, GivesRetirement};
-ghost use Rattle.process_c.specs.Refusals.{ByProcess, ByName, ByText, Refuses, RefusesRoot, RefusesChild, RefusesReturn};
+ghost use Rattle.process_c.specs.Texts.{IsStateOf, IsMessageOf, IsRetirementOf};
+ghost use Rattle.process_c.specs.Given.{IsWork, IsTelling, IsSending, IsReceipt, IsHalving, IsCarving, IsAbsorption, IsKeptAbsorption, IsReturn, IsReturned, Handed, Gives, GivesRoot, GivesChild, GivesRetirement};
+ghost use Rattle.process_c.specs.Refusals.{ByProcess, ByName, ByText, Refuses, RefusesRoot, RefusesChild, RefusesReturned};
 
 use crate::fault::Fault;
 use crate::reading::{read_name, read_start, read_state};
@@ -117,9 +117,17 @@ pub fn absorb_kept(alloc: Global, state: &[u8], retirement: &[u8]) -> Result<Vec
     stepping::absorb_kept(alloc, &mut process, retirement)
 }
 
-/// Returns, in this epoch.
+/// Returns to what was kept, in this epoch.
+pub fn return_to(alloc: Global, state: &[u8], kept: &[u8], epoch: u32) -> Result<Vec<u8>, Fault>
+    ensures { MatchResult result (λ v. Gives (Handed IsStateOf (IsReturn epoch) kept.now) state.now v.items) (Refuses (ByText IsStateOf (λ k fault p. RefusesReturn fault p k epoch) kept.now) state.now) }
+{
+    let mut process = read_state(alloc, state)?;
+    stepping::return_to(alloc, &mut process, kept, epoch)
+}
+
+/// Returns to what it is, in this epoch.
 pub fn returned(alloc: Global, state: &[u8], epoch: u32) -> Result<Vec<u8>, Fault>
-    ensures { MatchResult result (λ v. Gives (IsReturn epoch) state.now v.items) (Refuses (ByProcess (RefusesReturn epoch)) state.now) }
+    ensures { MatchResult result (λ v. Gives (IsReturned epoch) state.now v.items) (Refuses (ByProcess (RefusesReturned epoch)) state.now) }
 {
     let mut process = read_state(alloc, state)?;
     stepping::returned(alloc, &mut process, epoch)

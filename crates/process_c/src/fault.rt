@@ -13,7 +13,7 @@ use std::alloc::AllocError;
 pub enum Fault {
     /// The first text that was handed over is that of no process.
     State,
-    /// What was handed over beside it is not the text of a message, a start or a retirement, whichever the call takes.
+    /// What was handed over beside it is not the text of a message, a start, a retirement or a state that was kept, whichever the call takes.
     Text,
     /// The bytes are no name.
     Name,
@@ -50,6 +50,7 @@ fn number_of_refusal(fault: ProcessFault) -> i64
         ProcessFault::ClockFull => -12,
         ProcessFault::TooDeep => -13,
         ProcessFault::Overlap => -14,
+        ProcessFault::OtherProcess => -15,
     }
 }
 

@@ -15,11 +15,11 @@ mod writing;
 
 ghost use Rattle.std.specs.Prelude.{◌≡◌};
 ghost use Rattle.report_line.specs.declared.report.Action.TheVariants as actions;
-ghost use Rattle.process.specs.Faults.{RefusesEvent, RefusesReport, RefusesReceipt, RefusesFork, RefusesLeaf, RefusesRetirement, RefusesAbsorption, RefusesKept};
-ghost use Rattle.process_c.specs.Texts.{IsMessageOf, IsRetirementOf};
+ghost use Rattle.process.specs.Faults.{RefusesEvent, RefusesReport, RefusesReceipt, RefusesFork, RefusesLeaf, RefusesRetirement, RefusesAbsorption, RefusesKept, RefusesReturn};
+ghost use Rattle.process_c.specs.Texts.{IsStateOf, IsMessageOf, IsRetirementOf};
 ghost use Rattle.process_c.specs.Answers.{IsAnswer};
-ghost use Rattle.process_c.specs.Given.{IsWork, IsTelling, IsSending, IsReceipt, IsHalving, IsCarving, IsAbsorption, IsKeptAbsorption, IsReturn, Handed, Gives, GivesRoot, GivesChild, GivesRetirement};
-ghost use Rattle.process_c.specs.Refusals.{ByProcess, ByName, ByText, Refuses, RefusesRoot, RefusesChild, RefusesReturn};
+ghost use Rattle.process_c.specs.Given.{IsWork, IsTelling, IsSending, IsReceipt, IsHalving, IsCarving, IsAbsorption, IsKeptAbsorption, IsReturn, IsReturned, Handed, Gives, GivesRoot, GivesChild, GivesRetirement};
+ghost use Rattle.process_c.specs.Refusals.{ByProcess, ByName, ByText, Refuses, RefusesRoot, RefusesChild, RefusesReturned};
 
 use crate::answer::answer;
 pub use fault::Fault;
@@ -142,10 +142,24 @@ pub extern "C" fn recline_absorb_kept(
     answer(calls::absorb_kept(alloc, state, retirement), out)
 }
 
-/// The process returns to this state, in the epoch of a settlement: the new state.
+/// The process returns to a state that was kept of it, in the epoch of a settlement: the new state.
+#[unsafe(no_mangle)]
+pub extern "C" fn recline_return_to(
+    alloc: Global,
+    state: &[u8],
+    kept: &[u8],
+    epoch: u32,
+    out: &mut [u8],
+) -> i64
+    ensures { IsAnswer (Gives (Handed IsStateOf (IsReturn epoch) kept.now) state.now) (Refuses (ByText IsStateOf (λ k fault p. RefusesReturn fault p k epoch) kept.now) state.now) result out.old out.new }
+{
+    answer(calls::return_to(alloc, state, kept, epoch), out)
+}
+
+/// A process that was lost returns to this state, which was kept of it, in the epoch of a settlement: the new state.
 #[unsafe(no_mangle)]
 pub extern "C" fn recline_returned(alloc: Global, state: &[u8], epoch: u32, out: &mut [u8]) -> i64
-    ensures { IsAnswer (Gives (IsReturn epoch) state.now) (Refuses (ByProcess (RefusesReturn epoch)) state.now) result out.old out.new }
+    ensures { IsAnswer (Gives (IsReturned epoch) state.now) (Refuses (ByProcess (RefusesReturned epoch)) state.now) result out.old out.new }
 {
     answer(calls::returned(alloc, state, epoch), out)
 }

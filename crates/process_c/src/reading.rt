@@ -29,6 +29,16 @@ pub fn read_state(alloc: Global, text: &[u8]) -> Result<Process, Fault>
     }
 }
 
+/// The state that was kept, and that this is the text of.
+pub fn read_kept(alloc: Global, text: &[u8]) -> Result<Process, Fault>
+    ensures { MatchResult result (λ p. IsStateOf p text.now) (IsUnreadText IsStateOf text.now) }
+{
+    match Process::parse(alloc, text) {
+        Ok(process) => Ok(process),
+        Err(fault) => Err(unread(Fault::Text, fault)),
+    }
+}
+
 /// The message that this is the text of.
 pub fn read_message(alloc: Global, text: &[u8]) -> Result<Message, Fault>
     ensures { MatchResult result (λ m. IsMessageOf m text.now) (IsUnreadText IsMessageOf text.now) }

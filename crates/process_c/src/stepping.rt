@@ -2,13 +2,14 @@
 
 ghost use Rattle.std.specs.Prelude.{◌≡◌, IfOk, IfErr, MatchResult};
 ghost use Rattle.report_line.specs.declared.report.Action.TheVariants as actions;
-ghost use Rattle.process.specs.Faults.{RefusesEvent, RefusesReport, RefusesReceipt, RefusesFork, RefusesLeaf, RefusesRetirement, RefusesAbsorption, RefusesKept};
-ghost use Rattle.process_c.specs.Texts.{IsMessageOf, IsRetirementOf};
-ghost use Rattle.process_c.specs.Given.{IsWork, IsTelling, IsSending, IsReceipt, IsHalving, IsCarving, IsAbsorption, IsKeptAbsorption, IsReturn, Becomes, Handed, IsEnd};
-ghost use Rattle.process_c.specs.Refusals.{ByProcess, ByName, ByText, RefusesReturn};
+ghost use Rattle.process.specs.Faults.{RefusesEvent, RefusesReport, RefusesReceipt, RefusesFork, RefusesLeaf, RefusesRetirement, RefusesAbsorption, RefusesKept, RefusesReturn};
+ghost use Rattle.process_c.specs.Texts.{IsStateOf, IsMessageOf, IsRetirementOf};
+ghost use Rattle.process_c.specs.Given.{IsWork, IsTelling, IsSending, IsReceipt, IsHalving, IsCarving, IsAbsorption, IsKeptAbsorption, IsReturn, IsReturned, Becomes, Handed, IsEnd};
+ghost use Rattle.process_c.specs.Refusals.{ByProcess, ByName, ByText, RefusesReturned};
+ghost use Rattle.process_c.specs.Working.{IsUnreturned};
 
 use crate::fault::Fault;
-use crate::reading::{read_message, read_name, read_retirement};
+use crate::reading::{read_kept, read_message, read_name, read_retirement};
 use crate::writing::{
     line_and_retirement, state, state_and_line, state_and_message, state_line_and_start,
 };
@@ -163,10 +164,43 @@ pub fn absorb_kept(alloc: Global, process: &mut Process, text: &[u8]) -> Result<
     absorbed_kept(alloc, process, &retirement)
 }
 
+// Returns to what was kept of it.
+fn returned_to(
+    alloc: Global,
+    process: &mut Process,
+    kept: Process,
+    epoch: u32,
+) -> Result<Vec<u8>, Fault>
+    ensures ok { IfOk result (λ v. Becomes (IsReturn epoch kept process.old) v.items) }
+    ensures err { IfErr result (ByProcess (IsUnreturned kept epoch) process.old) }
+{
+    match process.return_to(kept, epoch) {
+        Ok(()) => {
+            process.known();
+            Ok(state(alloc, process)?)
+        }
+        Err(refused) => Err(fault_of(refused)),
+    }
+}
+
+/// Returns to the state of this text, which was kept of it.
+pub fn return_to(
+    alloc: Global,
+    process: &mut Process,
+    text: &[u8],
+    epoch: u32,
+) -> Result<Vec<u8>, Fault>
+    ensures ok { IfOk result (λ v. Becomes (Handed IsStateOf (IsReturn epoch) text.now process.old) v.items) }
+    ensures err { IfErr result (ByText IsStateOf (λ kept fault p. RefusesReturn fault p kept epoch) text.now process.old) }
+{
+    let kept = read_kept(alloc, text)?;
+    returned_to(alloc, process, kept, epoch)
+}
+
 /// Returns to what it is, in this epoch.
 pub fn returned(alloc: Global, process: &mut Process, epoch: u32) -> Result<Vec<u8>, Fault>
-    ensures ok { IfOk result (λ v. Becomes (IsReturn epoch process.old) v.items) }
-    ensures err { IfErr result (ByProcess (RefusesReturn epoch) process.old) }
+    ensures ok { IfOk result (λ v. Becomes (IsReturned epoch process.old) v.items) }
+    ensures err { IfErr result (ByProcess (RefusesReturned epoch) process.old) }
 {
     if !process.returned(epoch) {
         return Err(Fault::Refused(ProcessFault::Older));

@@ -11,9 +11,9 @@ use Rattle.settled_turns.specs.Traces.{Trace, Extends}
 use Rattle.process_law.specs.Accounts.{Doing, IsDone, Did, Took, Account, deed_of, steps_by, traced}
 use Rattle.process_law.specs.Handing.{Past, MayDo, run_with, AreHandedOver}
 use Rattle.process_law.specs.Obeying.{IsOfCalls, line_given, lines_given, AreLinesOf, StepsOfCallsAreLawful}
+use Rattle.process_law.specs.EachCall.{step_of, IsTold}
 use Rattle.process_law.proofs.CallKinds.{on_deed}
-use Rattle.process_law.proofs.Standing.{step_of}
-use Rattle.process_law.proofs.Telling.{IsTold, tells, silent, lines_more}
+use Rattle.process_law.proofs.Telling.{tells, silent, lines_more}
 use Rattle.process_law.proofs.Running.{Holds, first_holds, first_epoch, first_history, current_made, epoch_made, own_within, step_now, call_on}
 
 -- what the steps of calls make of a run of epoch 0

@@ -15,13 +15,9 @@ use Rattle.process.specs.declared.handed.Start.{Start}
 use Rattle.process.specs.declared.handed.Retirement.{Retirement}
 use Rattle.process_law.specs.Accounts.{Act, Send, Fork, Retire, Doing, DoesSo, begun_by, deed_of}
 use Rattle.process_law.specs.Handing.{Past, first, newest, IsCall, IsUnbegun, IsUnabsorbed, stamp_of}
+use Rattle.process_law.specs.EachCall.{LivesAs, IsSent}
 use Rattle.process_law.proofs.Calls.{call_within, GaveMessage, GaveStart, GaveRetirement, IsForked, first_is, newest_is}
 use Rattle.process_law.proofs.Orders.{AreInOrder, message_within, start_within, retirement_within}
-use Rattle.process_law.proofs.Standing.{LivesAs}
-
--- the message of this call is sent, with what it tells
-abbrev pub IsSent : History → ℕ → Message → Type 0
-IsSent h n m = (x : Event) × (sending h (n ∷ []) ≡ Some x) × (x.values ≡ m.events)
 
 -- Who left it stands retired by it; or it was absorbed, and then some call did so.
 abbrev pub HasRetired : Name → History → Past → ℕ → Retirement → Type 0

@@ -13,7 +13,7 @@ use Rattle.histories.proofs.Rules.{retired_waits}
 use Rattle.report_line.specs.declared.step.Deed.{Deed}
 use Rattle.report_line.specs.declared.step.Deed.TheVariants as deeds
 use Rattle.report_line.specs.declared.step.Step.{Step}
-use Rattle.report_line.specs.History.{Name, History, Event, Retired, status}
+use Rattle.report_line.specs.History.{Name, History, Event, Unborn, Retired, status}
 use Rattle.report_line.specs.Lawful.{IsSameId, IsOwnWork, IsLawfulReceive, IsLawfulFork, IsLawfulAbsorption, IsAllowed, IsLawful}
 use Rattle.settled_lists.specs.Runs.{Run, epoch, current}
 use Rattle.process.specs.declared.process.Process.{Process}
@@ -23,10 +23,11 @@ use Rattle.process.specs.declared.handed.Retirement.{Retirement}
 use Rattle.process.specs.Steps.{Counts}
 use Rattle.process_law.specs.Accounts.{Act, Work, Send, Receive, Check, Present, Fork, Begin, Retire, Absorb, Return, DoesSo, deed_of}
 use Rattle.process_law.specs.Handing.{Past, stamp_of, MayAbsorb, MayDo}
+use Rattle.process_law.specs.EachCall.{step_of, IsSent, Waits, IsFrom}
 use Rattle.process_law.proofs.Calls.{GaveRetirement, new_is_unnamed}
 use Rattle.process_law.proofs.CallKinds.{OnDeed, first_byte}
-use Rattle.process_law.proofs.Standing.{step_of, unforked_is_unborn, unsent}
-use Rattle.process_law.proofs.Holding.{AreCurrent, IsSent}
+use Rattle.process_law.proofs.Standing.{unforked_is_unborn, unsent}
+use Rattle.process_law.proofs.Holding.{AreCurrent}
 
 same_ids : (i j : IdTree) → i ≡ j → IsSameId i j
 same_ids i j same t = ap (λ (k : IdTree). owns k t) same
@@ -49,23 +50,19 @@ receives h x old new n m same sent stamped =
     }
 
 forks : (root : Name) (h : History) (x : Event) (old new : Process) (s : Start) → stamp_of x ≡ old.stamp → IsGrown old.stamp.id old.stamp.events new.stamp.events
-    → IsSplit old.stamp.id new.stamp.id s.stamp.id → s.child ≢ root → ((t : Step) (i : IdTree) → Contains h t → t.deed ≢ deeds.Fork s.child i) → IsLawful root h
+    → IsSplit old.stamp.id new.stamp.id s.stamp.id → s.child ≢ root → status root h s.child ≡ Unborn
     → IsLawfulFork root h x (step_of old (deeds.Fork s.child s.stamp.id) new) s.child s.stamp.id
-forks root h x old new s same grown split differs never lawful =
+forks root h x old new s same grown split differs unborn =
     let parts = subst (λ (t : Stamp). IsSplit t.id new.stamp.id s.stamp.id) (sym same) split in
     record {
       grown = subst (λ (t : Stamp). IsGrown t.id t.events new.stamp.events) (sym same) grown;
-      new_name = unforked_is_unborn lawful s.child differs never;
+      new_name = unborn;
       not_root = differs;
       disjoint = parts.disjoint;
       not_empty = parts.left;
       child_not_empty = parts.right;
       together = parts.together;
     }
-
--- who left the retirement waits for this process, by an event with its stamp
-abbrev Waits : Name → History → Process → Retirement → Type 0
-Waits root h old r = (y : Event) × (status root h r.process ≡ Retired y old.name) × (stamp_of y ≡ r.stamp)
 
 absorbs : (root : Name) (h : History) (x : Event) (old new : Process) (r : Retirement) → stamp_of x ≡ old.stamp → Waits root h old r → IsAbsorb old.stamp r.stamp new.stamp
     → IsLawfulAbsorption root h x (step_of old (deeds.Absorb r.process) new) r.process
@@ -80,6 +77,23 @@ absorbs root h x old new r same waits stamped =
       disjoint = w.disjoint;
       together = w.together;
     }
+
+-- the step is allowed, over any history that has what the call takes and names
+pub allowed : (root : Name) (h : History) (n : ℕ) (a : Act) (old new : Process) (x : Event) → DoesSo a old new → stamp_of x ≡ old.stamp → IsFrom root h n a old
+    → OnDeed (deed_of n a) (λ deed. IsAllowed root h x (step_of old deed new) deed)
+allowed root h n Work old new x does same from = own_work x old new deeds.Work same does.stamped
+allowed root h n (Send m) old new x does same from = (own_work x old new (deeds.Send (n ∷ [])) same does.works.stamped, from)
+allowed root h n (Receive k m) old new x does same from = receives h x old new k m same from does.stamped
+allowed root h n (Check line) old new x does same from = own_work x old new deeds.Check same does.stamped
+allowed root h n (Present line) old new x does same from = own_work x old new deeds.Present same does.stamped
+allowed root h n (Fork s line) old new x does same from = forks root h x old new s same does.grown does.split from.0 from.1
+allowed root h n (Begin k s) old new x does same from = tt
+allowed root h n (Retire target r line) old new x does same from = (
+  own_work x old new (deeds.Retire target) same (subst (λ (t : Stamp). Counts old.stamp t) (sym (ap (λ (p : Process). p.stamp) does.1)) does.0.stamped),
+  does.0.other,
+)
+allowed root h n (Absorb k r line) old new x does same from = absorbs root h x old new r same from does.stamped
+allowed root h n (Return epoch) old new x does same from = tt
 
 module _ (root : Name) (run : Run) (past : Past) (lawful : IsLawful root (current run)) (holds : AreCurrent root past (current run) (epoch run)) where
   unsent_yet : (s : Step) → Contains (current run) s → s.deed ≢ deeds.Send (length past ∷ [])
@@ -100,23 +114,20 @@ module _ (root : Name) (run : Run) (past : Past) (lawful : IsLawful root (curren
       let k = keeps now in
       (k.event, retired_waits lawful r.process old.name k.event k.waits.occurs k.waits.of_process k.waits.retires k.waits.not_absorbed, k.stamp)
 
+  -- what the call takes and names is so in the current history
+  is_from : (a : Act) (old new : Process) → DoesSo a old new → MayDo root run past a old → old.epoch ≡ epoch run → IsFrom root (current run) (length past) a old
+  is_from Work old new does may now = tt
+  is_from (Send m) old new does may now = unsent (current run) (length past ∷ []) unsent_yet
+  is_from (Receive from m) old new does may now = holds.sent from m may.1 (does.epoch ∙ now)
+  is_from (Check line) old new does may now = tt
+  is_from (Present line) old new does may now = tt
+  is_from (Fork s line) old new does may now =
+      (may.1.0, unforked_is_unborn lawful s.child may.1.0 (λ t i at is. new_is_unnamed root past s.child may.1 (inr (holds.forked t s.child i at is))))
+  is_from (Begin from s) old new does may now = tt
+  is_from (Retire target r line) old new does may now = tt
+  is_from (Absorb from r line) old new does may now = waits_for old from r now does.into_this may.1 may.2
+  is_from (Return epoch) old new does may now = tt
+
   pub is_allowed : (a : Act) (old new : Process) (x : Event) → DoesSo a old new → MayDo root run past a old → old.epoch ≡ epoch run → stamp_of x ≡ old.stamp
       → OnDeed (deed_of (length past) a) (λ deed. IsAllowed root (current run) x (step_of old deed new) deed)
-  is_allowed Work old new x does may now same = own_work x old new deeds.Work same does.stamped
-  is_allowed (Send m) old new x does may now same =
-      (own_work x old new (deeds.Send (length past ∷ [])) same does.works.stamped, unsent (current run) (length past ∷ []) unsent_yet)
-  is_allowed (Receive from m) old new x does may now same =
-      receives (current run) x old new from m same (holds.sent from m may.1 (does.epoch ∙ now)) does.stamped
-  is_allowed (Check line) old new x does may now same = own_work x old new deeds.Check same does.stamped
-  is_allowed (Present line) old new x does may now same = own_work x old new deeds.Present same does.stamped
-  is_allowed (Fork s line) old new x does may now same =
-      forks root (current run) x old new s same does.grown does.split may.1.0
-      (λ t i at is. new_is_unnamed root past s.child may.1 (inr (holds.forked t s.child i at is))) lawful
-  is_allowed (Begin from s) old new x does may now same = tt
-  is_allowed (Retire target r line) old new x does may now same = (
-    own_work x old new (deeds.Retire target) same (subst (λ (t : Stamp). Counts old.stamp t) (sym (ap (λ (p : Process). p.stamp) does.1)) does.0.stamped),
-    does.0.other,
-  )
-  is_allowed (Absorb from r line) old new x does may now same =
-      absorbs root (current run) x old new r same (waits_for old from r now does.into_this may.1 may.2) does.stamped
-  is_allowed (Return epoch) old new x does may now same = tt
+  is_allowed a old new x does may now same = allowed root (current run) (length past) a old new x does same (is_from a old new does may now)

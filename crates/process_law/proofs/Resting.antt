@@ -10,9 +10,9 @@ use Rattle.process.specs.declared.process.Process.{Process}
 use Rattle.process.specs.declared.handed.Retirement.{Retirement}
 use Rattle.process_law.specs.Accounts.{Act, Retire, DoesSo, deed_of}
 use Rattle.process_law.specs.Handing.{Past, IsAtPosition}
+use Rattle.process_law.specs.EachCall.{LivesAs}
 use Rattle.process_law.proofs.Calls.{message_cases, start_cases, retirement_cases, unbegun_before, unabsorbed_before, forked_later, goes_on_is, newest_cases}
 use Rattle.process_law.proofs.CallKinds.{doing, Kind, steps, begins, returns}
-use Rattle.process_law.proofs.Standing.{LivesAs}
 use Rattle.process_law.proofs.Holding.{AreCurrent, message_of, start_of, retirement_of}
 
 at_position : (root : Name) (run : Run) (old new : Process) (now : ℕ) → IsLawful root (current run) → new ≡ record { name = old.name; epoch = now; reports = old.reports; stamp = old.stamp }

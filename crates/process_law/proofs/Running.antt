@@ -13,8 +13,8 @@ use Rattle.settled_turns.specs.Traces.{IsRightStep}
 use Rattle.process.specs.declared.process.Process.{Process}
 use Rattle.process_law.specs.Accounts.{Act, Doing, DoesSo, deed_of}
 use Rattle.process_law.specs.Handing.{Past, GoesFromNewest, MayDo, run_with}
+use Rattle.process_law.specs.EachCall.{step_of, IsTold}
 use Rattle.process_law.proofs.CallKinds.{doing, on_deed, Kind, steps, begins, returns, kind_of}
-use Rattle.process_law.proofs.Standing.{step_of}
 use Rattle.process_law.proofs.Orders.{AreInOrder, order_next, first_order, old_within}
 use Rattle.process_law.proofs.Holding.{AreCurrent, first_current}
 use Rattle.process_law.proofs.Resting.{current_still}
@@ -22,7 +22,7 @@ use Rattle.process_law.proofs.Letting.{is_allowed}
 use Rattle.process_law.proofs.Stepping.{IsStepNow, current_next}
 use Rattle.report_line.specs.StepReports.{report_of}
 use Rattle.process_law.specs.Obeying.{line_given}
-use Rattle.process_law.proofs.Telling.{IsTold, tells, AreMarked, first_marked, marked_more, marked_silent, marked_left, marked_now}
+use Rattle.process_law.proofs.Telling.{tells, AreMarked, first_marked, marked_more, marked_silent, marked_left, marked_now}
 
 -- ---- a step more
 

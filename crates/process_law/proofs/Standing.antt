@@ -19,6 +19,7 @@ use Rattle.report_line.specs.StepReports.{is_reported, reporting_steps}
 use Rattle.process.specs.declared.process.Process.{Process}
 use Rattle.process.specs.Steps.{GoesOn}
 use Rattle.process_law.specs.Handing.{stamp_of}
+use Rattle.process_law.specs.EachCall.{LivesAs, step_of}
 
 -- ---- how a process stands
 
@@ -101,17 +102,6 @@ unforked_is_unborn {root} (next {h = h} {s = s} {before = b} lawful living allow
     unborn_stays root h b s living allowed p (λ i. forks s i (first_in s h)) (unforked_is_unborn lawful p differs (λ t i at. forks t i (later_in s t h at)))
 
 -- ---- a process that lives
-
--- it lives by an event that left it so, and made as many reports
-pub record LivesAs (root : Name) (h : History) (s : Process) : Type 0 where
-  pub event : Event
-  pub lives : status root h s.name ≡ Living event
-  pub stamp : stamp_of event ≡ s.stamp
-  pub reports : s.reports ≡ reporting_steps s.name h
-
--- the step of a call
-abbrev pub step_of : Process → Deed → Process → Step
-step_of old deed new = record { process = old.name; deed = deed; stamp = new.stamp }
 
 -- it lives on where another one acts
 pub lives_on : (root : Name) (h : History) (b : Event) (s : Step) (p : Process) → status root h s.process ≡ Living b → IsAllowed root h b s s.deed → p.name ≢ s.process

@@ -17,11 +17,12 @@ use Rattle.process.specs.declared.handed.Start.{Start}
 use Rattle.process.specs.declared.handed.Retirement.{Retirement}
 use Rattle.process_law.specs.Accounts.{Act, Work, Send, Receive, Check, Present, Fork, Begin, Retire, Absorb, Return, DoesSo, begun_by, deed_of}
 use Rattle.process_law.specs.Handing.{Past, goes_on, GoesFromNewest, IsUnbegun, IsUnabsorbed, MayAbsorb, MayDo}
+use Rattle.process_law.specs.EachCall.{LivesAs, step_of, IsSent}
 use Rattle.process_law.proofs.Calls.{call_within, GaveMessage, GaveStart, GaveRetirement, message_cases, start_cases, retirement_cases, unbegun_before, unabsorbed_before, forked_later, goes_on_is, newest_cases, newest_is, call_in}
 use Rattle.process_law.proofs.CallKinds.{doing, first_byte, same_deed, OnDeed, on_deed, sent_name, forked_child, absorbed_of}
 use Rattle.process_law.proofs.Orders.{AreInOrder}
-use Rattle.process_law.proofs.Standing.{absorbed_not_living, LivesAs, step_of, lives_on, counted, uncounted, lives_by, child_lives, retires_by, retired_stays, retired_ends, absorbed_stays, sends_now, sent_stays}
-use Rattle.process_law.proofs.Holding.{IsSent, HasRetired, AreCurrent, message_of, start_of, retirement_of}
+use Rattle.process_law.proofs.Standing.{absorbed_not_living, lives_on, counted, uncounted, lives_by, child_lives, retires_by, retired_stays, retired_ends, absorbed_stays, sends_now, sent_stays}
+use Rattle.process_law.proofs.Holding.{HasRetired, AreCurrent, message_of, start_of, retirement_of}
 use Rattle.stamp.specs.declared.stamp.Stamp.{Stamp}
 use Rattle.std.proofs.lemmas.Option.{none-some}
 
@@ -34,7 +35,7 @@ pub record IsStepNow (root : Name) (run : Run) (past : Past) (a : Act) (old new 
   pub allowed : IsAllowed root (current run) living.event (step_of old deed new) deed
 
 -- who acts lives by its step, unless it retires
-lives_next : (root : Name) (h : History) (n : ℕ) (a : Act) (old new s : Process) → DoesSo a old new → LivesAs root h old → goes_on a new ≡ Some s
+pub lives_next : (root : Name) (h : History) (n : ℕ) (a : Act) (old new s : Process) → DoesSo a old new → LivesAs root h old → goes_on a new ≡ Some s
     → OnDeed (deed_of n a) (λ deed. LivesAs root (step_of old deed new ∷ h) new)
 lives_next root h n Work old new s does w on = lives_by root h old new deeds.Work 0 (λ x. refl) (uncounted h (step_of old deeds.Work new) refl) does.goes w
 lives_next root h n (Send m) old new s does w on =

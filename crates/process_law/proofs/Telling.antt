@@ -23,14 +23,8 @@ use Rattle.process.specs.Steps.{next_report}
 use Rattle.process_law.specs.Accounts.{Act, Work, Send, Receive, Check, Present, Fork, Begin, Retire, Absorb, Return, Doing, DoesSo, deed_of}
 use Rattle.process_law.specs.Handing.{Past, HasLine}
 use Rattle.process_law.specs.Obeying.{line_given, AreLinesOf}
+use Rattle.process_law.specs.EachCall.{LivesAs, step_of, IsTold}
 use Rattle.process_law.proofs.CallKinds.{OnDeed}
-use Rattle.process_law.proofs.Standing.{LivesAs, step_of}
-
--- There is one line where there is a report, and it is read as this report of this epoch.
-abbrev pub IsTold : ℕ → Option Report → List (List ℕ) → Type 0
-IsTold e o [] = o ≡ None
-IsTold e o (line ∷ []) = (r : Report) × (o ≡ Some r) × Spells (calls.Report (record { epoch = e; report = r })) line
-IsTold e o (line ∷ other ∷ lines) = ⊥
 
 -- ---- each call tells its report
 

@@ -21,7 +21,7 @@ use Rattle.settled_turns.proofs.Following.{held_at_first}
 use Rattle.process_law.specs.Accounts.{Doing, Did, Took, Account, deed_of, steps_by, traced}
 use Rattle.process_law.specs.Handing.{Past, IsHandedIn, run_with, AreHandedOver}
 use Rattle.process_law.specs.Obeying.{StepsOfCallsObey}
-use Rattle.process_law.proofs.Standing.{step_of}
+use Rattle.process_law.specs.EachCall.{step_of}
 use Rattle.process_law.proofs.Orders.{order_later}
 use Rattle.process_law.proofs.Holding.{current_settled}
 use Rattle.process_law.proofs.Telling.{AreMarked}

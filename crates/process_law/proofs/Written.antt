@@ -202,6 +202,7 @@ retires_b = record {
 absorbs_a : Absorbs a4 end_of_b a5 (line_of 0 (told a 3 One (Leaf 5) (reported.Absorb b)))
 absorbs_a = record {
   into_this = refl;
+  other = λ same. retires_b.other (sym same);
   goes = record { name = refl; epoch = refl; reports = refl };
   stamped = record {
     after = halves 1 4 0;

@@ -1,4 +1,5 @@
 pub mod Accounts
 pub mod Handing
 pub mod Obeying
+pub mod EachCall
 pub mod Example

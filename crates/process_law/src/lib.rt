@@ -6,6 +6,7 @@
 #![tactic(auto)]
 
 ghost use Rattle.process_law.specs.Obeying.{StepsOfCallsObey, StepsOfCallsAreLawful};
+ghost use Rattle.process_law.specs.EachCall.{EachCallIsAllowed};
 ghost use Rattle.process_law.specs.Example.{AFamilyIsPossible, AReturnIsPossible};
 
 /// The steps of processes that call, with the turns between them, are those of processes that obey.
@@ -16,6 +17,12 @@ pub fn steps_of_calls_obey()
 /// Where nothing was settled, they are a lawful history, and the lines that were given are its reports.
 pub fn steps_of_calls_are_lawful()
     ensures { StepsOfCallsAreLawful }
+{}
+
+/// The step of each call is allowed over any history in which its process lives, and that has what the call takes and names; its line is
+/// that of the report, and the process lives on as the call left it.
+pub fn each_call_is_allowed()
+    ensures { EachCallIsAllowed }
 {}
 
 /// There is an account with every kind of call but a return, and one with turns, a settlement and a return.

@@ -28,18 +28,19 @@ extern "C" {
 enum recline_fault {
     RECLINE_MEMORY = -1,        /* memory is wanting: try again */
     RECLINE_NO_STATE = -2,      /* the state is the text of no process */
-    RECLINE_NO_TEXT = -3,       /* what was handed over is the text of no message, no start or no retirement, whichever the call takes */
+    RECLINE_NO_TEXT = -3,       /* what was handed over is the text of no message, start, retirement or process, whichever the call takes */
     RECLINE_NO_NAME = -4,       /* the bytes are no name: 1 to 32 of a to z, 0 to 9, _ and -, the first a letter */
     RECLINE_SELF_TARGET = -5,   /* the process is to retire into itself */
     RECLINE_NAME_TAKEN = -6,    /* the child is to have the name of the process */
-    RECLINE_NOT_WAITING = -7,   /* the retirement is into another process */
+    RECLINE_NOT_WAITING = -7,   /* the retirement is into another process, or this one's own */
     RECLINE_OLDER = -8,         /* it is of an older epoch, so it may be undone: drop a message; recline_absorb_kept takes a retirement that was kept */
     RECLINE_NEWER = -9,         /* it is of a newer epoch: keep it until this process has returned, too */
     RECLINE_WORN = -10,         /* the process made 4,294,967,295 reports */
     RECLINE_NOTHING_OWNED = -11, /* the id owns nothing; no process that began as the root or from a start has such an id */
     RECLINE_CLOCK_FULL = -12,   /* a value would be greater than 4,294,967,295 */
     RECLINE_TOO_DEEP = -13,     /* an id would be deeper than 40, or there is no leaf of the depth that is asked for */
-    RECLINE_OVERLAP = -14       /* the process and the retired one own a point in common: one of them is not what it was */
+    RECLINE_OVERLAP = -14,      /* the process and the retired one own a point in common: one of them is not what it was */
+    RECLINE_OTHER_PROCESS = -15 /* the state that was kept is another process's */
 };
 
 /* Room that is enough as long as no line is longer than the 8,192 bytes that recline takes. */
@@ -84,8 +85,12 @@ int64_t recline_absorb(const char *state, size_t state_len, const char *retireme
 /* The same for one of this epoch or an older one, of a process that is at "retired" in the line of each settlement since. */
 int64_t recline_absorb_kept(const char *state, size_t state_len, const char *retirement, size_t retirement_len, char *out, size_t out_len);
 
-/* The process returns to this state, which was kept with its checkpoint at its position in the line of the settlement of this epoch.
- * Gives: the new state, of that epoch. RECLINE_OLDER: the state has this epoch, or a later one. */
+/* The process returns from the state that it has now to the one that was kept at its position in the line of the settlement of this epoch.
+ * Gives: the new state, of that epoch. RECLINE_OLDER: one of the two has this epoch, or a later one. */
+int64_t recline_return_to(const char *state, size_t state_len, const char *kept, size_t kept_len, uint32_t epoch, char *out, size_t out_len);
+
+/* The same for a process that has no state any more, as it crashed: the state is the one that was kept. Whether it had returned to a later
+ * settlement by then is the caller's to know. RECLINE_OLDER: the state has this epoch, or a later one. */
 int64_t recline_returned(const char *state, size_t state_len, uint32_t epoch, char *out, size_t out_len);
 
 #ifdef __cplusplus

@@ -7,7 +7,8 @@ families, a seed, and NAME=COMMAND for each binding. The command takes steps, on
     fork p c, fork p c d  the child c gets half of the id, or a leaf of depth d
     retire p q, absorb q p, absorb_kept q p
     keep p k              the state of p is kept as k
-    return p k e          p returns to the state k, in the epoch e
+    return_to p k e       p, which is alive, returns to the state k, in the epoch e
+    return p k e          the same where p has no state any more
     again p m             the message m bears the epoch of p from now on
 
 What is refused is written as FAULT and its number. The reports have to be those of examples/client/stamps.py, and, where all parts of ids are
@@ -24,7 +25,7 @@ recline, client, families, seed, *makers = sys.argv[1:]
 sys.path.insert(0, client)
 from stamps import Stamp, leaves, text
 
-OLDER, NEWER, NOT_WAITING, SELF_TARGET, NAME_TAKEN, OVERLAP = -8, -9, -7, -5, -6, -14
+OLDER, NEWER, NOT_WAITING, SELF_TARGET, NAME_TAKEN, OVERLAP, OTHER_PROCESS = -8, -9, -7, -5, -6, -14, -15
 LARGEST = 64
 
 
@@ -175,9 +176,10 @@ class Family:
                 self.refuse(name)
 
     def settle(self):
-        """Some processes fail, and each returns to the line that recline has then."""
+        """Some processes fail, and each returns to the line that recline has then: from the state that it has, if it has not failed or retired."""
         names = list(self.elements)
-        failed = ",".join(sorted(self.chance.sample(names, min(len(names), self.chance.randrange(1, 3)))))
+        crashed = sorted(self.chance.sample(names, min(len(names), self.chance.randrange(1, 3))))
+        failed = ",".join(crashed)
         reply = replies_to(self.lines + ["LINE " + failed])[-1]
         line = dict(json.loads(reply.partition(" ")[2])["line"])
         self.lines.append("SETTLE %d %s" % (len(self.lines), failed))
@@ -185,11 +187,12 @@ class Family:
         self.messages = {m: sent for m, sent in self.messages.items() if line[sent[2]] == "retired" or sent[3] < line[sent[2]]}
         self.retired = {name: gone for name, gone in self.retired.items() if line[name] == "retired" and line[gone[0]] != 0}
         late = list(self.stamps)
+        alive = [name for name in late if name not in crashed]
         self.stamps = {}
         order = [name for name, position in line.items() if position not in (0, "retired")]
         self.chance.shuffle(order)
         for name in order:
-            self.return_to(name, line[name])
+            self.return_to(name, line[name], name in alive)
             late = [other for other in late if other not in self.stamps]
             if late and self.chance.random() < 0.3:
                 # One that has not returned yet lets wait what another one hands over.
@@ -201,12 +204,18 @@ class Family:
                 self.messages[message] = events, 1, sender, count
         self.elements = {name: elements for name, elements in self.elements.items() if line[name] != 0}
 
-    def return_to(self, name, position):
+    def return_to(self, name, position, is_alive):
         stamp, number, absorbed = self.elements[name][position - 1]
         self.stamps[name], self.numbers[name], self.absorbed[name] = stamp.copy(), number, set(absorbed)
         self.epochs[name] = 1
         self.elements[name] = self.elements[name][:position]
-        self.step("return %s %s.%d 1" % (name, name, position), False)
+        if is_alive and len(self.elements) > 1 and self.chance.random() < 0.3:
+            other = self.chance.choice([other for other in self.elements if other != name])
+            self.refused("return_to %s %s.1 1" % (name, other), OTHER_PROCESS)
+        self.step("%s %s %s.%d 1" % ("return_to" if is_alive else "return", name, name, position), False)
+        if self.chance.random() < 0.3:
+            # What was kept is of an older epoch, but it has returned.
+            self.refused("return_to %s %s.%d 1" % (name, name, position), OLDER)
 
 
 def replies_to(lines):
@@ -263,6 +272,8 @@ for k in range(int(families)):
         expect("recline drive on family %d" % k, drive(family.script), family.lines)
 largest = max(len(family.elements) for family in made)
 expect("%d processes are in one family" % largest, [largest >= LARGEST or len(made) < 100], [True])
+ways = {kind: sum(step.startswith(kind + " ") for family in made for step in family.steps) for kind in ("return_to", "return")}
+expect("processes return in both ways: %s" % ways, [len(made) < 100 or min(ways.values()) > 0], [True])
 steps = "".join(step + "\n" for family in made for step in family.steps)
 for maker in makers:
     name, _, command = maker.partition("=")

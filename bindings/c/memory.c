@@ -96,11 +96,13 @@ void *__wrap_realloc(void *bytes, size_t size) {
 
 #define SMALL "process a 0 0 1;0"
 #define MIDDLE "process a 3 41 " ID ";" EVENTS
+#define LATER "process a 4 57 " SUM ";" JOINED
 
 typedef int64_t One(const char *, size_t, char *, size_t);
 typedef int64_t Two(const char *, size_t, const char *, size_t, char *, size_t);
 typedef int64_t Carving(const char *, size_t, const char *, size_t, uint8_t, char *, size_t);
 typedef int64_t Return(const char *, size_t, uint32_t, char *, size_t);
+typedef int64_t ReturnTo(const char *, size_t, const char *, size_t, uint32_t, char *, size_t);
 
 /* A call, what is handed in, and the texts that it gives or its fault. */
 typedef struct {
@@ -109,6 +111,7 @@ typedef struct {
     Two *two;
     Carving *carving;
     Return *returns;
+    ReturnTo *returns_to;
     const char *a, *b;
     uint32_t number;
     const char *texts;
@@ -119,6 +122,7 @@ typedef struct {
 #define TWO(call) .name = #call, .two = call
 #define CARVING(call) .name = #call, .carving = call
 #define RETURN(call) .name = #call, .returns = call
+#define RETURN_TO(call) .name = #call, .returns_to = call
 
 static const Call calls[] = {
     {ONE(recline_root), .a = "a", .texts = "process a 0 0 1;0\nBEGIN a\n"},
@@ -162,6 +166,7 @@ static const Call calls[] = {
         "\nABSORB@3 a 42 " SUM ";" JOINED " b\n"},
     {TWO(recline_absorb), .a = MIDDLE, .b = "retirement b 3 a " OTHER_ID ";" OTHER_EVENTS ")", .fault = RECLINE_NO_TEXT},
     {TWO(recline_absorb), .a = MIDDLE, .b = "retirement b 3 c " OTHER_ID ";" OTHER_EVENTS, .fault = RECLINE_NOT_WAITING},
+    {TWO(recline_absorb), .a = MIDDLE, .b = "retirement a 3 a " OTHER_ID ";" OTHER_EVENTS, .fault = RECLINE_NOT_WAITING},
     {TWO(recline_absorb), .a = MIDDLE, .b = "retirement b 2 a " OTHER_ID ";" OTHER_EVENTS, .fault = RECLINE_OLDER},
     {TWO(recline_absorb), .a = MIDDLE, .b = "retirement b 3 a " ID ";" OTHER_EVENTS, .fault = RECLINE_OVERLAP},
     {TWO(recline_absorb_kept), .a = "process a 3 0 (1,0);1", .b = "retirement b 0 a (0,1);2", .texts = "process a 3 1 1;2\nABSORB@3 a 1 1;2 b\n"},
@@ -169,6 +174,12 @@ static const Call calls[] = {
         "\nABSORB@3 a 42 " SUM ";" JOINED " b\n"},
     {TWO(recline_absorb_kept), .a = MIDDLE, .b = "retirement b 4 a " OTHER_ID ";" OTHER_EVENTS, .fault = RECLINE_NEWER},
     {TWO(recline_absorb_kept), .a = MIDDLE, .b = "retirement b 2 a " ID ";" OTHER_EVENTS, .fault = RECLINE_OVERLAP},
+    {RETURN_TO(recline_return_to), .a = "process a 0 2 1;3", .b = SMALL, .number = 1, .texts = "process a 1 0 1;0\n"},
+    {RETURN_TO(recline_return_to), .a = LATER, .b = MIDDLE, .number = 5, .texts = "process a 5 41 " ID ";" EVENTS "\n"},
+    {RETURN_TO(recline_return_to), .a = LATER ")", .b = MIDDLE, .number = 5, .fault = RECLINE_NO_STATE},
+    {RETURN_TO(recline_return_to), .a = LATER, .b = MIDDLE ")", .number = 5, .fault = RECLINE_NO_TEXT},
+    {RETURN_TO(recline_return_to), .a = LATER, .b = MIDDLE, .number = 4, .fault = RECLINE_OLDER},
+    {RETURN_TO(recline_return_to), .a = LATER, .b = "process b 3 41 " ID ";" EVENTS, .number = 5, .fault = RECLINE_OTHER_PROCESS},
     {RETURN(recline_returned), .a = SMALL, .number = 1, .texts = "process a 1 0 1;0\n"},
     {RETURN(recline_returned), .a = MIDDLE, .number = 5, .texts = "process a 5 41 " ID ";" EVENTS "\n"},
     {RETURN(recline_returned), .a = MIDDLE, .number = 3, .fault = RECLINE_OLDER},
@@ -179,7 +190,8 @@ static int64_t make(const Call *call, char *out, size_t room) {
     if (call->one) return call->one(call->a, a, out, room);
     if (call->two) return call->two(call->a, a, call->b, b, out, room);
     if (call->carving) return call->carving(call->a, a, call->b, b, (uint8_t)call->number, out, room);
-    return call->returns(call->a, a, call->number, out, room);
+    if (call->returns) return call->returns(call->a, a, call->number, out, room);
+    return call->returns_to(call->a, a, call->b, b, call->number, out, room);
 }
 
 static int passed, failed;

@@ -59,6 +59,9 @@ int process_fork_small(Process *process, const char *child, uint8_t depth) {
 int process_retire(Process *process, const char *target) { CALL(LINE | HANDED, recline_retire, TEXT(process->state), TEXT(target)) }
 int process_absorb(Process *process, const char *retirement) { CALL(STATE | LINE, recline_absorb, TEXT(process->state), TEXT(retirement)) }
 int process_absorb_kept(Process *process, const char *retirement) { CALL(STATE | LINE, recline_absorb_kept, TEXT(process->state), TEXT(retirement)) }
+int process_return_to(Process *process, const char *kept, uint32_t epoch) {
+    CALL(STATE, recline_return_to, TEXT(process->state), TEXT(kept), epoch)
+}
 int process_returned(Process *process, uint32_t epoch) { CALL(STATE, recline_returned, TEXT(process->state), epoch) }
 
 /* The state is read at the next call. */

@@ -6,7 +6,8 @@
  *
  * Each call answers 0, and then state is the new state, line the line of the report, and handed what is to be handed to others, where the call
  * gives these, and else null. They stay until the next call. Or it answers a fault of recline_fault, and everything stays as it was.
- * A process is restored by process_restore from a state that was kept, and let go by process_free.
+ * A process is restored by process_restore from a state that was kept, and let go by process_free. Behind a settlement it returns by
+ * process_return_to, or, where it crashed and has no state any more, by process_restore and process_returned.
  */
 #ifndef RECLINE_PROCESS_H
 #define RECLINE_PROCESS_H
@@ -35,6 +36,7 @@ int process_fork_small(Process *process, const char *child, uint8_t depth);
 int process_retire(Process *process, const char *target);
 int process_absorb(Process *process, const char *retirement);
 int process_absorb_kept(Process *process, const char *retirement);
+int process_return_to(Process *process, const char *kept, uint32_t epoch);
 int process_returned(Process *process, uint32_t epoch);
 void process_free(Process *process);
 

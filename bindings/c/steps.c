@@ -59,6 +59,7 @@ static int step(char *words[WORDS]) {
     if (!strcmp(kind, "absorb_kept")) return process_absorb_kept(p, text_of(object));
     if (!strcmp(kind, "keep")) return keep(object, p->state), process_restore(p, text_of(object));
     if (!strcmp(kind, "again")) return mark_again(p, object), process_restore(p, p->state);
+    if (!strcmp(kind, "return_to")) return process_return_to(p, text_of(object), (uint32_t)atoi(more));
     if (!strcmp(kind, "return")) return process_restore(p, text_of(object)) ? RECLINE_MEMORY : process_returned(p, (uint32_t)atoi(more));
     if (!strcmp(kind, "send")) {
         if (!(answer = process_send(p))) keep(object, p->handed);

@@ -23,7 +23,7 @@ static void expect_text(const char *what, const char *text, const char *wanted) 
 /* What stands in docs/STAMPING.md: two processes, two messages, and an end. */
 static void try_example(void) {
     Process a = {0}, b = {0};
-    char kept[RECLINE_ROOM];
+    char kept[RECLINE_ROOM], kept_b[RECLINE_ROOM];
     expect("a begins", !process_root(&a, "a"));
     expect_text("BEGIN", a.line, "BEGIN a");
     expect_text("the state of a root", a.state, "process a 0 0 1;0");
@@ -31,6 +31,7 @@ static void try_example(void) {
     expect_text("FORK", a.line, "FORK a 1 1;1 (1,0) b (0,1)");
     expect_text("the start of b", a.handed, "start b 0 (0,1);1");
     expect_text("the state of b", b.state, "process b 0 0 (0,1);1");
+    strcpy(kept_b, b.state);
     expect("a checks", !process_check(&a));
     expect_text("CHECK", a.line, "CHECK a 2 (1,0);(1,1,0)");
     strcpy(kept, a.state);
@@ -51,8 +52,16 @@ static void try_example(void) {
     expect_text("ABSORB", a.line, "ABSORB a 4 1;(6,0,1) b");
     expect("it absorbs it once", process_absorb(&a, b.handed) == RECLINE_OVERLAP);
     expect_text("what is refused changes nothing", a.line, "ABSORB a 4 1;(6,0,1) b");
-    expect("a returns to its first checkpoint", !process_restore(&a, kept) && !process_returned(&a, 1));
+    expect("a does not return to a state of b", process_return_to(&a, kept_b, 1) == RECLINE_OTHER_PROCESS);
+    expect_text("what is refused changes no state", a.state, "process a 0 4 1;(6,0,1)");
+    expect("a returns to its first checkpoint", !process_return_to(&a, kept, 1));
     expect_text("the state of a process that returned", a.state, "process a 1 2 (1,0);(1,1,0)");
+    expect_text("no line of a return", a.line, NULL);
+    expect("it returns once", process_return_to(&a, kept, 1) == RECLINE_OLDER);
+    expect_text("it stays as it returned", a.state, "process a 1 2 (1,0);(1,1,0)");
+    expect("b ended, and has no live state", process_return_to(&b, kept_b, 1) == RECLINE_NO_STATE);
+    expect("b returns to its birth", !process_restore(&b, kept_b) && !process_returned(&b, 1));
+    expect_text("the state of b that returned", b.state, "process b 1 0 (0,1);1");
     expect("a checks behind the settlement", !process_check(&a));
     expect_text("CHECK with a mark", a.line, "CHECK@1 a 3 (1,0);(1,2,0)");
     expect("a tells its present state", !process_present(&a) && !strncmp(a.line, "PRESENT@1 a 4 ", 14));
@@ -64,6 +73,11 @@ static void try_example(void) {
 static int64_t call(int64_t (*one)(const char *, size_t, const char *, size_t, char *, size_t), const char *state, const char *handed) {
     char out[RECLINE_ROOM];
     return one(state, strlen(state), handed, strlen(handed), out, sizeof out);
+}
+
+static int64_t return_to(const char *state, const char *kept, uint32_t epoch) {
+    char out[RECLINE_ROOM];
+    return recline_return_to(state, strlen(state), kept, strlen(kept), epoch, out, sizeof out);
 }
 
 static void try_faults(void) {
@@ -86,6 +100,8 @@ static void try_faults(void) {
     expect("a retirement into itself", call(recline_retire, a, "a") == RECLINE_SELF_TARGET);
     expect("a child of its own name", call(recline_fork, a, "a") == RECLINE_NAME_TAKEN);
     expect("a retirement into another one", call(recline_absorb, a, "retirement b 1 c (0,1);2") == RECLINE_NOT_WAITING);
+    expect("a retirement into itself that is absorbed", call(recline_absorb, a, "retirement a 1 a (0,1);2") == RECLINE_NOT_WAITING);
+    expect("one that was kept", call(recline_absorb_kept, a, "retirement a 0 a (0,1);2") == RECLINE_NOT_WAITING);
     expect("an older message", call(recline_receive, a, "message 0 9") == RECLINE_OLDER);
     expect("a newer message", call(recline_receive, a, "message 2 9") == RECLINE_NEWER);
     expect("an older retirement", call(recline_absorb, a, "retirement b 0 a (0,1);2") == RECLINE_OLDER);
@@ -99,6 +115,16 @@ static void try_faults(void) {
     expect("the only leaf", recline_fork_small(a, strlen(a), "b", 1, 1, out, sizeof out) == RECLINE_TOO_DEEP);
     expect("a point in common", call(recline_absorb, a, "retirement b 1 a (1,0);2") == RECLINE_OVERLAP);
     expect("the same epoch once more", recline_returned(a, strlen(a), 1, out, sizeof out) == RECLINE_OLDER);
+    expect("a return", return_to(a, "process a 0 7 1;0", 2) == 18);
+    expect("a return to a state of the same epoch", return_to(a, "process a 1 0 1;0", 2) == 18);
+    expect("a return of no process", return_to("process a", "process a", 2) == RECLINE_NO_STATE);
+    expect("a return to no process", return_to(a, "message 0 1", 2) == RECLINE_NO_TEXT);
+    expect("the epoch of the live state", return_to(a, "process a 0 0 1;0", 1) == RECLINE_OLDER);
+    expect("an epoch before that of the live state", return_to("process a 3 1 1;0", "process a 0 0 1;0", 2) == RECLINE_OLDER);
+    expect("the epoch of the state that was kept", return_to("process a 0 0 1;0", a, 1) == RECLINE_OLDER);
+    expect("an older epoch of another process", return_to(a, "process b 0 0 1;0", 1) == RECLINE_OLDER);
+    expect("another process", return_to(a, "process b 0 0 1;0", 2) == RECLINE_OTHER_PROCESS);
+    expect("a name that is longer", return_to(a, "process ab 0 0 1;0", 2) == RECLINE_OTHER_PROCESS);
 }
 
 /* Room for no byte too few, and not one byte more is written. */

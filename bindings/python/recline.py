@@ -12,8 +12,8 @@ Each call is one step. A call that reports answers the line of its report. A cal
 import ctypes
 import os
 
-MEMORY, NO_STATE, NO_TEXT, NO_NAME, SELF_TARGET, NAME_TAKEN, NOT_WAITING, OLDER, NEWER, WORN, NOTHING_OWNED, CLOCK_FULL, TOO_DEEP, OVERLAP = range(
-    -1, -15, -1)
+(MEMORY, NO_STATE, NO_TEXT, NO_NAME, SELF_TARGET, NAME_TAKEN, NOT_WAITING, OLDER, NEWER, WORN, NOTHING_OWNED, CLOCK_FULL, TOO_DEEP, OVERLAP,
+ OTHER_PROCESS) = range(-1, -16, -1)
 
 # `build` beside this file makes the library.
 library = ctypes.CDLL(os.environ.get("RECLINE_LIBRARY") or os.path.join(os.path.dirname(os.path.abspath(__file__)), "librecline.so"))
@@ -100,6 +100,11 @@ class Process:
         """Absorbs a retirement of this epoch; or, where it is kept, of an older one, too: the line of each settlement since has it at "retired"."""
         return self.step("absorb_kept" if kept else "absorb", retirement)[0]
 
+    def return_to(self, kept, epoch):
+        """Returns to this state, which was kept at its position in the line of the settlement of this epoch."""
+        self.step("return_to", kept, ctypes.c_uint32(epoch))
+
     def returned(self, epoch):
-        """Goes on from this state, which was kept at its position in the line of the settlement of this epoch."""
+        """The same where the process crashed and was made of that state. Whether it had returned to a later settlement by then is the
+        caller's to know."""
         self.step("returned", ctypes.c_uint32(epoch))

@@ -32,6 +32,8 @@ def step(kind, name, *words):
         texts[words[0]] = processes[name].state
     elif kind == "again":
         texts[words[0]] = "message %s %s" % (processes[name].state.split()[2], texts[words[0]].split()[2])
+    elif kind == "return_to":
+        processes[name].return_to(texts[words[0]], int(words[1]))
     elif kind == "return":
         processes[name] = Process(texts[words[0]])
         processes[name].returned(int(words[1]))

@@ -67,6 +67,10 @@ impl Family {
                 let events = self.texts[object].rsplit(' ').next().unwrap_or_default().to_string();
                 self.texts.insert(object.into(), format!("message {epoch} {events}"));
             }
+            "return_to" => {
+                let kept = self.texts[object].clone();
+                self.process(name).return_to(&kept, words[3].parse().expect("an epoch is a number"))?;
+            }
             "return" => {
                 let mut process = Process::restored(&self.texts[object]);
                 process.returned(words[3].parse().expect("an epoch is a number"))?;

@@ -27,7 +27,7 @@ pub enum Fault {
     Memory = -1,
     /// The state is the text of no process.
     NoState = -2,
-    /// What was handed over is the text of no message, no start or no retirement, whichever the call takes.
+    /// What was handed over is the text of no message, start, retirement or process, whichever the call takes.
     NoText = -3,
     /// It is no name.
     NoName = -4,
@@ -35,7 +35,7 @@ pub enum Fault {
     SelfTarget = -5,
     /// The child is to have the name of the process.
     NameTaken = -6,
-    /// The retirement is into another process.
+    /// The retirement is into another process, or this one's own.
     NotWaiting = -7,
     /// It is of an older epoch, so it may be undone: a message is dropped; `absorb_kept` takes a retirement that was kept.
     Older = -8,
@@ -51,9 +51,11 @@ pub enum Fault {
     TooDeep = -13,
     /// The process and the retired one own a point in common.
     Overlap = -14,
+    /// The state that was kept is another process's.
+    OtherProcess = -15,
 }
 
-const FAULTS: [Fault; 14] = [
+const FAULTS: [Fault; 15] = [
     Fault::Memory,
     Fault::NoState,
     Fault::NoText,
@@ -68,6 +70,7 @@ const FAULTS: [Fault; 14] = [
     Fault::ClockFull,
     Fault::TooDeep,
     Fault::Overlap,
+    Fault::OtherProcess,
 ];
 
 impl fmt::Display for Fault {
@@ -190,7 +193,14 @@ impl Process {
         Ok(line)
     }
 
-    /// Goes on from this state, which was kept at its position in the line of the settlement of this epoch.
+    /// Returns to this state, which was kept at its position in the line of the settlement of this epoch.
+    pub fn return_to(&mut self, kept: &str, epoch: u32) -> Result<(), Fault> {
+        let [_] = self.becomes(texts(|out| sys::return_to(&self.state, kept, epoch, out))?);
+        Ok(())
+    }
+
+    /// The same where the process crashed and was restored from that state. Whether it had returned to a later settlement by then is the caller's to
+    /// know.
     pub fn returned(&mut self, epoch: u32) -> Result<(), Fault> {
         let [_] = self.becomes(texts(|out| sys::returned(&self.state, epoch, out))?);
         Ok(())

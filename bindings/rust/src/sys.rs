@@ -13,6 +13,7 @@ extern "C" {
     fn recline_retire(state: *const u8, state_len: usize, target: *const u8, target_len: usize, out: *mut u8, out_len: usize) -> i64;
     fn recline_absorb(state: *const u8, state_len: usize, retirement: *const u8, retirement_len: usize, out: *mut u8, out_len: usize) -> i64;
     fn recline_absorb_kept(state: *const u8, state_len: usize, retirement: *const u8, retirement_len: usize, out: *mut u8, out_len: usize) -> i64;
+    fn recline_return_to(state: *const u8, state_len: usize, kept: *const u8, kept_len: usize, epoch: u32, out: *mut u8, out_len: usize) -> i64;
     fn recline_returned(state: *const u8, state_len: usize, epoch: u32, out: *mut u8, out_len: usize) -> i64;
 }
 
@@ -74,6 +75,11 @@ pub fn absorb(state: &str, retirement: &str, out: &mut [u8]) -> i64 {
 pub fn absorb_kept(state: &str, retirement: &str, out: &mut [u8]) -> i64 {
     // SAFETY: recline.h asks for pointers that are not null, each to as many bytes as the length behind it says, of which none is also out's.
     unsafe { recline_absorb_kept(state.as_ptr(), state.len(), retirement.as_ptr(), retirement.len(), out.as_mut_ptr(), out.len()) }
+}
+
+pub fn return_to(state: &str, kept: &str, epoch: u32, out: &mut [u8]) -> i64 {
+    // SAFETY: recline.h asks for pointers that are not null, each to as many bytes as the length behind it says, of which none is also out's.
+    unsafe { recline_return_to(state.as_ptr(), state.len(), kept.as_ptr(), kept.len(), epoch, out.as_mut_ptr(), out.len()) }
 }
 
 pub fn returned(state: &str, epoch: u32, out: &mut [u8]) -> i64 {

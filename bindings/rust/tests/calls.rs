@@ -22,8 +22,15 @@ fn example() -> Result<(), Fault> {
     assert_eq!(a.absorb(&retirement)?, "ABSORB a 4 1;(6,0,1) b");
     assert_eq!(a.absorb(&retirement), Err(Fault::Overlap));
     assert_eq!(b.check(), Err(Fault::NoState));
-    let mut a = Process::restored(&kept);
-    a.returned(1)?;
+    let live = a.clone();
+    assert_eq!(a.return_to("process b 0 0 (0,1);1", 1), Err(Fault::OtherProcess));
+    assert_eq!(a, live);
+    a.return_to(&kept, 1)?;
+    assert_eq!(a.state(), "process a 1 2 (1,0);(1,1,0)");
+    assert_eq!(a.return_to(&kept, 1), Err(Fault::Older));
+    let mut crashed = Process::restored(&kept);
+    crashed.returned(1)?;
+    assert_eq!(crashed, a);
     a.work()?;
     assert_eq!(a.present()?, "PRESENT@1 a 3 (1,0);(1,3,0)");
     assert_eq!(a.absorb(&retirement), Err(Fault::Older));
@@ -43,7 +50,13 @@ fn faults_change_nothing() {
     assert_eq!(a.retire("a"), Err(Fault::SelfTarget));
     assert_eq!(a.receive("message 1 9"), Err(Fault::Newer));
     assert_eq!(a.absorb("retirement b 0 c (0,1);2"), Err(Fault::NotWaiting));
+    assert_eq!(a.absorb("retirement a 0 a (0,1);2"), Err(Fault::NotWaiting));
     assert_eq!(a.returned(0), Err(Fault::Older));
+    assert_eq!(a.return_to("message 0 1", 1), Err(Fault::NoText));
+    assert_eq!(a.return_to("process a 0 0 1;0", 0), Err(Fault::Older));
+    assert_eq!(a.return_to("process a 1 0 1;0", 1), Err(Fault::Older));
+    assert_eq!(a.return_to("process b 0 0 1;0", 0), Err(Fault::Older));
+    assert_eq!(a.return_to("process b 0 0 1;0", 1), Err(Fault::OtherProcess));
     assert_eq!(a.state(), state);
 }
 

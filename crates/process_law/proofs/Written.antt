@@ -1,5 +1,5 @@
 -- The account of every kind of call but a return, step by step.
-use Rattle.std.proofs.Common.{◌≡◌, ◌≢◌, ℕ, ◌+◌, ◌≤◌, ◌<◌, min, max, true, false, Some, List, [], ◌∷◌, inl, inr, refl, subst, arith}
+use Rattle.std.proofs.Common.{◌≡◌, ◌≢◌, ℕ, ◌+◌, ◌≤◌, ◌<◌, min, max, true, false, Some, List, [], ◌∷◌, inl, inr, refl, sym, subst, arith}
 use Rattle.std.specs.Prelude.{Contains, IsTrue, ◌==◌, ◌^◌, ⊤}
 use Rattle.id_tree.specs.IdTree.{IdTree, Zero, One}
 use Rattle.id_tree.specs.NormalForm.{IsId}

@@ -11,7 +11,7 @@ use Rattle.report_line.specs.StepReports.{report_of, reporting_steps}
 use Rattle.process.specs.declared.process.Process.{Process}
 use Rattle.process.specs.declared.handed.Message.{Message}
 use Rattle.process.specs.declared.handed.Retirement.{Retirement}
-use Rattle.process_law.specs.Accounts.{Act, Work, Send, Receive, Check, Present, Fork, Begin, Retire, Absorb, Return, Doing, IsDone, deed_of}
+use Rattle.process_law.specs.Accounts.{Act, Send, Receive, Fork, Absorb, Doing, IsDone, deed_of}
 use Rattle.process_law.specs.Handing.{stamp_of, goes_on}
 use Rattle.process_law.specs.Obeying.{line_given}
 

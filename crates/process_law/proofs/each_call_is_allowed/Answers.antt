@@ -7,7 +7,6 @@ use Rattle.report_line.specs.Lawful.{IsAllowed}
 use Rattle.report_line.specs.StepReports.{report_of}
 use Rattle.process.specs.declared.process.Process.{Process}
 use Rattle.process_law.specs.Accounts.{Doing, IsDone, deed_of}
-use Rattle.process_law.specs.Handing.{goes_on}
 use Rattle.process_law.specs.Obeying.{line_given}
 use Rattle.process_law.specs.EachCall.{LivesAs, step_of, IsFrom, IsTold, IsAllowedCall}
 use Rattle.process_law.proofs.Calls.{goes_on_is}

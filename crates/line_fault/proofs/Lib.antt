@@ -1,0 +1,10 @@
+pub mod Samples
+pub mod FitLists
+pub mod KindWords
+pub mod ShapedCalls
+pub mod Walks
+pub mod Named
+pub mod MarkedWords
+pub mod Pieces
+pub mod Lines
+pub mod Streamed

@@ -1,0 +1,7 @@
+pub mod Begun
+pub mod Wanting
+pub mod Reasons
+pub mod Answers
+pub mod Words
+pub mod Shapes
+pub mod Streams

@@ -1,0 +1,4 @@
+pub mod Cuts
+pub mod Earlier
+pub mod Facts
+pub mod Walks

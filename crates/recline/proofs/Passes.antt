@@ -13,7 +13,7 @@ use Rattle.session.specs.Ends.{IsReadAt, HaveGone}
 use Rattle.session.specs.Sessions.{WasServed}
 use Rattle.recline.specs.Serving.{AreOfSessions, AreServed, IsOfSession, dropped_in, drops}
 
-read_as_told : {K : Type 0} (told : K → LinkState) (link : K) (n : ℕ) (earlier : List ℕ) (turned : List Exchange) → IsReadAt told link n earlier turned → IsReadAt (λ (s : LinkState). s) (told link) n earlier turned
+pub read_as_told : {K : Type 0} (told : K → LinkState) (link : K) (n : ℕ) (earlier : List ℕ) (turned : List Exchange) → IsReadAt told link n earlier turned → IsReadAt (λ (s : LinkState). s) (told link) n earlier turned
 read_as_told told link n earlier turned r =
     record {
       reading = told r.reading;
@@ -29,7 +29,7 @@ read_as_told told link n earlier turned r =
       is_open = r.is_open;
     }
 
-gone_as_told : {K : Type 0} (told : K → LinkState) (link : K) (earlier : List Exchange) → HaveGone told link earlier → HaveGone (λ (s : LinkState). s) (told link) earlier
+pub gone_as_told : {K : Type 0} (told : K → LinkState) (link : K) (earlier : List Exchange) → HaveGone told link earlier → HaveGone (λ (s : LinkState). s) (told link) earlier
 gone_as_told told link earlier g = record { moment = told g.moment; written = g.written; nothing_waits = g.nothing_waits; sound = g.sound }
 
 -- what is said of a link is so of what it tells

@@ -7,7 +7,7 @@ use Rattle.session.specs.SessionText.{most_reads}
 use Rattle.recline.specs.Checking.{IsReadWhole}
 use Rattle.recline.specs.Driving.{OnlyReads, ReadsAll, WritesPart}
 
-consumes_then : (a b c : Option (List ℕ)) (x y : List ℕ) → Consumes a b x → Consumes b c y → Consumes a c (x ++ y)
+pub consumes_then : (a b c : Option (List ℕ)) (x y : List ℕ) → Consumes a b x → Consumes b c y → Consumes a c (x ++ y)
 consumes_then None b c x y p q = tt
 consumes_then (Some xs) None c x y p q = absurd p
 consumes_then (Some xs) (Some ys) None x y p q = absurd q

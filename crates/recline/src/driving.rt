@@ -9,8 +9,8 @@ use client_link::{Link, LinkFault};
 use script::{End, drive};
 use std::alloc::Global;
 
-/// How many reads a script takes at most.
-const MOST_READS: u64 = 1_048_576;
+/// How many reads a script, a certificate or a stream of lines takes at most.
+pub(crate) const MOST_READS: u64 = 1_048_576;
 
 /// Why a script was not read.
 pub(crate) enum Unread {

@@ -1,17 +1,25 @@
 //! The command `run`, which is one session with a client over a record file, the command `serve`, which serves many over one, the command
-//! `check`, which checks a certificate over one, and the commands `drive` and `draw`, which stamp the steps of a script and draw them.
+//! `check`, which checks a certificate over one, the commands `line` and `garbage`, which ask one question over the bytes of one, the commands
+//! `drive` and `draw`, which stamp the steps of a script and draw them, and the command `explain`, which says of lines what they are.
 #![tactic(auto)]
 
+mod asked;
+mod asking;
 mod checking;
 mod drawing;
 mod driving;
+mod earlier;
+mod explaining;
 mod running;
 mod serving;
 mod telling;
 
+pub use asking::{Question, ask_on};
 pub use checking::check_on;
 pub use drawing::draw_on;
 pub use driving::drive_on;
+pub use earlier::at_front;
+pub use explaining::explain_on;
 pub use running::{run_handing_on, run_on, run_over};
 pub use serving::{Service, serve_on};
 pub use session::HandOn;

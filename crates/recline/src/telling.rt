@@ -3,6 +3,8 @@
 ghost use Rattle.std.specs.Prelude.{◌≡◌};
 ghost use Rattle.std.specs.List.{flat_map};
 ghost use Rattle.desk.specs.declared.fault.DeskFault.TheVariants as opening;
+ghost use Rattle.earlier_file.specs.declared.fault.EarlierFault.TheVariants as early;
+ghost use Rattle.recline.specs.Earlier.{earlier_fault_line};
 ghost use Rattle.recline.specs.Outcome.{Tells, open_fault_line};
 ghost use Rattle.recline.specs.Driving.{Writes, script_fault};
 
@@ -56,7 +58,7 @@ pub(crate) fn tell<F: Link>(faults: &mut F, line: &[u8])
 }
 
 /// Tells that behind the open gate of the record of this number no whole record lies in the file.
-fn tell_damaged<F: Link>(faults: &mut F, number: usize)
+pub(crate) fn tell_damaged<F: Link>(faults: &mut F, number: usize)
     ensures { Tells (F.told faults.old) (F.told faults.new) (open_fault_line (opening.Damaged number)) }
 {
     let mut digits = Buffer::new();
@@ -64,6 +66,21 @@ fn tell_damaged<F: Link>(faults: &mut F, number: usize)
         faults,
         &[
             b"recline: damaged ".as_slice(),
+            digits.format(number).as_bytes(),
+            b"\n".as_slice(),
+        ],
+    )
+}
+
+/// Tells that the file has only so many records.
+pub(crate) fn tell_short<F: Link>(faults: &mut F, number: usize)
+    ensures { Tells (F.told faults.old) (F.told faults.new) (earlier_fault_line (early.Short number)) }
+{
+    let mut digits = Buffer::new();
+    tell_all(
+        faults,
+        &[
+            b"recline: short ".as_slice(),
             digits.format(number).as_bytes(),
             b"\n".as_slice(),
         ],

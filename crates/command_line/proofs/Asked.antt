@@ -1,5 +1,5 @@
 -- What words that a parse refuses for nothing ask for.
-use Rattle.std.proofs.Common.{◌≡◌, ◌≢◌, Bool, ℕ, true, false, is_some, Option, Some, None, List, [], ◌∷◌, refl, subst, ap, codes, fold, true≢false, sym, ◌∙◌, ◌⊎◌, inl, inr}
+use Rattle.std.proofs.Common.{◌≡◌, Bool, ℕ, true, false, is_some, Option, Some, None, List, [], ◌∷◌, refl, subst, ap, codes, fold, true≢false, sym, ◌∙◌, inl, inr}
 use Rattle.std.specs.Str.{bytes_eq}
 use Rattle.std.specs.Option.{option_map_or}
 use Rattle.std.proofs.lemmas.Slice.Eq.{bytes_eq-Decides}
@@ -9,23 +9,21 @@ use Rattle.std.proofs.lemmas.Result.{IfOk-weaker}
 use Rattle.clap.specs.Kinds.{FailsBy, HasKind, Kinds, or_else}
 use Rattle.clap.specs.declared.error.Error.{Error}
 use Rattle.command_line.specs.declared.args.Command.{Command}
-use Rattle.clap.specs.Walk.{Held, Names, Outcome, Row, Rule, Step, Text, Waiting, Walk, after_flag, after_step, arg_by_index, arg_by_long, bundle, done, finished, first_of, idle, long_met, long_or_other, next, nothing_held, option, plain, plain_word, positional, refused, rows_after, short_or_plain, subcommand, subcommand_met, subcommand_or_other, to_positional, trailing, value, waits, walk, walk_from, walked, walked_from, word_met}
-use Rattle.clap.specs.Simple.{App, Shape, argument_words, built, entered, names_of}
+use Rattle.clap.specs.Walk.{Held, Names, Outcome, Row, Rule, Step, Text, Waiting, Walk, after_flag, after_step, answers_to, arg_by_index, arg_by_long, bundle, done, finished, idle, long_met, long_or_other, next, nothing_held, option, plain, plain_word, positional, refused, rows_after, short_or_plain, subcommand, subcommand_met, subcommand_or_other, to_positional, trailing, value, waits, walk, walk_from, walked, walked_from, word_met}
+use Rattle.clap.specs.Simple.{App, Shape, argument_words, built, entered, label_of, names_of, rows_at}
 use Rattle.clap.specs.Faults.{check_fault, entered_fault, fault_of, is_simple_and_free, level_fault, other_fault, settle_fault, turn_fault, walk_fault, word_fault}
 use Rattle.clap.specs.Simple.{HasMatchesOf, subcommand_of, subcommand_rows, subcommand_rows_of}
-use Rattle.clap.specs.Matches.{first_value, found_of, subcommand_name_of}
-use Rattle.clap.specs.Walk.{rows_of}
+use Rattle.clap.specs.Matches.{subcommand_name_of}
 use Rattle.clap.specs.declared.parser.matches.ArgMatches.{ArgMatches}
 use Rattle.clap.specs.declared.parser.matches.ArgMatches.TheViews.{out-ArgMatches, out-SubCommand}
 use Rattle.clap.specs.declared.parser.matches.SubCommand.{SubCommand}
-use Rattle.clap.proofs.WalkLemmas.{first_value-rows}
-use Rattle.std.specs.Prelude.{option_map, Box, if◌then◌else◌}
+use Rattle.std.specs.Prelude.{◌||◌, option_map, find, Box}
+use Rattle.std.specs.List.{list_all}
 use Rattle.std.specs.Box.{box_value}
-use Rattle.std.specs.Borrow.{Bor}
-use Rattle.command_line.specs.declared.args.Command.TheVariants as commands
-use Rattle.command_line.specs.Arguments.{AsksFor, IsServe, Selects, number_refusals, parse_refusals, program, refusals, value_refusals}
-use Rattle.command_line.proofs.Commands.{checking, checking_wants, drawing, drawing_wants, driving, driving_wants, running, running_wants, serving, serving_wants}
-use Rattle.command_line.proofs.Given.{HasAll, Wants, all_given}
+use Rattle.command_line.specs.Arguments.{AsksFor, Selects, parse_refusals, program, refusals, value_refusals}
+use Rattle.command_line.specs.Parts.{HasWanted, IsAnswer, is_command, wanted_by}
+use Rattle.command_line.proofs.Given.{wanted_first, wants}
+use Rattle.command_line.proofs.Lists.{all_among, all_found, found, or_passes}
 
 none_first : (a b : Kinds) → or_else a b ≡ [] → a ≡ []
 none_first [] b e = refl
@@ -129,90 +127,84 @@ wanted : (rows : List Row) (has : Bool) → check_fault (built program).top rows
 wanted rows true none = refl
 wanted rows false none = cc
 
--- and but for `help` there is one of these; the words behind it have the rows of its walk, and faults of their own
-abbrev Enters : Shape → Text → Option (Text × List Text) → Type 0
-Enters s name stop =
-    (given : List Text) × (entered (built program) stop ≡ Some (name, rows_after s.rules [] given)) × (entered_fault (built program) stop ≡ level_fault s [] nothing_held given false [])
+-- ---- what is entered, of a program whose commands have one name each
 
-abbrev EntersOne : Option (Text × List Text) → Type 0
-EntersOne stop =
-    Enters running (codes "run") stop
-    ⊎ (Enters serving (codes "serve") stop ⊎ (Enters checking (codes "check") stop ⊎ (Enters driving (codes "drive") stop ⊎ Enters drawing (codes "draw") stop)))
+abbrev has_none : List Text → Bool
+has_none [] = true
+has_none (x ∷ xs) = false
 
-one_entered : (stop : Option (Text × List Text)) → is_help stop ≡ false → is_some (entered (built program) stop) ≡ true → EntersOne stop
-one_entered None other some = absurd (true≢false (sym some))
-one_entered (Some p) other some =
-    go (bytes_eq (codes "run") p.0) (bytes_eq (codes "serve") p.0) (bytes_eq (codes "check") p.0) (bytes_eq (codes "drive") p.0) (bytes_eq (codes "draw") p.0) (bytes_eq (codes "help") p.0)
-    refl refl refl refl refl refl
+abbrev by_word : Text → Shape → Bool
+by_word word s = answers_to word (label_of s)
+
+-- each command passes the test, and so may `help`
+abbrev IsPassed : App → (Shape → Bool) → Type 0
+IsPassed a test = list_all (λ s. bytes_eq s.name (codes "help") || test s) a.subs ≡ true
+
+-- What was entered is a command, and the words behind its name pass its last check.
+record Enters (a : App) (stop : Option (Text × List Text)) : Type 0 where
+  shape : Shape
+  given : List Text
+  is : entered a stop ≡ Some (shape.name, rows_after shape.rules [] given)
+  is_one : (test : Shape → Bool) → IsPassed a test → test shape ≡ true
+  checked : check_fault shape (rows_after shape.rules [] given) false ≡ []
+
+first_name : (name word : Text) (aliases : List Text) → has_none aliases ≡ true → answers_to word (name, aliases) ≡ true → name ≡ word
+first_name name word [] none answers = go (bytes_eq name word) refl answers
   where
-    ran : bytes_eq (codes "run") p.0 ≡ true → Enters running (codes "run") (Some p)
-    ran r = rw r (p.1, refl, refl)
+    go : (t : Bool) → bytes_eq name word ≡ t → (t || false) ≡ true → name ≡ word
+    go true e some = (bytes_eq-Decides name word).0 e
+    go false e some = absurd (true≢false (sym some))
+first_name name word (x ∷ xs) none answers = absurd (true≢false (sym none))
 
-    served : bytes_eq (codes "run") p.0 ≡ false → bytes_eq (codes "serve") p.0 ≡ true → Enters serving (codes "serve") (Some p)
-    served r s = rw (r, s) (p.1, refl, refl)
+entering : (a : App) (stop : Option (Text × List Text)) → list_all (λ s. has_none s.aliases) a.subs ≡ true → is_help stop ≡ false → is_some (entered a stop) ≡ true → entered_fault a stop ≡ []
+    → Enters a stop
+entering a None one_name other some none = absurd (true≢false (sym some))
+entering a (Some p) one_name other some none = go (find (by_word p.0) a.subs) refl some none
+  where
+    one : (s : Shape) → find (by_word p.0) a.subs ≡ Some s → (test : Shape → Bool) → IsPassed a test → test s ≡ true
+    one s e test all =
+        let same : s.name ≡ p.0 = first_name s.name p.0 s.aliases (all_found (λ s. has_none s.aliases) (by_word p.0) a.subs s one_name e) (found (by_word p.0) a.subs s e) in
+        or_passes (bytes_eq s.name (codes "help")) (test s) (all_found (λ s. bytes_eq s.name (codes "help") || test s) (by_word p.0) a.subs s all e)
+        (subst (λ (t : Text). bytes_eq t (codes "help") ≡ false) (sym same) other)
 
-    checked : bytes_eq (codes "run") p.0 ≡ false → bytes_eq (codes "serve") p.0 ≡ false → bytes_eq (codes "check") p.0 ≡ true → Enters checking (codes "check") (Some p)
-    checked r s c = rw (r, s, c) (p.1, refl, refl)
-
-    drove : bytes_eq (codes "run") p.0 ≡ false → bytes_eq (codes "serve") p.0 ≡ false → bytes_eq (codes "check") p.0 ≡ false → bytes_eq (codes "drive") p.0 ≡ true
-        → Enters driving (codes "drive") (Some p)
-    drove r s c d = rw (r, s, c, d) (p.1, refl, refl)
-
-    drew : bytes_eq (codes "run") p.0 ≡ false → bytes_eq (codes "serve") p.0 ≡ false → bytes_eq (codes "check") p.0 ≡ false → bytes_eq (codes "drive") p.0 ≡ false
-        → bytes_eq (codes "draw") p.0 ≡ true → Enters drawing (codes "draw") (Some p)
-    drew r s c d w = rw (r, s, c, d, w) (p.1, refl, refl)
-
-    go : (run serve check drive draw help : Bool) → bytes_eq (codes "run") p.0 ≡ run → bytes_eq (codes "serve") p.0 ≡ serve → bytes_eq (codes "check") p.0 ≡ check
-        → bytes_eq (codes "drive") p.0 ≡ drive → bytes_eq (codes "draw") p.0 ≡ draw → bytes_eq (codes "help") p.0 ≡ help → EntersOne (Some p)
-    go true serve check drive draw help r s c d w h = inl (ran r)
-    go false true check drive draw help r s c d w h = inr (inl (served r s))
-    go false false true drive draw help r s c d w h = inr (inr (inl (checked r s c)))
-    go false false false true draw help r s c d w h = inr (inr (inr (inl (drove r s c d))))
-    go false false false false true help r s c d w h = inr (inr (inr (inr (drew r s c d w))))
-    go false false false false false true r s c d w h = let same = (bytes_eq-Decides (codes "help") p.0).0 h in absurd (true≢false (rw (← same) at other))
-    go false false false false false false r s c d w h = absurd (true≢false (sym (rw (r, s, c, d, w, h) at some)))
+    go : (o : Option Shape) → find (by_word p.0) a.subs ≡ o → is_some (option_map (λ s. rows_at s p.1) o) ≡ true
+        → option_map_or (λ s. level_fault s [] nothing_held p.1 false []) o [] ≡ [] → Enters a (Some p)
+    go None e found none = absurd (true≢false (sym found))
+    go (Some s) e found none = record {
+      shape = s;
+      given = p.1;
+      is = ap (option_map (λ s. rows_at s p.1)) e;
+      is_one = one s e;
+      checked = (level_passes s [] nothing_held p.1 false [] none).2;
+    }
 
 -- what was parsed as `program` was refused for nothing
 pub taken : (made : App) (words : List Text) → made ≡ program → (is_simple_and_free made ≡ true → fault_of made words ≡ []) → parse_refusals words ≡ []
 taken made words same parsed = subst (λ (a : App). is_simple_and_free a ≡ true → fault_of a words ≡ []) same parsed refl
 
--- what a command wants
-abbrev pub wanted_by : Text → List Text
-wanted_by name =
-    if bytes_eq name (codes "run") then [] else if bytes_eq name (codes "serve") then codes "FILE" ∷ []
-    else if bytes_eq name (codes "check") then codes "FILE" ∷ codes "CERT" ∷ [] else codes "SCRIPT" ∷ []
-
-abbrev pub IsCommand : Text → Type 0
-IsCommand name = (name ≡ codes "run") ⊎ ((name ≡ codes "serve") ⊎ ((name ≡ codes "check") ⊎ ((name ≡ codes "drive") ⊎ (name ≡ codes "draw"))))
-
--- The words name the command of this name, whose rows have all that it wants.
-pub record AsksForOne (words : List Text) : Type 0 where
-  pub name : Text
-  pub is_one : IsCommand name
-  pub rows : List Row
+-- The words name the command of this name, whose own words gave these values.
+pub record IsNamed (words : List Text) (name : Text) (rows : List Row) : Type 0 where
   pub selects : Selects words name rows
-  pub values : HasAll (wanted_by name) rows
+  pub one : is_command name ≡ true
+  pub full : HasWanted name rows
 
-behind_name : (words : List Text) (s : Shape) (name : Text) (stop : Option (Text × List Text)) → parse_refusals words ≡ [] → subcommand_of program words ≡ entered (built program) stop → IsCommand name
-    → Wants s (wanted_by name) → Enters s name stop → entered_fault (built program) stop ≡ [] → AsksForOne words
-behind_name words s name stop none is one wants enters passed =
-    let below = level_passes s [] nothing_held enters.0 false [] (sym enters.2 ∙ passed) in
-    record { name = name; is_one = one; rows = rows_after s.rules [] enters.0; selects = (none, is ∙ enters.1); values = all_given s enters.0 (wanted_by name) wants below.2 }
-
-pub asks_for_one : (words : List Text) → parse_refusals words ≡ [] → AsksForOne words
-asks_for_one words none =
+names_one : (words : List Text) → parse_refusals words ≡ [] → (name : Text) × (rows : List Row) × IsNamed words name rows
+names_one words none =
     let made = built program in
     let given = argument_words program words in
     let end = walk made.top.rules (names_of made) nothing_held given in
-    let has = is_some (entered made end.stopped) in
-    let passes = level_passes made.top (names_of made) nothing_held given has (entered_fault made end.stopped) none in
-    elim (one_entered end.stopped (walk_stops made.top (names_of made) (walk_from nothing_held) given refl passes.0 refl) (wanted (finished made.top.rules end.held) _ passes.2)) [
-      | inl run ↦ behind_name words running (codes "run") end.stopped none refl (inl refl) running_wants run passes.1
-      | inr (inl serve) ↦ behind_name words serving (codes "serve") end.stopped none refl (inr (inl refl)) serving_wants serve passes.1
-      | inr (inr (inl check)) ↦ behind_name words checking (codes "check") end.stopped none refl (inr (inr (inl refl))) checking_wants check passes.1
-      | inr (inr (inr (inl drive))) ↦ behind_name words driving (codes "drive") end.stopped none refl (inr (inr (inr (inl refl)))) driving_wants drive passes.1
-      | inr (inr (inr (inr draw))) ↦ behind_name words drawing (codes "draw") end.stopped none refl (inr (inr (inr (inr refl)))) drawing_wants draw passes.1
-    ]
+    let passes = level_passes made.top (names_of made) nothing_held given (is_some (entered made end.stopped)) (entered_fault made end.stopped) none in
+    let stops = walk_stops made.top (names_of made) (walk_from nothing_held) given refl passes.0 refl in
+    let enters = entering made end.stopped refl stops (wanted (finished made.top.rules end.held) _ passes.2) passes.1 in
+    let s = enters.shape in (
+      s.name,
+      rows_after s.rules [] enters.given,
+      record {
+        selects = (none, enters.is);
+        one = enters.is_one (λ s. is_command s.name) refl;
+        full = λ key is. wanted_first s enters.given key (all_among (wants s) (wanted_by s.name) key (enters.is_one (λ s. list_all (wants s) (wanted_by s.name)) refl) is) enters.checked;
+      },
+    )
 
 -- ---- what a parse tells of them
 
@@ -234,112 +226,28 @@ name_in_rows m = name_in (out-ArgMatches m).subcommand
 named : (words : List Text) (m : ArgMatches) (name : Text) (rows : List Row) → Tells words m → Selects words name rows → subcommand_name_of m ≡ Some name
 named words m name rows told selects = name_in_rows m ∙ ap (option_map (λ p. p.0)) (told ∙ selects.1)
 
--- some command is named
-pub one_is_named : (words : List Text) (m : ArgMatches) → parse_refusals words ≡ [] → Tells words m → subcommand_name_of m ≢ Some (codes "run") → subcommand_name_of m ≢ Some (codes "serve") → subcommand_name_of m ≢ Some (codes "check")
-    → subcommand_name_of m ≢ Some (codes "drive") → subcommand_name_of m ≢ Some (codes "draw") → ⊥
-one_is_named words m none told not_run not_serve not_check not_drive not_draw =
-    let one = asks_for_one words none in
-    let is = named words m one.name one.rows told one.selects in
-    elim one.is_one [
-      | inl e ↦ not_run (is ∙ ap Some e)
-      | inr (inl e) ↦ not_serve (is ∙ ap Some e)
-      | inr (inr (inl e)) ↦ not_check (is ∙ ap Some e)
-      | inr (inr (inr (inl e))) ↦ not_drive (is ∙ ap Some e)
-      | inr (inr (inr (inr e))) ↦ not_draw (is ∙ ap Some e)
-    ]
-
 same_name : (x y : Text) → Some x ≡ Some y → x ≡ y
 same_name x y e = cc
 
 same_rows : (xs ys : List Row) → Some xs ≡ Some ys → xs ≡ ys
 same_rows xs ys e = cc
 
--- the rows of the command of this name, which d has
-pub record IsOf (words : List Text) (m d : ArgMatches) (name : Text) : Type 0 where
-  pub none : parse_refusals words ≡ []
-  pub told : Tells words m
-  pub name_is : subcommand_name_of m ≡ Some name
-  pub rows_are : option_map (λ p. p.1) (subcommand_rows_of m) ≡ Some (rows_of (found_of d))
+pub is_named : (made : App) (words : List Text) (m : ArgMatches) (name : Text) (rows : List Row) → made ≡ program → (is_simple_and_free made ≡ true → fault_of made words ≡ []) → HasMatchesOf made words m
+    → Some name ≡ subcommand_name_of m → Some rows ≡ option_map (λ p. p.1) (subcommand_rows_of m) → IsNamed words name rows
+is_named made words m name rows same parsed has name_is rows_are =
+    let one = names_one words (taken made words same parsed) in
+    let told = tells made words m same has in
+    let same_command : one.0 ≡ name = same_name one.0 name (sym (named words m one.0 one.1 told one.2.selects) ∙ sym name_is) in
+    let same_values : one.1 ≡ rows = same_rows one.1 rows (sym (ap (option_map (λ p. p.1)) (told ∙ one.2.selects.1)) ∙ sym rows_are) in
+    subst (λ (t : Text). IsNamed words t rows) same_command (subst (λ (r : List Row). IsNamed words one.0 r) same_values one.2)
 
-pub is_of : (made : App) (words : List Text) (m d : ArgMatches) (name : Text) → made ≡ program → (is_simple_and_free made ≡ true → fault_of made words ≡ []) → HasMatchesOf made words m
-    → subcommand_name_of m ≡ Some name → option_map (λ p. p.1) (subcommand_rows_of m) ≡ Some (rows_of (found_of d)) → IsOf words m d name
-is_of made words m d name same parsed has name_is rows_are = record { none = taken made words same parsed; told = tells made words m same has; name_is = name_is; rows_are = rows_are }
+-- ---- what `read_args` answers
 
--- d has all that the command wants
-abbrev HasWanted : List Text → ArgMatches → Text → Type 0
-HasWanted words d name = Selects words name (rows_of (found_of d)) × HasAll (wanted_by name) (rows_of (found_of d))
+pub asks_for : (words : List Text) (name : Text) (rows : List Row) (answer : Result Command Error) → IsNamed words name rows → IsAnswer name rows answer → IfOk answer (AsksFor words)
+asks_for words name rows answer h is = IfOk-weaker answer _ _ (λ command has. (rows, subst (λ (t : Text). Selects words t rows) (sym has.0) h.selects, has.1)) is.0
 
-pub has_wanted : (words : List Text) (m d : ArgMatches) (name : Text) → IsOf words m d name → HasWanted words d name
-has_wanted words m d name h =
-    let one = asks_for_one words h.none in
-    let same_command : one.name ≡ name = same_name one.name name (sym (named words m one.name one.rows h.told one.selects) ∙ h.name_is) in
-    let same : one.rows ≡ rows_of (found_of d) = same_rows one.rows (rows_of (found_of d)) (sym (ap (option_map (λ p. p.1)) (h.told ∙ one.selects.1)) ∙ h.rows_are) in
-    let there = subst (λ (rows : List Row). Selects words one.name rows × HasAll (wanted_by one.name) rows) same (one.selects, one.values) in
-    subst (λ (t : Text). HasWanted words d t) same_command there
-
-no_value : (o : Option (Bor Text)) (v : Option Text) (text : Text) → option_map (λ s. s.now) o ≡ v → v ≡ Some text → o ≢ None
-no_value None v text is some none = absurd (text_is (is ∙ some))
-  where
-    text_is : None ≡ Some text → ⊥
-    text_is e = cc
-no_value (Some s) v text is some none = cc
-
--- what has a value is not missing
-pub is_there : (d : ArgMatches) (key : Text) (o : Option (Bor Text)) → (v : Text) × (first_of key (rows_of (found_of d)) ≡ Some v) → option_map (λ s. s.now) o ≡ first_value (found_of d) key → o ≢ None
-is_there d key o has is = no_value o _ has.0 is (first_value-rows (found_of d) key ∙ has.1)
-
--- a value of the rows
-value_in : (d : ArgMatches) (key : Text) (v : Option Text) → v ≡ first_value (found_of d) key → first_of key (rows_of (found_of d)) ≡ v
-value_in d key v is = sym (first_value-rows (found_of d) key) ∙ sym is
-
-pub asks_for_run : (words : List Text) (m d : ArgMatches) (file : Option (Bor Text)) → IsOf words m d (codes "run") → option_map (λ s. s.now) file ≡ first_value (found_of d) (codes "FILE")
-    → AsksFor words (commands.Run file)
-asks_for_run words m d file h is = (rows_of (found_of d), (has_wanted words m d (codes "run") h).0, value_in d (codes "FILE") _ is)
-
-pub asks_for_check : (words : List Text) (m d : ArgMatches) (file certificate : Bor Text) → IsOf words m d (codes "check") → Some file.now ≡ first_value (found_of d) (codes "FILE")
-    → Some certificate.now ≡ first_value (found_of d) (codes "CERT") → AsksFor words (commands.Check file certificate)
-asks_for_check words m d file certificate h file_is certificate_is =
-    (rows_of (found_of d), (has_wanted words m d (codes "check") h).0, value_in d (codes "FILE") _ file_is, value_in d (codes "CERT") _ certificate_is)
-
-pub asks_for_drive : (words : List Text) (m d : ArgMatches) (script : Bor Text) → IsOf words m d (codes "drive") → Some script.now ≡ first_value (found_of d) (codes "SCRIPT")
-    → AsksFor words (commands.Drive script)
-asks_for_drive words m d script h is = (rows_of (found_of d), (has_wanted words m d (codes "drive") h).0, value_in d (codes "SCRIPT") _ is)
-
-pub asks_for_draw : (words : List Text) (m d : ArgMatches) (script : Bor Text) (failed : Option (Bor Text)) → IsOf words m d (codes "draw")
-    → Some script.now ≡ first_value (found_of d) (codes "SCRIPT") → option_map (λ s. s.now) failed ≡ first_value (found_of d) (codes "failed") → AsksFor words (commands.Draw script failed)
-asks_for_draw words m d script failed h is failed_is =
-    (rows_of (found_of d), (has_wanted words m d (codes "draw") h).0, value_in d (codes "SCRIPT") _ is, value_in d (codes "failed") _ failed_is)
-
--- a command without numbers is refused by the parse alone
-pub other_refusals : (words : List Text) (m d : ArgMatches) (name : Text) → IsOf words m d name → bytes_eq name (codes "serve") ≡ false → refusals words ≡ []
-other_refusals words m d name h other =
-    let is = (has_wanted words m d name h).0 in
-    rw (is.0, is.1, other) refl
-
-pub serve_refusals : (words : List Text) (m d : ArgMatches) → IsOf words m d (codes "serve") → refusals words ≡ number_refusals (rows_of (found_of d))
-serve_refusals words m d h =
-    let is = (has_wanted words m d (codes "serve") h).0 in
-    rw (is.0, is.1) refl
-
--- what `serve` answers
-pub serve_fails : {T : Type 0} (words : List Text) (m d : ArgMatches) (r : Result T Error) → IsOf words m d (codes "serve") → FailsBy (number_refusals (rows_of (found_of d))) r → FailsBy (refusals words) r
-serve_fails words m d r h fails = subst (λ (k : Kinds). FailsBy k r) (sym (serve_refusals words m d h)) fails
-
-pub asks_for_serve : (words : List Text) (m d : ArgMatches) (r : Result Command Error) → IsOf words m d (codes "serve") → IfOk r (IsServe (rows_of (found_of d))) → IfOk r (AsksFor words)
-asks_for_serve words m d r h is = IfOk-weaker r _ _ (λ command serves. go command serves) is
-  where
-    go : (command : Command) → IsServe (rows_of (found_of d)) command → AsksFor words command
-    go (commands.Serve file port sessions workers seconds) serves = (rows_of (found_of d), (has_wanted words m d (codes "serve") h).0, serves)
-    go (commands.Run file) serves = absurd serves
-    go (commands.Check file certificate) serves = absurd serves
-    go (commands.Drive script) serves = absurd serves
-    go (commands.Draw script failed) serves = absurd serves
-
--- its file has a value
-pub serve_file : (words : List Text) (m d : ArgMatches) → IsOf words m d (codes "serve") → is_some (first_value (found_of d) (codes "FILE")) ≡ true
-serve_file words m d h =
-    let there = (has_wanted words m d (codes "serve") h).1.0 in
-    ap is_some (sym (value_in d (codes "FILE") _ refl) ∙ there.1)
+pub fails_by : (words : List Text) (name : Text) (rows : List Row) (answer : Result Command Error) → IsNamed words name rows → IsAnswer name rows answer → FailsBy (refusals words) answer
+fails_by words name rows answer h is = rw (h.selects.0, h.selects.1) is.1
 
 -- what was parsed as `program` was refused by one of its kinds
 pub parse_refused : (made : App) (words : List Text) (e : Error) → made ≡ program → (is_simple_and_free made ≡ true → HasKind (fault_of made words) e) → HasKind (parse_refusals words) e

@@ -1,74 +1,16 @@
--- The commands, as they are built, and what each wants.
-use Rattle.std.proofs.Common.{◌≡◌, Bool, true, false, List, [], ◌∷◌, refl, codes}
-use Rattle.std.specs.Prelude.{slice_get, unwrap_or}
-use Rattle.clap.specs.Simple.{Shape, built, help_shape}
-use Rattle.clap.specs.Faults.{check_fault}
-use Rattle.clap.specs.Takes.{is_given}
-use Rattle.clap.specs.Walk.{Row}
-use Rattle.command_line.specs.Arguments.{program}
-use Rattle.command_line.proofs.Given.{Wants}
+-- How the program is put together.
+use Rattle.std.proofs.Common.{◌≡◌, false, ap, ap₂, ◌∙◌}
+use Rattle.clap.specs.Built.{AddsArg, AddsSubcommand}
+use Rattle.clap.specs.Simple.{App, app_of, with_rule, with_subcommand}
+use Rattle.clap.specs.Walk.{Rule, rule_of}
+use Rattle.clap.specs.declared.builder.arg.Arg.{Arg}
+use Rattle.clap.specs.declared.builder.command.Command.{Command as Made}
+use Rattle.command_line.specs.Parts.{IsLocal}
 
-abbrev pub running : Shape
-running = unwrap_or (slice_get (built program).subs 0) help_shape
+-- one command more
+pub joined : {old sub new : Made} {above command : App} → AddsSubcommand old sub new → IsLocal sub → app_of old ≡ above → app_of sub ≡ command → app_of new ≡ with_subcommand above command.top
+joined adds local old_is sub_is = adds.shape local ∙ ap₂ with_subcommand old_is (ap (λ (a : App). a.top) sub_is)
 
-abbrev pub serving : Shape
-serving = unwrap_or (slice_get (built program).subs 1) help_shape
-
-abbrev pub checking : Shape
-checking = unwrap_or (slice_get (built program).subs 2) help_shape
-
-abbrev pub driving : Shape
-driving = unwrap_or (slice_get (built program).subs 3) help_shape
-
-abbrev pub drawing : Shape
-drawing = unwrap_or (slice_get (built program).subs 4) help_shape
-
-pub running_wants : Wants running []
-running_wants = record { flags = tt; given = λ rows none. tt }
-
-pub serving_wants : Wants serving (codes "FILE" ∷ [])
-serving_wants = record { flags = (refl, tt); given = λ rows none. (file rows none, tt) }
-  where
-    file : (rows : List Row) → check_fault serving rows false ≡ [] → is_given (codes "FILE") rows ≡ true
-    file rows none = go (is_given (codes "FILE") rows) refl
-      where
-        go : (t : Bool) → is_given (codes "FILE") rows ≡ t → is_given (codes "FILE") rows ≡ true
-        go true e = e
-        go false e = (let bad = rw e at none in absurd (cc))
-
-pub checking_wants : Wants checking (codes "FILE" ∷ codes "CERT" ∷ [])
-checking_wants = record { flags = (refl, (refl, tt)); given = λ rows none. (file rows none, (certificate rows none, tt)) }
-  where
-    file : (rows : List Row) → check_fault checking rows false ≡ [] → is_given (codes "FILE") rows ≡ true
-    file rows none = go (is_given (codes "FILE") rows) refl
-      where
-        go : (t : Bool) → is_given (codes "FILE") rows ≡ t → is_given (codes "FILE") rows ≡ true
-        go true e = e
-        go false e = (let bad = rw e at none in absurd (cc))
-
-    certificate : (rows : List Row) → check_fault checking rows false ≡ [] → is_given (codes "CERT") rows ≡ true
-    certificate rows none = go (is_given (codes "CERT") rows) refl
-      where
-        go : (t : Bool) → is_given (codes "CERT") rows ≡ t → is_given (codes "CERT") rows ≡ true
-        go true e = e
-        go false e = (let bad = rw (file rows none, e) at none in absurd (cc))
-
-pub driving_wants : Wants driving (codes "SCRIPT" ∷ [])
-driving_wants = record { flags = (refl, tt); given = λ rows none. (script rows none, tt) }
-  where
-    script : (rows : List Row) → check_fault driving rows false ≡ [] → is_given (codes "SCRIPT") rows ≡ true
-    script rows none = go (is_given (codes "SCRIPT") rows) refl
-      where
-        go : (t : Bool) → is_given (codes "SCRIPT") rows ≡ t → is_given (codes "SCRIPT") rows ≡ true
-        go true e = e
-        go false e = (let bad = rw e at none in absurd (cc))
-
-pub drawing_wants : Wants drawing (codes "SCRIPT" ∷ [])
-drawing_wants = record { flags = (refl, tt); given = λ rows none. (script rows none, tt) }
-  where
-    script : (rows : List Row) → check_fault drawing rows false ≡ [] → is_given (codes "SCRIPT") rows ≡ true
-    script rows none = go (is_given (codes "SCRIPT") rows) refl
-      where
-        go : (t : Bool) → is_given (codes "SCRIPT") rows ≡ t → is_given (codes "SCRIPT") rows ≡ true
-        go true e = e
-        go false e = (let bad = rw e at none in absurd (cc))
+-- one argument more
+pub argued : {old new : Made} {a : Arg} {app : App} {r : Rule} → AddsArg old a new → a.global ≡ false → app_of old ≡ app → rule_of a ≡ r → app_of new ≡ with_rule app r
+argued adds local old_is rule_is = adds.shape local ∙ ap₂ with_rule old_is rule_is

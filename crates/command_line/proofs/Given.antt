@@ -1,43 +1,24 @@
 -- Words behind a command that wants arguments, which are refused for nothing, have them.
-use Rattle.std.proofs.Common.{◌≡◌, ◌<◌, Bool, ℕ, zero, suc, true, false, Option, Some, None, List, [], ◌∷◌, ◌++◌, length, refl, sym, ◌∙◌, subst, fold, true≢false, arith}
+use Rattle.std.proofs.Common.{◌≡◌, ◌<◌, Bool, ℕ, zero, suc, true, false, Option, Some, None, List, [], ◌∷◌, ◌++◌, length, refl, sym, ap, ◌∙◌, subst, fold, true≢false, arith, ◌⊎◌, inl, inr}
 use Rattle.std.specs.Prelude.{◌&&◌, ◌||◌, ◌+◌, min, not, is_some, find, slice_get, if◌then◌else◌}
-use Rattle.std.specs.List.{list_all}
+use Rattle.std.specs.List.{list_all, list_any}
 use Rattle.std.specs.Str.{bytes_eq}
 use Rattle.std.proofs.lemmas.List.{length-append}
 use Rattle.std.proofs.lemmas.Slice.Eq.{bytes_eq-Decides}
 use Rattle.clap.specs.Lexer.{long_of, short_of}
+use Rattle.clap.specs.Facts.{explicit_source}
 use Rattle.clap.specs.Matches.{count_text}
 use Rattle.clap.specs.Walk.{Held, Outcome, Row, Rule, Step, Text, Waiting, Walk, action_of, after_flag, after_step, arg_by_id, arg_by_index, arg_by_long, arg_by_short, at_row, attached_value, bundle_met, bundle_step, count_of, counted, default_rows, done, first_of, flag_met, has_long, has_row, has_short, idle, is_pending, long_met, long_or_other, more_values, new_count, next, nothing_held, option, option_met, option_word, plain, plain_word, positional, positional_held, pushed, reacted, reading_by, refused, rows_after, settled, settled_rows, short_met, short_or_plain, started, subcommand, subcommand_met, subcommand_or_other, takes_several, takes_values, to_positional, trailing, used, used_as, used_by_id, value, values_or_missing, waits, walk_from, walked, walked_from, with_count, with_default, with_values, without, word_met}
 use Rattle.clap.specs.Simple.{Shape}
 use Rattle.clap.specs.Takes.{is_given}
 use Rattle.clap.specs.Faults.{check_fault}
+use Rattle.clap.specs.Kinds.{check_kinds}
 use Rattle.clap.specs.declared.builder.action.ArgAction.{ArgAction}
 use Rattle.clap.specs.declared.builder.action.ArgAction.TheVariants as actions
 use Rattle.clap.specs.declared.parser.matches.ValueSource.{ValueSource}
 use Rattle.clap.specs.declared.parser.matches.ValueSource.TheVariants.{CommandLine, DefaultValue}
 use Rattle.clap.specs.declared.builder.value_parser.Reading.{Reading}
-
--- ---- what is found
-
-found : (p : Rule → Bool) (c : List Rule) (a : Rule) → find p c ≡ Some a → p a ≡ true
-found p [] a is = absurd (cc)
-found p (x ∷ c) a is = go (p x) refl (found p c a)
-  where
-    go : (t : Bool) → p x ≡ t → (find p c ≡ Some a → p a ≡ true) → p a ≡ true
-    go true e later = (let same : Some x ≡ Some a = rw e at is in let one : x ≡ a = cc in rw (← one) e)
-    go false e later = later (rw e at is)
-
-both : (s t : Bool) → (s && t) ≡ true → (s ≡ true) × (t ≡ true)
-both true t e = (refl, e)
-both false t e = absurd (true≢false (sym e))
-
-all_found : (q p : Rule → Bool) (c : List Rule) (a : Rule) → list_all q c ≡ true → find p c ≡ Some a → q a ≡ true
-all_found q p [] a all is = absurd (cc)
-all_found q p (x ∷ c) a all is = (let parts = both (q x) (list_all q c) all in go (p x) refl parts.0 (all_found q p c a parts.1))
-  where
-    go : (t : Bool) → p x ≡ t → q x ≡ true → (find p c ≡ Some a → q a ≡ true) → q a ≡ true
-    go true e here later = (let same : Some x ≡ Some a = rw e at is in let one : x ≡ a = cc in rw (← one) here)
-    go false e here later = later (rw e at is)
+use Rattle.command_line.proofs.Lists.{all_found, both, found}
 
 other_by : (i t b : Bool) → (not i && t) ≡ true → (i || not b) ≡ true → b ≡ false
 other_by true t b e f = absurd (true≢false (sym e))
@@ -305,30 +286,49 @@ module _ (key : Text) (c : List Rule) (flags : has_other_flags key c ≡ true) w
   pub first_given : (words : List Text) → is_given key (rows_after c [] words) ≡ true → (v : Text) × (first_of key (rows_after c [] words) ≡ Some v)
   first_given words given = given_first (rows_after c [] words) (full_rows words) given
 
--- ---- the values of all keys that a command wants
+-- ---- the value of an argument that the command wants
 
--- only positional arguments have these keys for their ids
-abbrev pub AreNoFlags : List Text → List Rule → Type 0
-AreNoFlags [] c = Unit {0}
-AreNoFlags (key ∷ keys) c = (has_other_flags key c ≡ true) × AreNoFlags keys c
+-- the command wants the argument of this key, which is no flag
+abbrev pub wants : Shape → Text → Bool
+wants s key = list_any (λ a. a.required && bytes_eq a.id key) s.rules && has_other_flags key s.rules
 
-abbrev pub AreGiven : List Text → List Row → Type 0
-AreGiven [] rows = Unit {0}
-AreGiven (key ∷ keys) rows = (is_given key rows ≡ true) × AreGiven keys rows
+abbrev is_missing : List Row → Rule → Bool
+is_missing rows a = a.required && not (is_given a.id rows)
 
--- the rows have a value for each of these keys
-abbrev pub HasAll : List Text → List Row → Type 0
-HasAll [] rows = Unit {0}
-HasAll (key ∷ keys) rows = ((v : Text) × (first_of key rows ≡ Some v)) × HasAll keys rows
+last_check : (n h c missing : Bool) → check_kinds h c (not (n && false) && missing) ≡ [] → missing ≡ false
+last_check n h c false e = refl
+last_check true true c true e = absurd (cc)
+last_check false true c true e = absurd (cc)
+last_check true false true true e = absurd (cc)
+last_check false false true true e = absurd (cc)
+last_check true false false true e = absurd (cc)
+last_check false false false true e = absurd (cc)
 
--- The command refuses words without these arguments.
-pub record Wants (s : Shape) (keys : List Text) : Type 0 where
-  pub flags : AreNoFlags keys s.rules
-  pub given : (rows : List Row) → check_fault s rows false ≡ [] → AreGiven keys rows
+none_missing : (s : Shape) (rows : List Row) → check_fault s rows false ≡ [] → list_any (is_missing rows) s.rules ≡ false
+none_missing s rows none =
+    last_check s.subcommand_negates_reqs (s.arg_required_else_help && not (list_any (λ r. explicit_source r.source) rows)) s.subcommand_required (list_any (is_missing rows) s.rules) none
 
-each_given : (c : List Rule) (words keys : List Text) → AreNoFlags keys c → AreGiven keys (rows_after c [] words) → HasAll keys (rows_after c [] words)
-each_given c words [] flags given = tt
-each_given c words (key ∷ keys) flags given = (first_given key c flags.0 words given.0, each_given c words keys flags.1 given.1)
+missing_step : (r g rest : Bool) → ((r && not g) || rest) ≡ false → (rest ≡ false) × (r ≡ true → g ≡ true)
+missing_step true true rest e = (e, λ r. refl)
+missing_step true false rest e = absurd (true≢false e)
+missing_step false g rest e = (e, λ r. absurd (true≢false (sym r)))
 
-pub all_given : (s : Shape) (words keys : List Text) → Wants s keys → check_fault s (rows_after s.rules [] words) false ≡ [] → HasAll keys (rows_after s.rules [] words)
-all_given s words keys wants none = each_given s.rules words keys wants.flags (wants.given (rows_after s.rules [] words) none)
+some_step : (r i rest : Bool) → ((r && i) || rest) ≡ true → ((r ≡ true) × (i ≡ true)) ⊎ (rest ≡ true)
+some_step true true rest e = inl (refl, refl)
+some_step true false rest e = inr e
+some_step false i rest e = inr e
+
+wanted_given : (rows : List Row) (rules : List Rule) (key : Text) → list_any (is_missing rows) rules ≡ false → list_any (λ a. a.required && bytes_eq a.id key) rules ≡ true → is_given key rows ≡ true
+wanted_given rows [] key none some = absurd (true≢false (sym some))
+wanted_given rows (a ∷ rules) key none some =
+    let here = missing_step a.required (is_given a.id rows) (list_any (is_missing rows) rules) none in
+    elim (some_step a.required (bytes_eq a.id key) (list_any (λ a. a.required && bytes_eq a.id key) rules) some) [
+      | inl is ↦ subst (λ (t : Text). is_given t rows ≡ true) ((bytes_eq-Decides a.id key).0 is.1) (here.1 is.0)
+      | inr later ↦ wanted_given rows rules key here.0 later
+    ]
+
+pub wanted_first : (s : Shape) (words : List Text) (key : Text) → wants s key ≡ true → check_fault s (rows_after s.rules [] words) false ≡ [] → is_some (first_of key (rows_after s.rules [] words)) ≡ true
+wanted_first s words key wanted none =
+    let parts = both (list_any (λ a. a.required && bytes_eq a.id key) s.rules) (has_other_flags key s.rules) wanted in
+    let rows = rows_after s.rules [] words in
+    ap is_some (first_given key s.rules parts.1 words (wanted_given rows s.rules key (none_missing s rows none) parts.0)).1

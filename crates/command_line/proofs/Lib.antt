@@ -1,4 +1,5 @@
 mod Asked
 mod Commands
 mod Given
+mod Lists
 mod Numbers

@@ -1,20 +1,17 @@
 -- The numbers of the command `serve`.
-use Rattle.std.proofs.Common.{◌≡◌, Bool, ℕ, true, false, Option, Some, None, [], ◌∷◌, refl, sym, subst, codes, true≢false}
+use Rattle.std.proofs.Common.{◌≡◌, Bool, ℕ, true, false, Option, Some, None, List, [], ◌∷◌, refl, sym, subst, codes, true≢false}
 use Rattle.std.specs.Prelude.{◌&&◌, IfNone, if◌then◌else◌}
 use Rattle.std.specs.Borrow.{Bor}
 use Rattle.clap.specs.Kinds.{HasKind, Kinds}
-use Rattle.clap.specs.Matches.{first_value}
-use Rattle.clap.specs.Walk.{Text, first_of, rows_of}
+use Rattle.clap.specs.Walk.{Row, Text, first_of}
 use Rattle.clap.specs.Values.{IsUnsignedIn}
 use Rattle.clap.specs.ValueTests.{is_unsigned_in}
 use Rattle.clap.specs.declared.error.Error.{Error}
 use Rattle.clap.specs.declared.error.kind.ErrorKind.TheVariants as kinds
-use Rattle.clap.specs.declared.parser.matches.Found.{Found}
 use Rattle.clap.specs.declared.builder.value_parser.ValueParser.TheVariants as vp
 use Rattle.clap.proofs.ValueTestLemmas.{accepts-Accepts, Accepts-accepts}
-use Rattle.clap.proofs.WalkLemmas.{first_value-rows}
 use Rattle.command_line.specs.declared.args.Command.TheVariants as commands
-use Rattle.command_line.specs.Arguments.{IsNumber, IsServe, MayBeNumber, has_number, may_have_number, number_refusals}
+use Rattle.command_line.specs.Arguments.{HasValues, IsNumber, MayBeNumber, has_number, may_have_number, value_refusals}
 
 -- a text that is no number within the limits, by the test
 no_number : (least most : ℕ) (text : Text) → (IsUnsignedIn least most text → ⊥) → is_unsigned_in least most text ≡ false
@@ -38,7 +35,7 @@ number_there : (least most n : ℕ) (value : Option Text) → IsNumber least mos
 number_there least most n (Some text) is = Accepts-accepts false (vp.Unsigned least most) text is.0
 number_there least most n None is = absurd is
 
-may_there : (least most : ℕ) (o : Option ℕ) (value : Option Text) → MayBeNumber least most o value → may_have_number least most value ≡ true
+pub may_there : (least most : ℕ) (o : Option ℕ) (value : Option Text) → MayBeNumber least most o value → may_have_number least most value ≡ true
 may_there least most (Some n) (Some text) is = Accepts-accepts false (vp.Unsigned least most) text is.0
 may_there least most (Some n) None is = refl
 may_there least most None value is = subst (λ (v : Option Text). may_have_number least most v ≡ true) (sym is) refl
@@ -76,51 +73,38 @@ by_idle false s w false e is has = has
 by_none : (p s w i : Bool) → p ≡ true → s ≡ true → w ≡ true → i ≡ true → kinds_by p s w i ≡ []
 by_none p s w i e f g h = rw (e, f, g, h) refl
 
--- ---- over what was found
+-- ---- over the values that were read
 
-module _ (f : Found) where
+module _ (rows : List Row) where
   abbrev has_port : Bool
-  has_port = has_number 0 65535 (first_of (codes "port") (rows_of f))
+  has_port = has_number 0 65535 (first_of (codes "port") rows)
 
   abbrev has_sessions : Bool
-  has_sessions = has_number 1 4096 (first_of (codes "sessions") (rows_of f))
+  has_sessions = has_number 1 4096 (first_of (codes "sessions") rows)
 
   abbrev has_workers : Bool
-  has_workers = has_number 1 64 (first_of (codes "workers") (rows_of f))
+  has_workers = has_number 1 64 (first_of (codes "workers") rows)
 
   abbrev may_have_idle : Bool
-  may_have_idle = may_have_number 1 4294967295 (first_of (codes "idle") (rows_of f))
+  may_have_idle = may_have_number 1 4294967295 (first_of (codes "idle") rows)
 
-  in_rows : (key : Text) (P : Option Text → Type 0) → P (first_value f key) → P (first_of key (rows_of f))
-  in_rows key P here = subst P (first_value-rows f key) here
+  abbrev Fails : Error → Type 0
+  Fails e = HasKind (value_refusals (Some (codes "serve", rows))) e
 
-  pub no_port : (e : Error) → has_number 0 65535 (first_value f (codes "port")) ≡ false → IsValueFault e → HasKind (number_refusals (rows_of f)) e
-  no_port e none has = by_port has_port has_sessions has_workers may_have_idle e (in_rows (codes "port") (λ v. has_number 0 65535 v ≡ false) none) has
+  pub no_port : (e : Error) → has_port ≡ false → IsValueFault e → Fails e
+  no_port e none has = by_port has_port has_sessions has_workers may_have_idle e none has
 
-  pub no_sessions : (e : Error) → has_number 1 4096 (first_value f (codes "sessions")) ≡ false → IsValueFault e → HasKind (number_refusals (rows_of f)) e
-  no_sessions e none has = by_sessions has_port has_sessions has_workers may_have_idle e (in_rows (codes "sessions") (λ v. has_number 1 4096 v ≡ false) none) has
+  pub no_sessions : (e : Error) → has_sessions ≡ false → IsValueFault e → Fails e
+  no_sessions e none has = by_sessions has_port has_sessions has_workers may_have_idle e none has
 
-  pub no_workers : (e : Error) → has_number 1 64 (first_value f (codes "workers")) ≡ false → IsValueFault e → HasKind (number_refusals (rows_of f)) e
-  no_workers e none has = by_workers has_port has_sessions has_workers may_have_idle e (in_rows (codes "workers") (λ v. has_number 1 64 v ≡ false) none) has
+  pub no_workers : (e : Error) → has_workers ≡ false → IsValueFault e → Fails e
+  no_workers e none has = by_workers has_port has_sessions has_workers may_have_idle e none has
 
-  pub no_idle : (e : Error) → may_have_number 1 4294967295 (first_value f (codes "idle")) ≡ false → IsValueFault e → HasKind (number_refusals (rows_of f)) e
-  no_idle e none has = by_idle has_port has_sessions has_workers may_have_idle e (in_rows (codes "idle") (λ v. may_have_number 1 4294967295 v ≡ false) none) has
+  pub no_idle : (e : Error) → may_have_idle ≡ false → IsValueFault e → Fails e
+  no_idle e none has = by_idle has_port has_sessions has_workers may_have_idle e none has
 
-  module _ (port sessions workers : ℕ) (idle : Option ℕ) (port_is : IsNumber 0 65535 port (first_value f (codes "port")))
-      (sessions_is : IsNumber 1 4096 sessions (first_value f (codes "sessions"))) (workers_is : IsNumber 1 64 workers (first_value f (codes "workers")))
-      (idle_is : MayBeNumber 1 4294967295 idle (first_value f (codes "idle"))) where
-    pub all_numbers : number_refusals (rows_of f) ≡ []
-    all_numbers =
-        by_none has_port has_sessions has_workers may_have_idle (in_rows (codes "port") (λ v. has_number 0 65535 v ≡ true) (number_there 0 65535 port _ port_is))
-        (in_rows (codes "sessions") (λ v. has_number 1 4096 v ≡ true) (number_there 1 4096 sessions _ sessions_is))
-        (in_rows (codes "workers") (λ v. has_number 1 64 v ≡ true) (number_there 1 64 workers _ workers_is))
-        (in_rows (codes "idle") (λ v. may_have_number 1 4294967295 v ≡ true) (may_there 1 4294967295 idle _ idle_is))
-
-    pub serve_is : (file : Bor Text) → Some file.now ≡ first_value f (codes "FILE") → IsServe (rows_of f) (commands.Serve file port sessions workers idle)
-    serve_is file file_is = (
-      sym (in_rows (codes "FILE") (λ v. Some file.now ≡ v) file_is),
-      in_rows (codes "port") (IsNumber 0 65535 port) port_is,
-      in_rows (codes "sessions") (IsNumber 1 4096 sessions) sessions_is,
-      in_rows (codes "workers") (IsNumber 1 64 workers) workers_is,
-      in_rows (codes "idle") (MayBeNumber 1 4294967295 idle) idle_is,
-    )
+  pub all_numbers : (file : Bor Text) (port sessions workers : ℕ) (idle : Option ℕ) → HasValues rows (commands.Serve file port sessions workers idle)
+      → value_refusals (Some (codes "serve", rows)) ≡ []
+  all_numbers file port sessions workers idle has =
+      by_none has_port has_sessions has_workers may_have_idle (number_there 0 65535 port _ has.1) (number_there 1 4096 sessions _ has.2) (number_there 1 64 workers _ has.3)
+      (may_there 1 4294967295 idle _ has.4)

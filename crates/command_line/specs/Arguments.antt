@@ -1,6 +1,7 @@
 -- What the words of a command line ask for, in the terms of `clap`. The first word is the one that the program was called
 -- by.
-use Rattle.std.specs.Prelude.{◌≡◌, ◌&&◌, ℕ, Bool, true, false, List, [], ◌∷◌, Option, Some, None, codes, option_map, if◌then◌else◌}
+use Rattle.std.specs.Prelude.{◌≡◌, ◌&&◌, ℕ, Bool, true, false, List, [], ◌∷◌, fold, Option, Some, None, codes, option_map, if◌then◌else◌}
+use Rattle.std.specs.List.{list_any}
 use Rattle.std.specs.Str.{bytes_eq}
 use Rattle.std.specs.Option.{option_map_or}
 use Rattle.std.specs.Str.Parse.{digits_value, without_leading_plus}
@@ -9,22 +10,12 @@ use Rattle.clap.specs.Kinds.{or_else}
 use Rattle.clap.specs.ValueTests.{is_unsigned_in}
 use Rattle.clap.specs.declared.error.kind.ErrorKind.TheVariants as kinds
 use Rattle.clap.specs.Simple.{on_top}
-use Rattle.clap.specs.declared.builder.command.Command.{Command as Made}
-use Rattle.clap.specs.declared.builder.command.Command.TheViews.{out-Command}
 use Rattle.command_line.specs.declared.args.Command.{Command}
 use Rattle.command_line.specs.declared.args.Command.TheVariants as commands
 
--- the command `run`, which may be given the path of a record file
-abbrev pub run : App
-run = with_rule (new_app (codes "run")) (new_rule (codes "FILE"))
-
--- a path that is wanted
+-- an argument that is one word, and is wanted
 abbrev pub wanted_rule : Text → Rule
 wanted_rule key = record (new_rule key) { required = true }
-
--- the command `check`, which takes the paths of a record file and of a certificate
-abbrev pub check : App
-check = with_rule (with_rule (new_app (codes "check")) (wanted_rule (codes "FILE"))) (wanted_rule (codes "CERT"))
 
 -- an option of this name, which takes one value
 abbrev pub option_rule : Text → Rule
@@ -34,35 +25,66 @@ option_rule key = record (new_rule key) { long = Some key; value_names = 1 }
 abbrev pub wanted_option : Text → Rule
 wanted_option key = record (new_rule key) { long = Some key; value_names = 1; required = true }
 
+-- how many of the first records count
+abbrev pub front_rule : Rule
+front_rule = option_rule (codes "at")
+
+-- the command of this name, with these arguments
+abbrev pub command_with : Text → List Rule → App
+command_with name rules = fold with_rule (new_app name) rules
+
+-- the command `run`, which may be given the path of a record file
+abbrev pub run : App
+run = command_with (codes "run") (new_rule (codes "FILE") ∷ [])
+
 -- the command `serve` with what it wants: the path of a record file, a port, and how many sessions and workers
 abbrev pub serve_wants : App
 serve_wants =
-    with_rule (with_rule (with_rule (with_rule (new_app (codes "serve")) (wanted_rule (codes "FILE"))) (wanted_option (codes "port"))) (wanted_option (codes "sessions")))
-    (wanted_option (codes "workers"))
+    command_with (codes "serve") (wanted_rule (codes "FILE") ∷ wanted_option (codes "port") ∷ wanted_option (codes "sessions") ∷ wanted_option (codes "workers") ∷ [])
 
 -- and it may be given how long a client may be silent
 abbrev pub serve : App
 serve = with_rule serve_wants (option_rule (codes "idle"))
 
+-- the command `check`, which takes the paths of a record file and of a certificate, and may be given a front
+abbrev pub check : App
+check = command_with (codes "check") (wanted_rule (codes "FILE") ∷ wanted_rule (codes "CERT") ∷ front_rule ∷ [])
+
+-- the command `line`, which takes the path of a record file and the names of the processes that failed
+abbrev pub line : App
+line = command_with (codes "line") (wanted_rule (codes "FILE") ∷ wanted_rule (codes "NAMES") ∷ front_rule ∷ [])
+
+-- the command `garbage`, which takes the path of a record file
+abbrev pub garbage : App
+garbage = command_with (codes "garbage") (wanted_rule (codes "FILE") ∷ front_rule ∷ [])
+
+-- the command `explain`, which may be given a line
+abbrev pub explain : App
+explain = command_with (codes "explain") (new_rule (codes "LINE") ∷ [])
+
 -- the command `drive`, which takes the path of a script
 abbrev pub drive : App
-drive = with_rule (new_app (codes "drive")) (wanted_rule (codes "SCRIPT"))
+drive = command_with (codes "drive") (wanted_rule (codes "SCRIPT") ∷ [])
 
--- the option `--failed`, with the names of the processes that failed
-abbrev pub failed_rule : Rule
-failed_rule = option_rule (codes "failed")
-
--- the command `draw`, which takes the path of a script, and may be given names
+-- the command `draw`, which takes the path of a script, and may be given the names of the processes that failed
 abbrev pub draw : App
-draw = with_rule (with_rule (new_app (codes "draw")) (wanted_rule (codes "SCRIPT"))) failed_rule
+draw = command_with (codes "draw") (wanted_rule (codes "SCRIPT") ∷ option_rule (codes "failed") ∷ [])
 
 -- the program by itself: it has a version, and one of its commands is wanted
 abbrev pub alone : App
 alone = on_top (λ s. record s { has_version = true; subcommand_required = true }) (new_app (codes "recline"))
 
+-- a program with these commands behind those that it has
+abbrev pub with_commands : App → List App → App
+with_commands above more = fold (λ a c. with_subcommand a c.top) above more
+
+-- the commands, as the help has them
+abbrev pub each_command : List App
+each_command = run ∷ serve ∷ check ∷ line ∷ garbage ∷ explain ∷ drive ∷ draw ∷ []
+
 -- the program with its commands
 abbrev pub program : App
-program = with_subcommand (with_subcommand (with_subcommand (with_subcommand (with_subcommand alone run.top) serve.top) check.top) drive.top) draw.top
+program = with_commands alone each_command
 
 -- the kinds of refusal that the parse of the words may give, none where it takes them; help and the version are refusals, too
 abbrev pub parse_refusals : List Text → Kinds
@@ -77,17 +99,26 @@ abbrev pub may_have_number : ℕ → ℕ → Option Text → Bool
 may_have_number least most value = option_map_or (is_unsigned_in least most) value true
 
 -- the numbers of the command `serve` are within their limits: its port, how many sessions and workers, and the seconds
-abbrev pub has_numbers : List Row → Bool
-has_numbers rows =
+abbrev pub has_numbers_of_serve : List Row → Bool
+has_numbers_of_serve rows =
     has_number 0 65535 (first_of (codes "port") rows) && (has_number 1 4096 (first_of (codes "sessions") rows)
     && (has_number 1 64 (first_of (codes "workers") rows) && may_have_number 1 4294967295 (first_of (codes "idle") rows)))
 
-abbrev pub number_refusals : List Row → Kinds
-number_refusals rows = if has_numbers rows then [] else kinds.ValueValidation ∷ []
+-- the commands that may be asked over the first records alone
+abbrev pub takes_front : Text → Bool
+takes_front name = list_any (bytes_eq name) (codes "check" ∷ codes "line" ∷ codes "garbage" ∷ [])
 
--- of the commands `serve` alone has numbers
+-- how many records that is lies within its limits, if it is given
+abbrev pub has_front : List Row → Bool
+has_front rows = may_have_number 0 16384 (first_of (codes "at") rows)
+
+-- the other commands have no numbers
+abbrev pub has_numbers : Text → List Row → Bool
+has_numbers name rows = if bytes_eq name (codes "serve") then has_numbers_of_serve rows else if takes_front name then has_front rows else true
+
+-- a value that is out of its limits is a fault
 abbrev pub value_refusals : Option (Text × List Row) → Kinds
-value_refusals (Some (name, rows)) = if bytes_eq name (codes "serve") then number_refusals rows else []
+value_refusals (Some (name, rows)) = if has_numbers name rows then [] else kinds.ValueValidation ∷ []
 value_refusals None = []
 
 -- the kinds of refusal that the words may get: those of the parse, and where it takes the words those of numbers
@@ -108,28 +139,37 @@ abbrev pub MayBeNumber : ℕ → ℕ → Option ℕ → Option Text → Type 0
 MayBeNumber least most (Some n) value = IsNumber least most n value
 MayBeNumber least most None value = value ≡ None
 
--- the rows have the values of this command `serve`
-abbrev pub IsServe : List Row → Command → Type 0
-IsServe rows (commands.Serve file port sessions workers idle) =
+-- the front that these values give
+abbrev pub IsFront : List Row → Option ℕ → Type 0
+IsFront rows at = MayBeNumber 0 16384 at (first_of (codes "at") rows)
+
+-- the name of a command
+abbrev pub name_of : Command → Text
+name_of (commands.Run file) = codes "run"
+name_of (commands.Serve file port sessions workers idle) = codes "serve"
+name_of (commands.Check file certificate at) = codes "check"
+name_of (commands.Line file failed at) = codes "line"
+name_of (commands.Garbage file at) = codes "garbage"
+name_of (commands.Explain given) = codes "explain"
+name_of (commands.Drive script) = codes "drive"
+name_of (commands.Draw script failed) = codes "draw"
+
+-- the rows have the values of the command
+abbrev pub HasValues : List Row → Command → Type 0
+HasValues rows (commands.Run file) = first_of (codes "FILE") rows ≡ option_map (λ s. s.now) file
+HasValues rows (commands.Serve file port sessions workers idle) =
     (first_of (codes "FILE") rows ≡ Some file.now) × IsNumber 0 65535 port (first_of (codes "port") rows) × IsNumber 1 4096 sessions (first_of (codes "sessions") rows)
     × IsNumber 1 64 workers (first_of (codes "workers") rows) × MayBeNumber 1 4294967295 idle (first_of (codes "idle") rows)
-IsServe rows _ = ⊥
+HasValues rows (commands.Check file certificate at) =
+    (first_of (codes "FILE") rows ≡ Some file.now) × (first_of (codes "CERT") rows ≡ Some certificate.now) × IsFront rows at
+HasValues rows (commands.Line file failed at) =
+    (first_of (codes "FILE") rows ≡ Some file.now) × (first_of (codes "NAMES") rows ≡ Some failed.now) × IsFront rows at
+HasValues rows (commands.Garbage file at) = (first_of (codes "FILE") rows ≡ Some file.now) × IsFront rows at
+HasValues rows (commands.Explain given) = first_of (codes "LINE") rows ≡ option_map (λ s. s.now) given
+HasValues rows (commands.Drive script) = first_of (codes "SCRIPT") rows ≡ Some script.now
+HasValues rows (commands.Draw script failed) =
+    (first_of (codes "SCRIPT") rows ≡ Some script.now) × (first_of (codes "failed") rows ≡ option_map (λ s. s.now) failed)
 
 -- the words ask for the command
 abbrev pub AsksFor : List Text → Command → Type 0
-AsksFor words (commands.Run file) =
-    (rows : List Row) × Selects words (codes "run") rows × (first_of (codes "FILE") rows ≡ option_map (λ s. s.now) file)
-AsksFor words (commands.Serve file port sessions workers idle) =
-    (rows : List Row) × Selects words (codes "serve") rows × IsServe rows (commands.Serve file port sessions workers idle)
-AsksFor words (commands.Check file certificate) =
-    (rows : List Row) × Selects words (codes "check") rows × (first_of (codes "FILE") rows ≡ Some file.now)
-    × (first_of (codes "CERT") rows ≡ Some certificate.now)
-AsksFor words (commands.Drive script) =
-    (rows : List Row) × Selects words (codes "drive") rows × (first_of (codes "SCRIPT") rows ≡ Some script.now)
-AsksFor words (commands.Draw script failed) =
-    (rows : List Row) × Selects words (codes "draw") rows × (first_of (codes "SCRIPT") rows ≡ Some script.now)
-    × (first_of (codes "failed") rows ≡ option_map (λ s. s.now) failed)
-
--- no argument of the command counts for its subcommands, too
-abbrev pub IsLocal : Made → Type 0
-IsLocal made = (out-Command made).has_globals ≡ false
+AsksFor words command = (rows : List Row) × Selects words (name_of command) rows × HasValues rows command

@@ -1,9 +1,10 @@
 //! The words of the command line.
 
-ghost use Rattle.std.specs.Prelude.{◌≡◌, ◌≤◌, [], ◌∷◌, IfNone, IfOk, IfSome, Some, codes, false, is_some, map, true};
-ghost use Rattle.clap.specs.Words.{FailsBy, HasKind, IsUnsignedIn, app_of, first_value, found_of, rows_of, rule_of};
+ghost use Rattle.std.specs.Prelude.{◌≡◌, ◌≤◌, [], ◌∷◌, IfNone, IfOk, IfSome, Some, codes, false, is_some, map, option_map, true};
+ghost use Rattle.clap.specs.Words.{FailsBy, HasKind, IsUnsignedIn, app_of, first_of, new_rule, rule_of};
 ghost use Rattle.clap.specs.declared.error.kind.ErrorKind.TheVariants as kinds;
-ghost use Rattle.command_line.specs.Arguments.{AsksFor, IsLocal, IsNumber, IsServe, MayBeNumber, alone, check, draw, drive, has_number, may_have_number, number_refusals, option_rule, program, refusals, run, serve, serve_wants, wanted_option, wanted_rule};
+ghost use Rattle.command_line.specs.Arguments.{AsksFor, IsFront, IsNumber, MayBeNumber, alone, check, draw, drive, explain, front_rule, garbage, has_front, has_number, line, may_have_number, option_rule, program, refusals, run, serve, serve_wants, wanted_option, wanted_rule};
+ghost use Rattle.command_line.specs.Parts.{HasWanted, IsAnswer, IsLocal, is_command, values_of};
 
 use clap::error::ErrorKind;
 use clap::{Arg, ArgMatches, Command as Program, Error};
@@ -26,10 +27,26 @@ pub enum Command<'a> {
         workers: u64,
         idle: Option<u64>,
     },
-    /// Checks the certificate of this path over the record file of this path.
+    /// Checks the certificate of this path over the records of this path, or over so many of the first ones.
     Check {
         file: &'a str,
         certificate: &'a str,
+        at: Option<u32>,
+    },
+    /// Answers which recovery line these processes have that failed, over the records of this path, or over so many of the first ones.
+    Line {
+        file: &'a str,
+        names: &'a str,
+        at: Option<u32>,
+    },
+    /// Answers which checkpoints no recovery needs any more, over the records of this path, or over so many of the first ones.
+    Garbage {
+        file: &'a str,
+        at: Option<u32>,
+    },
+    /// Says of this line, or of each line of standard input, which call it is, or why it is none.
+    Explain {
+        line: Option<&'a str>,
     },
     /// Drives a world by the script of this path.
     Drive {
@@ -42,40 +59,23 @@ pub enum Command<'a> {
     },
 }
 
-/// An argument that is a path, and is wanted.
-fn path_argument<'a>(alloc: Global, name: &'a str, help: &'a str) -> Arg<'a>
+/// An argument that is one word, and is wanted.
+fn word_argument<'a>(alloc: Global, name: &'a str, help: &'a str) -> Arg<'a>
     ensures rule { rule_of result ≡ wanted_rule name.now }
     ensures local { result.global ≡ false }
 {
     Arg::new(alloc, name).required(true).help(help)
 }
 
-/// The argument that is the path of a script.
-fn script_argument<'a>(alloc: Global) -> Arg<'a>
-    ensures rule { rule_of result ≡ wanted_rule (codes "SCRIPT") }
+/// The same, where it may be left out.
+fn optional_argument<'a>(alloc: Global, name: &'a str, help: &'a str) -> Arg<'a>
+    ensures rule { rule_of result ≡ new_rule name.now }
     ensures local { result.global ≡ false }
 {
-    path_argument(
-        alloc,
-        "SCRIPT",
-        "A file of steps, one a line, of which the first is 'root NAME'; '-' is standard input",
-    )
+    Arg::new(alloc, name).help(help)
 }
 
-/// The command `run`.
-fn run_command<'a>(alloc: Global) -> Result<Program<'a>, AllocError>
-    ensures app { IfOk result (λ made. app_of made ≡ run) }
-    ensures local { IfOk result (λ made. IsLocal made) }
-{
-    let file = Arg::new(alloc, "FILE").help(
-        "The file that keeps the accepted reports; it is made if it is missing",
-    );
-    Program::new(alloc, "run")
-        .about("Answers each line of standard input on standard output")
-        .arg(file)
-}
-
-/// An option that takes one value, and is named as that value is.
+/// An option that takes one value.
 fn option_argument<'a>(alloc: Global, name: &'a str, value: &'a str, help: &'a str) -> Arg<'a>
     ensures rule { rule_of result ≡ option_rule name.now }
     ensures local { result.global ≡ false }
@@ -98,12 +98,39 @@ fn wanted_argument<'a>(alloc: Global, name: &'a str, value: &'a str, help: &'a s
         .help(help)
 }
 
+/// The argument that is the path of a script.
+fn script_argument<'a>(alloc: Global) -> Arg<'a>
+    ensures rule { rule_of result ≡ wanted_rule (codes "SCRIPT") }
+    ensures local { result.global ≡ false }
+{
+    word_argument(
+        alloc,
+        "SCRIPT",
+        "A file of steps, one a line, of which the first is 'root NAME'; '-' is standard input",
+    )
+}
+
+/// The command `run`.
+fn run_command<'a>(alloc: Global) -> Result<Program<'a>, AllocError>
+    ensures app { IfOk result (λ made. app_of made ≡ run) }
+    ensures local { IfOk result (λ made. IsLocal made) }
+{
+    let file = optional_argument(
+        alloc,
+        "FILE",
+        "The file that keeps the accepted reports; it is made if it is missing",
+    );
+    Program::new(alloc, "run")
+        .about("Answers each line of standard input on standard output")
+        .arg(file)
+}
+
 /// The command `serve`, with the options that are wanted.
 fn serve_wanted<'a>(alloc: Global) -> Result<Program<'a>, AllocError>
     ensures app { IfOk result (λ made. app_of made ≡ serve_wants) }
     ensures local { IfOk result (λ made. IsLocal made) }
 {
-    let file = path_argument(
+    let file = word_argument(
         alloc,
         "FILE",
         "The file that keeps the accepted reports; it is made if it is missing",
@@ -148,13 +175,26 @@ fn serve_command<'a>(alloc: Global) -> Result<Program<'a>, AllocError>
     serve_wanted(alloc)?.arg(idle)
 }
 
+/// The option that says how many of the first records count.
+fn front_argument<'a>(alloc: Global) -> Arg<'a>
+    ensures rule { rule_of result ≡ front_rule }
+    ensures local { result.global ≡ false }
+{
+    option_argument(
+        alloc,
+        "at",
+        "FRONT",
+        "How many of the first records count, 0 to 16384; without it all",
+    )
+}
+
 /// The command `check`.
 fn check_command<'a>(alloc: Global) -> Result<Program<'a>, AllocError>
     ensures app { IfOk result (λ made. app_of made ≡ check) }
     ensures local { IfOk result (λ made. IsLocal made) }
 {
-    let file = path_argument(alloc, "FILE", "The file that keeps the accepted reports");
-    let certificate = path_argument(
+    let file = word_argument(alloc, "FILE", "The file that keeps the accepted reports");
+    let certificate = word_argument(
         alloc,
         "CERT",
         "A file with the text that stands behind 'LINE ' in a reply; '-' is standard input",
@@ -164,7 +204,53 @@ fn check_command<'a>(alloc: Global) -> Result<Program<'a>, AllocError>
             "Checks a certificate over the accepted reports, and prints YES or NO with the cause",
         )
         .arg(file)?
-        .arg(certificate)
+        .arg(certificate)?
+        .arg(front_argument(alloc))
+}
+
+/// The command `line`.
+fn line_command<'a>(alloc: Global) -> Result<Program<'a>, AllocError>
+    ensures app { IfOk result (λ made. app_of made ≡ line) }
+    ensures local { IfOk result (λ made. IsLocal made) }
+{
+    let file = word_argument(alloc, "FILE", "The file that keeps the accepted reports");
+    let names = word_argument(
+        alloc,
+        "NAMES",
+        "The processes that failed, parted by commas, or '-' for none",
+    );
+    Program::new(alloc, "line")
+        .about("Prints on standard output what 'LINE NAMES' is answered over the records")
+        .arg(file)?
+        .arg(names)?
+        .arg(front_argument(alloc))
+}
+
+/// The command `garbage`.
+fn garbage_command<'a>(alloc: Global) -> Result<Program<'a>, AllocError>
+    ensures app { IfOk result (λ made. app_of made ≡ garbage) }
+    ensures local { IfOk result (λ made. IsLocal made) }
+{
+    let file = word_argument(alloc, "FILE", "The file that keeps the accepted reports");
+    Program::new(alloc, "garbage")
+        .about("Prints on standard output what 'GARBAGE' is answered over the records")
+        .arg(file)?
+        .arg(front_argument(alloc))
+}
+
+/// The command `explain`.
+fn explain_command<'a>(alloc: Global) -> Result<Program<'a>, AllocError>
+    ensures app { IfOk result (λ made. app_of made ≡ explain) }
+    ensures local { IfOk result (λ made. IsLocal made) }
+{
+    let line = optional_argument(
+        alloc,
+        "LINE",
+        "A line, as one word of the shell; without it each line of standard input",
+    );
+    Program::new(alloc, "explain")
+        .about("Says on standard output which call a line is, or why it is none")
+        .arg(line)
 }
 
 /// The command `drive`.
@@ -182,10 +268,12 @@ fn draw_command<'a>(alloc: Global) -> Result<Program<'a>, AllocError>
     ensures app { IfOk result (λ made. app_of made ≡ draw) }
     ensures local { IfOk result (λ made. IsLocal made) }
 {
-    let failed = Arg::new(alloc, "failed")
-        .long("failed")
-        .value_name("NAMES")
-        .help("The processes that failed, parted by commas, or '-' for none");
+    let failed = option_argument(
+        alloc,
+        "failed",
+        "NAMES",
+        "The processes that failed, parted by commas, or '-' for none",
+    );
     Program::new(alloc, "draw")
         .about("Draws the history of a script with its recovery line as SVG")
         .arg(script_argument(alloc))?
@@ -213,6 +301,9 @@ fn command_line<'a>(alloc: Global) -> Result<Program<'a>, AllocError>
         .subcommand(run_command(alloc)?)?
         .subcommand(serve_command(alloc)?)?
         .subcommand(check_command(alloc)?)?
+        .subcommand(line_command(alloc)?)?
+        .subcommand(garbage_command(alloc)?)?
+        .subcommand(explain_command(alloc)?)?
         .subcommand(drive_command(alloc)?)?
         .subcommand(draw_command(alloc)?)
 }
@@ -235,13 +326,31 @@ fn number_of(text: &str, least: u64, most: u64) -> Option<u64>
     }
 }
 
+/// The value of an argument, if it has one.
+fn value_in<'a>(matches: &ArgMatches<'a>, key: &str) -> Option<&'a str>
+    ensures { first_of key.now (values_of matches.now) ≡ option_map (λ s. s.now) result }
+{
+    matches.get_str(key)
+}
+
+/// The value of an argument that is wanted.
+fn wanted_in<'a>(matches: &ArgMatches<'a>, key: &str) -> &'a str
+    requires { is_some (first_of key.now (values_of matches.now)) ≡ true }
+    ensures { first_of key.now (values_of matches.now) ≡ Some result.now }
+{
+    let Some(text) = value_in(matches, key) else {
+        unreachable!();
+    };
+    text
+}
+
 /// The number of an option, if it lies within these limits.
 fn number_in(matches: &ArgMatches<'_>, key: &str, least: u64, most: u64) -> Option<u64>
-    ensures some { IfSome result (λ n. IsNumber least most n (first_value (found_of matches.now) key.now)) }
+    ensures some { IfSome result (λ n. IsNumber least most n (first_of key.now (values_of matches.now))) }
     ensures limit { IfSome result (λ n. n ≤ most) }
-    ensures none { IfNone result (has_number least most (first_value (found_of matches.now) key.now) ≡ false) }
+    ensures none { IfNone result (has_number least most (first_of key.now (values_of matches.now)) ≡ false) }
 {
-    match matches.get_str(key) {
+    match value_in(matches, key) {
         Some(text) => number_of(text, least, most),
         None => None,
     }
@@ -254,10 +363,11 @@ fn optional_number_in(
     least: u64,
     most: u64,
 ) -> Option<Option<u64>>
-    ensures some { IfSome result (λ o. MayBeNumber least most o (first_value (found_of matches.now) key.now)) }
-    ensures none { IfNone result (may_have_number least most (first_value (found_of matches.now) key.now) ≡ false) }
+    ensures some { IfSome result (λ o. MayBeNumber least most o (first_of key.now (values_of matches.now))) }
+    ensures limit { IfSome result (λ o. IfSome o (λ n. n ≤ most)) }
+    ensures none { IfNone result (may_have_number least most (first_of key.now (values_of matches.now)) ≡ false) }
 {
-    match matches.get_str(key) {
+    match value_in(matches, key) {
         Some(text) => Some(Some(number_of(text, least, most)?)),
         None => Some(None),
     }
@@ -279,15 +389,34 @@ fn number_refused(alloc: Global, limits: &str) -> Error
     }
 }
 
+/// How many of the first records count, if that is given. None at all where it is no number within its limits.
+fn front_in(matches: &ArgMatches<'_>) -> Option<Option<u32>>
+    ensures some { IfSome result (λ at. IsFront (values_of matches.now) at) }
+    ensures within { IfSome result (λ at. has_front (values_of matches.now) ≡ true) }
+    ensures none { IfNone result (has_front (values_of matches.now) ≡ false) }
+{
+    let Some(number) = optional_number_in(matches, "at", 0, 16_384) else {
+        return None;
+    };
+    match number {
+        Some(front) => Some(Some(front as u32)),
+        None => Some(None),
+    }
+}
+
+/// The refusal of a front.
+fn front_refused(alloc: Global) -> Error
+    ensures { HasKind (kinds.ValueValidation ∷ []) result }
+{
+    number_refused(alloc, "--at takes a number from 0 to 16384")
+}
+
 /// The command `serve`, by the values of its arguments.
 fn serve_asked<'a>(alloc: Global, serving: &ArgMatches<'a>) -> Result<Command<'a>, Error>
-    requires { is_some (first_value (found_of serving.now) (codes "FILE")) ≡ true }
-    ensures asked { IfOk result (IsServe (rows_of (found_of serving.now))) }
-    ensures refused { FailsBy (number_refusals (rows_of (found_of serving.now))) result }
+    requires { is_some (first_of (codes "FILE") (values_of serving.now)) ≡ true }
+    ensures { IsAnswer (codes "serve") (values_of serving.now) result }
 {
-    let Some(file) = serving.get_str("FILE") else {
-        unreachable!();
-    };
+    let file = wanted_in(serving, "FILE");
     let Some(port) = number_in(serving, "port", 0, 65_535) else {
         return Err(number_refused(alloc, "--port takes a number from 0 to 65535"));
     };
@@ -309,43 +438,111 @@ fn serve_asked<'a>(alloc: Global, serving: &ArgMatches<'a>) -> Result<Command<'a
     })
 }
 
+/// The command `check`, by the values of its arguments.
+fn check_asked<'a>(alloc: Global, checking: &ArgMatches<'a>) -> Result<Command<'a>, Error>
+    requires file { is_some (first_of (codes "FILE") (values_of checking.now)) ≡ true }
+    requires certificate { is_some (first_of (codes "CERT") (values_of checking.now)) ≡ true }
+    ensures { IsAnswer (codes "check") (values_of checking.now) result }
+{
+    let file = wanted_in(checking, "FILE");
+    let certificate = wanted_in(checking, "CERT");
+    let Some(at) = front_in(checking) else {
+        return Err(front_refused(alloc));
+    };
+    Ok(Command::Check {
+        file,
+        certificate,
+        at,
+    })
+}
+
+/// The command `line`, by the values of its arguments.
+fn line_asked<'a>(alloc: Global, asking: &ArgMatches<'a>) -> Result<Command<'a>, Error>
+    requires file { is_some (first_of (codes "FILE") (values_of asking.now)) ≡ true }
+    requires names { is_some (first_of (codes "NAMES") (values_of asking.now)) ≡ true }
+    ensures { IsAnswer (codes "line") (values_of asking.now) result }
+{
+    let file = wanted_in(asking, "FILE");
+    let names = wanted_in(asking, "NAMES");
+    let Some(at) = front_in(asking) else {
+        return Err(front_refused(alloc));
+    };
+    Ok(Command::Line { file, names, at })
+}
+
+/// The command `garbage`, by the values of its arguments.
+fn garbage_asked<'a>(alloc: Global, asking: &ArgMatches<'a>) -> Result<Command<'a>, Error>
+    requires { is_some (first_of (codes "FILE") (values_of asking.now)) ≡ true }
+    ensures { IsAnswer (codes "garbage") (values_of asking.now) result }
+{
+    let file = wanted_in(asking, "FILE");
+    let Some(at) = front_in(asking) else {
+        return Err(front_refused(alloc));
+    };
+    Ok(Command::Garbage { file, at })
+}
+
+/// The command `draw`, by the values of its arguments.
+fn draw_asked<'a>(drawing: &ArgMatches<'a>) -> Result<Command<'a>, Error>
+    requires { is_some (first_of (codes "SCRIPT") (values_of drawing.now)) ≡ true }
+    ensures { IsAnswer (codes "draw") (values_of drawing.now) result }
+{
+    let script = wanted_in(drawing, "SCRIPT");
+    let failed = value_in(drawing, "failed");
+    Ok(Command::Draw { script, failed })
+}
+
+/// The command of this name, by the values of its arguments.
+fn command_asked<'a>(
+    alloc: Global,
+    name: &str,
+    matches: &ArgMatches<'a>,
+) -> Result<Command<'a>, Error>
+    requires one { is_command name.now ≡ true }
+    requires wanted { HasWanted name.now (values_of matches.now) }
+    ensures { IsAnswer name.now (values_of matches.now) result }
+{
+    if name == "run" {
+        let file = value_in(matches, "FILE");
+        return Ok(Command::Run { file });
+    }
+    if name == "serve" {
+        return serve_asked(alloc, matches);
+    }
+    if name == "check" {
+        return check_asked(alloc, matches);
+    }
+    if name == "line" {
+        return line_asked(alloc, matches);
+    }
+    if name == "garbage" {
+        return garbage_asked(alloc, matches);
+    }
+    if name == "explain" {
+        let line = value_in(matches, "LINE");
+        return Ok(Command::Explain { line });
+    }
+    if name == "drive" {
+        let script = wanted_in(matches, "SCRIPT");
+        return Ok(Command::Drive { script });
+    }
+    if name == "draw" {
+        return draw_asked(matches);
+    }
+    unreachable!();
+}
+
 /// The command that the words ask for, after the word that the program was called by. Help and the version are errors,
 /// too; `clap::Error` says where its text goes and with which status. Words that ask for a command are refused for want of
-/// memory alone. The numbers of `serve` that are out of their limits are faults of their values.
+/// memory alone. Numbers that are out of their limits are faults of their values.
 pub fn read_args<'a, S: AsStr>(alloc: Global, words: &'a [S]) -> Result<Command<'a>, Error>
     ensures asked { IfOk result (λ command. AsksFor (map S.text words.entry.now) command) }
     ensures refused { FailsBy (refusals (map S.text words.entry.now)) result }
 {
     let program = command_line(alloc)?;
     let matches = program.try_get_matches_from(words)?;
-    if let Some(running) = matches.subcommand_matches("run") {
-        let file = running.get_str("FILE");
-        return Ok(Command::Run { file });
-    }
-    if let Some(serving) = matches.subcommand_matches("serve") {
-        return serve_asked(alloc, serving);
-    }
-    if let Some(checking) = matches.subcommand_matches("check") {
-        let Some(file) = checking.get_str("FILE") else {
-            unreachable!();
-        };
-        let Some(certificate) = checking.get_str("CERT") else {
-            unreachable!();
-        };
-        return Ok(Command::Check { file, certificate });
-    }
-    if let Some(driving) = matches.subcommand_matches("drive") {
-        let Some(script) = driving.get_str("SCRIPT") else {
-            unreachable!();
-        };
-        return Ok(Command::Drive { script });
-    }
-    let Some(drawing) = matches.subcommand_matches("draw") else {
+    let Some((name, asked)) = matches.subcommand() else {
         unreachable!();
     };
-    let failed = drawing.get_str("failed");
-    let Some(script) = drawing.get_str("SCRIPT") else {
-        unreachable!();
-    };
-    Ok(Command::Draw { script, failed })
+    command_asked(alloc, name, asked)
 }

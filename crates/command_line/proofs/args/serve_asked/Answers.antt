@@ -1,30 +1,31 @@
-use Rattle.clap.specs.Matches.{found_of}
-use Rattle.command_line.proofs.Numbers.{all_numbers, no_idle, no_port, no_sessions, no_workers, serve_is}
+use Rattle.std.proofs.Common.{refl}
+use Rattle.command_line.specs.Arguments.{HasValues}
+use Rattle.command_line.specs.Parts.{values_of}
+use Rattle.command_line.specs.declared.args.Command.TheVariants as commands
+use Rattle.command_line.proofs.Numbers.{all_numbers, no_idle, no_port, no_sessions, no_workers}
 use Rattle.command_line.proofs.args.serve_asked.Goals as goal
 
-pub returns-in_default-number_in-clause-refused : goal.returns-in_default-number_in-clause-refused
-returns-in_default-number_in-clause-refused c = no_port (found_of c.args.serving.now) c.number_refused.result c.in_default-number_in.ensures.none c.number_refused.ensures
+pub returns-in_default : goal.returns-in_default
+returns-in_default c = (tt, no_port (values_of c.args.serving.now) c.number_refused.result c.in_default.ensures.none c.number_refused.ensures)
 
-pub returns-in_default-number_in-2-clause-refused : goal.returns-in_default-number_in-2-clause-refused
-returns-in_default-number_in-2-clause-refused c =
-    no_sessions (found_of c.args.serving.now) c.number_refused-in_default-number_in-2.result c.in_default-number_in-2.ensures.none c.number_refused-in_default-number_in-2.ensures
+pub returns-in_default-number_in : goal.returns-in_default-number_in
+returns-in_default-number_in c =
+    (tt, no_sessions (values_of c.args.serving.now) c.number_refused-in_default-number_in.result c.in_default-number_in.ensures.none c.number_refused-in_default-number_in.ensures)
 
-pub returns-in_default-number_in-3-clause-refused : goal.returns-in_default-number_in-3-clause-refused
-returns-in_default-number_in-3-clause-refused c =
-    no_workers (found_of c.args.serving.now) c.number_refused-in_default-number_in-3.result c.in_default-number_in-3.ensures.none c.number_refused-in_default-number_in-3.ensures
+pub returns-in_default-number_in-2 : goal.returns-in_default-number_in-2
+returns-in_default-number_in-2 c =
+    (tt, no_workers (values_of c.args.serving.now) c.number_refused-in_default-number_in-2.result c.in_default-number_in-2.ensures.none c.number_refused-in_default-number_in-2.ensures)
 
-pub returns-in_default-optional_number_in-clause-refused : goal.returns-in_default-optional_number_in-clause-refused
-returns-in_default-optional_number_in-clause-refused c =
-    no_idle (found_of c.args.serving.now) c.number_refused-in_default-optional_number_in.result c.in_default-optional_number_in.ensures.none
-    c.number_refused-in_default-optional_number_in.ensures
+pub returns-in_default-optional_number_in : goal.returns-in_default-optional_number_in
+returns-in_default-optional_number_in c = (
+  tt,
+  no_idle (values_of c.args.serving.now) c.number_refused-in_default-optional_number_in.result c.in_default-optional_number_in.ensures.none
+      c.number_refused-in_default-optional_number_in.ensures,
+)
 
-pub returns-clause-asked : goal.returns-clause-asked
-returns-clause-asked c =
-    serve_is (found_of c.args.serving.now) c.in-Some-number_in.port c.in-Some-number_in-2.sessions c.in-Some-number_in-3.workers c.in-Some-optional_number_in.idle
-    c.in-Some-number_in.ensures.some c.in-Some-number_in-2.ensures.some c.in-Some-number_in-3.ensures.some c.in-Some-optional_number_in.ensures.some
-    c.in-Some.file c.in-Some.ensures
-
-pub returns-clause-refused : goal.returns-clause-refused
-returns-clause-refused c =
-    all_numbers (found_of c.args.serving.now) c.in-Some-number_in.port c.in-Some-number_in-2.sessions c.in-Some-number_in-3.workers c.in-Some-optional_number_in.idle
-    c.in-Some-number_in.ensures.some c.in-Some-number_in-2.ensures.some c.in-Some-number_in-3.ensures.some c.in-Some-optional_number_in.ensures.some
+pub returns : goal.returns
+returns c =
+    let rows = values_of c.args.serving.now in
+    let has : HasValues rows (commands.Serve c.wanted_in-file.result c.in-Some.port c.in-Some-number_in.sessions c.in-Some-number_in-2.workers c.in-Some-optional_number_in.idle) =
+    (c.wanted_in-file.ensures, c.in-Some.ensures.some, c.in-Some-number_in.ensures.some, c.in-Some-number_in-2.ensures.some, c.in-Some-optional_number_in.ensures.some) in
+    ((refl, has), all_numbers rows c.wanted_in-file.result c.in-Some.port c.in-Some-number_in.sessions c.in-Some-number_in-2.workers c.in-Some-optional_number_in.idle has)

@@ -6,7 +6,10 @@ _recline_take() {
     "") options=(-h --help -V --version) arguments=(command) ;;
     run) options=(-h --help) arguments=(path) ;;
     serve) options=(--port --sessions --workers --idle -h --help) arguments=(path) ;;
-    check) options=(-h --help) arguments=(path path) ;;
+    check) options=(--at -h --help) arguments=(path path) ;;
+    line) options=(--at -h --help) arguments=(path nothing) ;;
+    garbage) options=(--at -h --help) arguments=(path) ;;
+    explain) options=(-h --help) arguments=(nothing) ;;
     drive) options=(-h --help) arguments=(path) ;;
     draw) options=(--failed -h --help) arguments=(path) ;;
     help) options=() arguments=(command) ;;
@@ -16,7 +19,7 @@ _recline_take() {
 
 # Whether a value follows an option.
 _recline_has_value() {
-    [[ "$1" = @(--failed|--idle|--port|--sessions|--workers) ]]
+    [[ "$1" = @(--at|--failed|--idle|--port|--sessions|--workers) ]]
 }
 
 # Takes the words in front of the cursor. Sets 'place' to what the word at the cursor is: the value of an option, a file that a stream
@@ -73,7 +76,7 @@ _recline() {
     elif [[ "$place" = word && -z "$ended" && ("$word" = -* || ${#arguments[@]} = 0) ]]; then
         _recline_options
     elif [[ "$place" = word && "${arguments[0]:-}" = command ]]; then
-        mapfile -t COMPREPLY < <(compgen -W "run serve check drive draw help" -- "$word")
+        mapfile -t COMPREPLY < <(compgen -W "run serve check line garbage explain drive draw help" -- "$word")
     elif [[ "$place" = file || "${arguments[0]:-}" = path ]]; then
         # Where this finds nothing bash completes the path by itself.
         compopt -o filenames -o default 2>/dev/null

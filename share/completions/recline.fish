@@ -7,7 +7,7 @@ function __recline_words
     set -e words[1]
     while set -q words[1]
         switch $words[1]
-            case --failed --idle --port --sessions --workers
+            case --at --failed --idle --port --sessions --workers
                 set -q words[2]; or return 1
                 set -e words[1]
             case --
@@ -44,6 +44,9 @@ complete -c recline -f
 complete -c recline -n '__recline_stands "" 0' -a run -d 'Answers each line of standard input on standard output'
 complete -c recline -n '__recline_stands "" 0' -a serve -d 'Answers the lines of clients that connect, and ends after the last session'
 complete -c recline -n '__recline_stands "" 0' -a check -d 'Checks a certificate over the accepted reports, and prints YES or NO with the cause'
+complete -c recline -n '__recline_stands "" 0' -a line -d 'Prints on standard output what \'LINE NAMES\' is answered over the records'
+complete -c recline -n '__recline_stands "" 0' -a garbage -d 'Prints on standard output what \'GARBAGE\' is answered over the records'
+complete -c recline -n '__recline_stands "" 0' -a explain -d 'Says on standard output which call a line is, or why it is none'
 complete -c recline -n '__recline_stands "" 0' -a drive -d 'Stamps the steps of a script and prints the lines that report them'
 complete -c recline -n '__recline_stands "" 0' -a draw -d 'Draws the history of a script with its recovery line as SVG'
 complete -c recline -n '__recline_stands "" 0' -a help -d 'Print this message or the help of the given subcommand(s)'
@@ -57,9 +60,17 @@ complete -c recline -n '__recline_takes "serve" --workers' -l workers -x -d 'How
 complete -c recline -n '__recline_takes "serve" --idle' -l idle -x -d 'How long a client may be silent, 1 to 4294967295; without it any time'
 complete -c recline -n '__recline_takes "serve" -h --help' -s h -l help -d 'Print help'
 complete -c recline -n '__recline_stands "serve" 0' -F
+complete -c recline -n '__recline_takes "check" --at' -l at -x -d 'How many of the first records count, 0 to 16384; without it all'
 complete -c recline -n '__recline_takes "check" -h --help' -s h -l help -d 'Print help'
 complete -c recline -n '__recline_stands "check" 0' -F
 complete -c recline -n '__recline_stands "check" 1' -F
+complete -c recline -n '__recline_takes "line" --at' -l at -x -d 'How many of the first records count, 0 to 16384; without it all'
+complete -c recline -n '__recline_takes "line" -h --help' -s h -l help -d 'Print help'
+complete -c recline -n '__recline_stands "line" 0' -F
+complete -c recline -n '__recline_takes "garbage" --at' -l at -x -d 'How many of the first records count, 0 to 16384; without it all'
+complete -c recline -n '__recline_takes "garbage" -h --help' -s h -l help -d 'Print help'
+complete -c recline -n '__recline_stands "garbage" 0' -F
+complete -c recline -n '__recline_takes "explain" -h --help' -s h -l help -d 'Print help'
 complete -c recline -n '__recline_takes "drive" -h --help' -s h -l help -d 'Print help'
 complete -c recline -n '__recline_stands "drive" 0' -F
 complete -c recline -n '__recline_takes "draw" --failed' -l failed -x -d 'The processes that failed, parted by commas, or \'-\' for none'
@@ -68,6 +79,9 @@ complete -c recline -n '__recline_stands "draw" 0' -F
 complete -c recline -n '__recline_stands "help" 0' -a run -d 'Answers each line of standard input on standard output'
 complete -c recline -n '__recline_stands "help" 0' -a serve -d 'Answers the lines of clients that connect, and ends after the last session'
 complete -c recline -n '__recline_stands "help" 0' -a check -d 'Checks a certificate over the accepted reports, and prints YES or NO with the cause'
+complete -c recline -n '__recline_stands "help" 0' -a line -d 'Prints on standard output what \'LINE NAMES\' is answered over the records'
+complete -c recline -n '__recline_stands "help" 0' -a garbage -d 'Prints on standard output what \'GARBAGE\' is answered over the records'
+complete -c recline -n '__recline_stands "help" 0' -a explain -d 'Says on standard output which call a line is, or why it is none'
 complete -c recline -n '__recline_stands "help" 0' -a drive -d 'Stamps the steps of a script and prints the lines that report them'
 complete -c recline -n '__recline_stands "help" 0' -a draw -d 'Draws the history of a script with its recovery line as SVG'
 complete -c recline -n '__recline_stands "help" 0' -a help -d 'Print this message or the help of the given subcommand(s)'

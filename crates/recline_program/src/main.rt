@@ -1,12 +1,17 @@
 //! The program `recline`, which only calls the library of that name.
 #![tactic(auto)]
 
+ghost use Rattle.recline.specs.Asking.{IsOneLine};
+
 use clap::Error;
 use clap::error::ErrorKind;
 use client_link::{Link, Streams};
 use command_line::{Command, read_args};
-use line_disk::{DiskFault, FileDisk, Modelled, NullDisk};
-use recline::{HandOn, Service, check_on, draw_on, drive_on, run_handing_on, run_on, serve_on};
+use line_disk::{DiskFault, FileDisk, MemoryDisk, Modelled, NullDisk};
+use recline::{
+    HandOn, Question, Service, ask_on, at_front, check_on, draw_on, drive_on, explain_on,
+    run_handing_on, run_on, serve_on,
+};
 use record_file::RecordReach;
 use std::env;
 use std::fs::File;
@@ -17,6 +22,9 @@ use std::process::ExitCode;
 use std::sync::Wait;
 use std::thread::Threads;
 use std::time::Clock;
+
+/// Behind so many bytes of a record file none counts: a header, 16,384 records of the longest lines, and one more.
+const MOST_BYTES: usize = 9 + 16_385 * 8_199;
 
 /// The system's error for a descriptor that is closed.
 const CLOSED: i32 = 9;
@@ -89,15 +97,18 @@ fn fault(rt: &HostRuntime, cause: &str) -> u8 {
     3
 }
 
+/// Says on standard error which word of the command line is none that may stand there, and answers the status.
+fn misused(rt: &HostRuntime, cause: &str) -> u8 {
+    let _told = eprintln!(rt; "error: {cause}\n\nFor more information, try '--help'.");
+    2
+}
+
 /// Says on standard error why the words cannot be read, and answers the status.
 fn unread(rt: &HostRuntime, error: &io::Error) -> u8 {
     if error.kind() != io::ErrorKind::InvalidData {
         return fault(rt, "memory");
     }
-    let _told = eprintln!(rt;
-        "error: a word of the command line is not UTF-8\n\nFor more information, try '--help'."
-    );
-    2
+    misused(rt, "a word of the command line is not UTF-8")
 }
 
 /// Shows the text for words that are no command, and answers the status.
@@ -184,19 +195,101 @@ fn serve_over_file<T: Threads + Wait + Clock + Clone + Drop + Send + Sync, O: Li
     }
 }
 
-/// Checks the certificate that the client gives over the record file of this path.
+/// The bytes of the file of this path, as far as records can reach; or the status, where the cause is told. The file is only read.
+fn bytes_of(rt: &HostRuntime, path: &str) -> Result<Vec<u8>, u8> {
+    let Ok(mut file) = File::open(rt, path) else {
+        return Err(fault(rt, "device"));
+    };
+    let mut bytes = Vec::new(rt.alloc());
+    let mut buf = [0u8; 65_536];
+    for _ in 0..u64::MAX {
+        let Ok(n) = file.read(&mut buf) else {
+            return Err(fault(rt, "device"));
+        };
+        if bytes.extend_from_slice(&buf[..n]).is_err() {
+            return Err(fault(rt, "memory"));
+        }
+        if n == 0 || bytes.len() >= MOST_BYTES {
+            break;
+        }
+    }
+    Ok(bytes)
+}
+
+/// The same of its first records alone, if a front is given; or the status, where the cause is told.
+fn records_of<F: Link>(
+    rt: &HostRuntime,
+    path: &str,
+    at: Option<u32>,
+    faults: &mut F,
+) -> Result<Vec<u8>, u8> {
+    let bytes = bytes_of(rt, path)?;
+    match at {
+        Some(front) => at_front(rt.alloc(), &bytes, front, faults),
+        None => Ok(bytes),
+    }
+}
+
+/// Checks the certificate that the client gives over the record file of this path; or over a copy of its first records, if a front is
+/// given.
 fn check_over_file<K: Link, F: Link>(
     rt: &HostRuntime,
     path: &str,
+    at: Option<u32>,
     client: &mut K,
     faults: &mut F,
 ) -> u8 {
-    match open_file(rt, path) {
+    if at.is_none() {
+        return match open_file(rt, path) {
+            Ok(disk) => {
+                let (status, _disk) = check_on(rt.alloc(), disk, client, faults);
+                status
+            }
+            Err(status) => status,
+        };
+    }
+    let bytes = match records_of(rt, path, at, faults) {
+        Ok(bytes) => bytes,
+        Err(status) => return status,
+    };
+    match MemoryDisk::new(rt.alloc(), &bytes) {
         Ok(disk) => {
             let (status, _disk) = check_on(rt.alloc(), disk, client, faults);
             status
         }
-        Err(status) => status,
+        Err(_) => fault(rt, "memory"),
+    }
+}
+
+/// Asks one question over a copy of the records of this path, or of its first ones, and answers the status and the client.
+fn ask_over_file<K: Link, F: Link>(
+    rt: &HostRuntime,
+    path: &str,
+    at: Option<u32>,
+    question: &Question<'_>,
+    client: K,
+    faults: &mut F,
+) -> (u8, K)
+    requires { IsOneLine question.now }
+{
+    match records_of(rt, path, at, faults) {
+        Ok(bytes) => ask_on(rt.alloc(), &bytes, question, client, faults),
+        Err(status) => (status, client),
+    }
+}
+
+/// Asks for the line of these failed processes, which is one line.
+fn ask_line<K: Link, F: Link>(
+    rt: &HostRuntime,
+    path: &str,
+    names: &str,
+    at: Option<u32>,
+    client: K,
+    faults: &mut F,
+) -> (u8, K) {
+    match Question::for_line(names.as_bytes()) {
+        Some(question) => ask_over_file(rt, path, at, &question, client, faults),
+        None => (misused(rt, "no name has a line feed in it"), client),
     }
 }
 
@@ -215,31 +308,60 @@ fn act<T: Threads + Wait + Clock + Clone + Drop + Send + Sync, R: Read + Drop>(
     };
     let mut client = Streams::new(input, output);
     let mut faults = Streams::new(io::empty(), errors);
-    let status = match command {
-        Command::Run { file } => run_over_file(rt, file, &mut client, &mut faults),
+    let (status, client) = match command {
+        Command::Run { file } => (run_over_file(rt, file, &mut client, &mut faults), client),
         Command::Serve {
             file,
             port,
             sessions,
             workers,
             idle,
-        } => serve_over_file(
-            rt,
-            threads,
-            file,
-            port,
-            (sessions, workers, idle),
-            &mut client,
-            &mut faults,
+        } => (
+            serve_over_file(
+                rt,
+                threads,
+                file,
+                port,
+                (sessions, workers, idle),
+                &mut client,
+                &mut faults,
+            ),
+            client,
         ),
-        Command::Check { file, .. } => check_over_file(rt, file, &mut client, &mut faults),
-        Command::Drive { .. } => drive_on(rt.alloc(), &mut client, &mut faults),
-        Command::Draw { failed, .. } => draw_on(rt.alloc(), &mut client, &mut faults, failed),
+        Command::Check { file, at, .. } => (
+            check_over_file(rt, file, at, &mut client, &mut faults),
+            client,
+        ),
+        Command::Line { file, names, at } => ask_line(rt, file, names, at, client, &mut faults),
+        Command::Garbage { file, at } => {
+            ask_over_file(rt, file, at, &Question::Garbage, client, &mut faults)
+        }
+        Command::Explain { .. } => (explain_on(rt.alloc(), &mut client, &mut faults), client),
+        Command::Drive { .. } => (drive_on(rt.alloc(), &mut client, &mut faults), client),
+        Command::Draw { failed, .. } => (
+            draw_on(rt.alloc(), &mut client, &mut faults, failed),
+            client,
+        ),
     };
     let (_input, output) = client.into_inner();
     // What could not be handed on is not tried once more, as it would be where the buffer is dropped.
     let (_stdout, _unwritten) = output.into_parts();
     status
+}
+
+/// Explains one line, which is ended by an LF if it has none.
+fn explain_line<T: Threads + Wait + Clock + Clone + Drop + Send + Sync>(
+    rt: &HostRuntime,
+    threads: &T,
+    command: Command<'_>,
+    line: &str,
+) -> u8 {
+    act(
+        rt,
+        threads,
+        command,
+        line.as_bytes().chain(b"\n".as_slice()),
+    )
 }
 
 /// Does the command, which reads standard input, for which a path may stand that is `-`, or the file of a path.
@@ -249,8 +371,13 @@ fn do_command<T: Threads + Wait + Clock + Clone + Drop + Send + Sync>(
     command: Command<'_>,
 ) -> u8 {
     let path = match command {
-        Command::Run { .. } => return act(rt, threads, command, rt.reader()),
-        Command::Serve { .. } => return act(rt, threads, command, io::empty()),
+        Command::Run { .. } | Command::Explain { line: None } => {
+            return act(rt, threads, command, rt.reader());
+        }
+        Command::Serve { .. } | Command::Line { .. } | Command::Garbage { .. } => {
+            return act(rt, threads, command, io::empty());
+        }
+        Command::Explain { line: Some(line) } => return explain_line(rt, threads, command, line),
         Command::Check { certificate, .. } => certificate,
         Command::Drive { script } => script,
         Command::Draw { script, .. } => script,

@@ -15,7 +15,7 @@ use recline::{
 use record_file::RecordReach;
 use std::env;
 use std::fs::File;
-use std::io::{self, BufWriter, Read};
+use std::io::{self, BufWriter, Chain, Read};
 use std::net::{Ipv4Addr, SocketAddr, SocketAddrV4, TcpListener};
 use std::os::fd::AsFd;
 use std::process::ExitCode;
@@ -76,6 +76,26 @@ impl<'a> Read for LaterFile<'a> {
                 self.file = Some(file);
                 result
             }
+        }
+    }
+}
+
+/// What a command reads, of one type, so that each command is there once.
+#[derive(Drop)]
+enum Input<'a, S: Read + Drop> {
+    Standard(S),
+    Nothing,
+    File(LaterFile<'a>),
+    Line(Chain<&'a [u8], &'a [u8]>),
+}
+
+impl<'a, S: Read + Drop> Read for Input<'a, S> {
+    fn read(&mut self, buf: &mut [u8]) -> io::Result<usize> {
+        match self {
+            Input::Standard(stream) => stream.read(buf),
+            Input::Nothing => Ok(0),
+            Input::File(file) => file.read(buf),
+            Input::Line(line) => line.read(buf),
         }
     }
 }
@@ -349,52 +369,32 @@ fn act<T: Threads + Wait + Clock + Clone + Drop + Send + Sync, R: Read + Drop>(
     status
 }
 
-/// Explains one line, which is ended by an LF if it has none.
-fn explain_line<T: Threads + Wait + Clock + Clone + Drop + Send + Sync>(
-    rt: &HostRuntime,
-    threads: &T,
-    command: Command<'_>,
-    line: &str,
-) -> u8 {
-    act(
-        rt,
-        threads,
-        command,
-        line.as_bytes().chain(b"\n".as_slice()),
-    )
-}
-
-/// Does the command, which reads standard input, for which a path may stand that is `-`, or the file of a path.
-fn do_command<T: Threads + Wait + Clock + Clone + Drop + Send + Sync>(
-    rt: &HostRuntime,
-    threads: &T,
-    command: Command<'_>,
-) -> u8 {
+/// What the command reads: standard input, for which a path may stand that is `-`, the file of a path, or one line.
+fn input_of<'a, S: Read + Drop>(
+    rt: &'a HostRuntime,
+    standard: S,
+    command: Command<'a>,
+) -> Input<'a, S> {
     let path = match command {
-        Command::Run { .. } | Command::Explain { line: None } => {
-            return act(rt, threads, command, rt.reader());
-        }
+        Command::Run { .. } | Command::Explain { line: None } => return Input::Standard(standard),
         Command::Serve { .. } | Command::Line { .. } | Command::Garbage { .. } => {
-            return act(rt, threads, command, io::empty());
+            return Input::Nothing;
         }
-        Command::Explain { line: Some(line) } => return explain_line(rt, threads, command, line),
+        Command::Explain { line: Some(line) } => {
+            return Input::Line(line.as_bytes().chain(b"\n".as_slice()));
+        }
         Command::Check { certificate, .. } => certificate,
         Command::Drive { script } => script,
         Command::Draw { script, .. } => script,
     };
     if path == "-" {
-        return act(rt, threads, command, rt.reader());
+        return Input::Standard(standard);
     }
-    act(
+    Input::File(LaterFile {
         rt,
-        threads,
-        command,
-        LaterFile {
-            rt,
-            path,
-            file: None,
-        },
-    )
+        path,
+        file: None,
+    })
 }
 
 /// Does what the words of the command line ask for, and answers the status.
@@ -404,7 +404,7 @@ fn do_words<T: Threads + Wait + Clock + Clone + Drop + Send + Sync>(
 ) -> u8 {
     match words_of(rt) {
         Ok(words) => match read_args(rt.alloc(), &words) {
-            Ok(command) => do_command(rt, threads, command),
+            Ok(command) => act(rt, threads, command, input_of(rt, rt.reader(), command)),
             Err(error) => show(rt, &error),
         },
         Err(error) => unread(rt, &error),

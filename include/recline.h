@@ -36,7 +36,7 @@ enum recline_fault {
     RECLINE_OLDER = -8,         /* it is of an older epoch, so it may be undone: drop a message; recline_absorb_kept takes a retirement that was kept */
     RECLINE_NEWER = -9,         /* it is of a newer epoch: keep it until this process has returned, too */
     RECLINE_WORN = -10,         /* the process made 4,294,967,295 reports */
-    RECLINE_NOTHING_OWNED = -11, /* the id owns nothing; no process that began as the root or from a start has such an id */
+    RECLINE_NOTHING_OWNED = -11, /* the id owns nothing; no process that began as the root or from a start of a fork has such an id */
     RECLINE_CLOCK_FULL = -12,   /* a value would be greater than 4,294,967,295 */
     RECLINE_TOO_DEEP = -13,     /* an id would be deeper than 40, or there is no leaf of the depth that is asked for */
     RECLINE_OVERLAP = -14,      /* the process and the retired one own a point in common: one of them is not what it was */
@@ -65,14 +65,14 @@ int64_t recline_present(const char *state, size_t state_len, char *out, size_t o
 int64_t recline_send(const char *state, size_t state_len, char *out, size_t out_len);
 
 /* A message of this epoch is received, by the text that came with it. Gives: the new state. RECLINE_OLDER: drop it, its sender hands it over
- * once more where it is not undone. RECLINE_NEWER: it waits until this process has returned. */
+ * once more where it is not undone, with the epoch that it has by then in the text. RECLINE_NEWER: it waits until this process has returned. */
 int64_t recline_receive(const char *state, size_t state_len, const char *message, size_t message_len, char *out, size_t out_len);
 
 /* A child is made of a name that no other process has or had. Gives: the new state, the line "FORK ..", and the start of the child, to be
  * handed over once the line was answered OK. Each gets half of the id: the 41st fork of a root that takes nothing back is RECLINE_TOO_DEEP. */
 int64_t recline_fork(const char *state, size_t state_len, const char *child, size_t child_len, char *out, size_t out_len);
 
-/* The same, but the child gets a leaf of this depth, of 0 to 40, and the process keeps the rest: so at most 2^depth - 1 children may live at
+/* The same, but the child gets a leaf of this depth, of 1 to 40, and the process keeps the rest: so at most 2^depth - 1 children may live at
  * once, and ids get no deeper, as long as these retire into this process. */
 int64_t recline_fork_small(const char *state, size_t state_len, const char *child, size_t child_len, uint8_t depth, char *out, size_t out_len);
 
@@ -86,11 +86,12 @@ int64_t recline_absorb(const char *state, size_t state_len, const char *retireme
 int64_t recline_absorb_kept(const char *state, size_t state_len, const char *retirement, size_t retirement_len, char *out, size_t out_len);
 
 /* The process returns from the state that it has now to the one that was kept at its position in the line of the settlement of this epoch.
- * Gives: the new state, of that epoch. RECLINE_OLDER: one of the two has this epoch, or a later one. */
+ * Gives: the new state, of that epoch. RECLINE_OLDER: one of the two states has this epoch, or a later one. */
 int64_t recline_return_to(const char *state, size_t state_len, const char *kept, size_t kept_len, uint32_t epoch, char *out, size_t out_len);
 
-/* The same for a process that has no state any more, as it crashed: the state is the one that was kept. Whether it had returned to a later
- * settlement by then is the caller's to know. RECLINE_OLDER: the state has this epoch, or a later one. */
+/* The same for a process that has no state any more, as it crashed, or retired and that was undone: the state is the one that was kept. Whether
+ * it had returned to this settlement and gone on by then, or to a later one, is the caller's to know. RECLINE_OLDER: the state has this epoch, or
+ * a later one. */
 int64_t recline_returned(const char *state, size_t state_len, uint32_t epoch, char *out, size_t out_len);
 
 #ifdef __cplusplus

@@ -48,6 +48,13 @@ def texts(call, *handed):
         room = size
 
 
+def number(kind, value):
+    """The value as a number of C. One that is too great or too small for it is no such number, and is not cut."""
+    if kind(value).value != value:
+        raise ValueError("%d is no number of %d bits" % (value, 8 * ctypes.sizeof(kind)))
+    return kind(value)
+
+
 class Process:
     """A process. Its state is a text, to be kept with each checkpoint; a process is made of it again."""
 
@@ -88,7 +95,7 @@ class Process:
 
     def fork(self, child, depth=None):
         """Makes a child: the line, and the start of the child, which gets half of the id, or a leaf of this depth."""
-        return self.step("fork", child) if depth is None else self.step("fork_small", child, ctypes.c_uint8(depth))
+        return self.step("fork", child) if depth is None else self.step("fork_small", child, number(ctypes.c_uint8, depth))
 
     def retire(self, target):
         """Ends: the line, and the retirement for the target. The process has no state any more."""
@@ -102,9 +109,9 @@ class Process:
 
     def return_to(self, kept, epoch):
         """Returns to this state, which was kept at its position in the line of the settlement of this epoch."""
-        self.step("return_to", kept, ctypes.c_uint32(epoch))
+        self.step("return_to", kept, number(ctypes.c_uint32, epoch))
 
     def returned(self, epoch):
-        """The same where the process crashed and was made of that state. Whether it had returned to a later settlement by then is the
-        caller's to know."""
-        self.step("returned", ctypes.c_uint32(epoch))
+        """The same where the process crashed and was made of that state. Whether it had returned to this settlement and gone on by then,
+        or to a later one, is the caller's to know."""
+        self.step("returned", number(ctypes.c_uint32, epoch))

@@ -79,6 +79,17 @@ def faults():
     expect("what is refused changes nothing", a.state, "process a 0 0 (1,0);1")
 
 
+def numbers():
+    """What is no number of 8 or of 32 bits is not cut to one."""
+    a = Process("process a 0 0 (1,0);1")
+    for call in (lambda: a.fork("b", 257), lambda: a.returned(-1), lambda: a.return_to("process a 0 0 1;0", 2 ** 32 + 1)):
+        try:
+            call()
+            expect("a number that is too large or too small", "taken", "refused")
+        except ValueError:
+            expect("a number that is too large or too small", a.state, "process a 0 0 (1,0);1")
+
+
 def long_texts():
     """More than there is room for at first."""
     a, _ = Process.root("a")
@@ -110,7 +121,7 @@ def threads():
     expect("threads", told, [wanted] * len(told))
 
 
-for test in (example, faults, long_texts, threads):
+for test in (example, faults, numbers, long_texts, threads):
     test()
 print("%d passed, %d failed" % (passed, failed))
 sys.exit(failed != 0)

@@ -199,8 +199,8 @@ impl Process {
         Ok(())
     }
 
-    /// The same where the process crashed and was restored from that state. Whether it had returned to a later settlement by then is the caller's to
-    /// know.
+    /// The same where the process crashed and was restored from that state. Whether it had returned to this settlement and gone on by then, or to a
+    /// later one, is the caller's to know.
     pub fn returned(&mut self, epoch: u32) -> Result<(), Fault> {
         let [_] = self.becomes(texts(|out| sys::returned(&self.state, epoch, out))?);
         Ok(())

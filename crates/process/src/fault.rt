@@ -20,7 +20,7 @@ pub enum ProcessFault {
     #[error("not waiting")]
     NotWaiting,
     /// What came is of an older epoch, so it may be undone. A message is dropped; a retirement may be kept (`Process::absorb_kept`). Or the
-    /// process has the epoch that it is to return to, or a later one.
+    /// process, or what was kept of it, has the epoch that it is to return to, or a later one.
     #[error("older epoch")]
     Older,
     /// What came is of a newer epoch: it waits until this process has returned, too.

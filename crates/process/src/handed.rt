@@ -16,7 +16,7 @@ pub struct Message {
     pub events: Events,
 }
 
-/// What a child starts from. One child is born of it; behind a settlement that has it at its birth it is born once more.
+/// What a child starts from. One child is born of it; behind a settlement that has it at its birth it returns to what it was then.
 #[derive(Drop)]
 pub struct Start {
     /// The child.

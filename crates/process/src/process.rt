@@ -113,8 +113,8 @@ impl Process {
         })
     }
 
-    /// Receives a message of its own epoch. One of an older epoch is refused, and dropped: where its sending is not undone its sender sends
-    /// it once more. One of a newer epoch waits until this process has returned, too.
+    /// Receives a message of its own epoch. One of an older epoch is refused, and dropped: where its sending is not undone its sender hands
+    /// it over once more, with the epoch that it has by then. One of a newer epoch waits until this process has returned, too.
     pub fn receive(&mut self, alloc: Global, message: &Message) -> Result<(), ProcessFault>
         ensures ok { OnOk result (Receives self.old message.now self.new) }
         ensures err { IfErr result (λ fault. RefusesReceipt fault self.old.epoch self.old.stamp message.now) }
@@ -248,8 +248,8 @@ impl Process {
     }
 
     /// The same for a process that is no more but for what was kept of it, which this is: it goes on from that in this epoch. `false` where
-    /// what was kept has that epoch or a later one, and then nothing changes. Whether the process had returned to a later settlement before it
-    /// was lost is the caller's to know.
+    /// what was kept has that epoch or a later one, and then nothing changes. Whether the process had returned to this settlement and gone on
+    /// before it was lost, or to a later one, is the caller's to know.
     pub fn returned(&mut self, epoch: u32) -> bool
         ensures returned { IsTrue result → Returns self.old self.new epoch }
         ensures refused { result ≡ false → (epoch ≤ self.old.epoch) × (self.new ≡ self.old) }

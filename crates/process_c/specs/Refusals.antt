@@ -1,5 +1,5 @@
 -- Why each call is refused: of the faults that apply the first of their list is told, and memory may be wanting for any.
-use Rattle.std.specs.Prelude.{◌≡◌, ◌≤◌, ℕ, List, false, ⊤}
+use Rattle.std.specs.Prelude.{◌≡◌, ◌≤◌, ℕ, List, false, IsTrue, ⊤}
 use Rattle.report_line.specs.Names.{is_name}
 use Rattle.process.specs.declared.fault.ProcessFault.{ProcessFault}
 use Rattle.process.specs.declared.fault.ProcessFault.TheVariants as refusals
@@ -18,7 +18,8 @@ ByProcess refused p _ = ⊥
 -- where a name was handed over, too
 abbrev pub ByName : (ProcessFault → Process → Type 0) → List ℕ → Process → Fault → Type 0
 ByName refused name p faults.Name = is_name name ≡ false
-ByName refused name p (faults.Refused fault) = refused fault p
+ByName refused name p (faults.Refused refusals.Memory) = ⊤
+ByName refused name p (faults.Refused fault) = IsTrue (is_name name) × refused fault p
 ByName refused name p _ = ⊥
 
 -- where the text of a message or a retirement was handed over, too

@@ -64,13 +64,13 @@ forks root h x old new s same grown split differs unborn =
       together = parts.together;
     }
 
-absorbs : (root : Name) (h : History) (x : Event) (old new : Process) (r : Retirement) → stamp_of x ≡ old.stamp → Waits root h old r → IsAbsorb old.stamp r.stamp new.stamp
+absorbs : (root : Name) (h : History) (x : Event) (old new : Process) (r : Retirement) → stamp_of x ≡ old.stamp → r.target ≡ old.name → Waits root h r → IsAbsorb old.stamp r.stamp new.stamp
     → IsLawfulAbsorption root h x (step_of old (deeds.Absorb r.process) new) r.process
-absorbs root h x old new r same waits stamped =
+absorbs root h x old new r same into_this waits stamped =
     let w = subst (λ (t : Stamp). IsAbsorb (stamp_of x) t new.stamp) (sym waits.2) (subst (λ (t : Stamp). IsAbsorb t r.stamp new.stamp) (sym same) stamped) in
     record {
       retirement = waits.0;
-      into_this = waits.1;
+      into_this = waits.1 ∙ ap (λ (q : Name). Retired waits.0 q) into_this;
       between = w.after;
       grown = w.grown;
       joined = w.join;
@@ -92,7 +92,7 @@ allowed root h n (Retire target r line) old new x does same from = (
   own_work x old new (deeds.Retire target) same (subst (λ (t : Stamp). Counts old.stamp t) (sym (ap (λ (p : Process). p.stamp) does.1)) does.0.stamped),
   does.0.other,
 )
-allowed root h n (Absorb k r line) old new x does same from = absorbs root h x old new r same from does.stamped
+allowed root h n (Absorb k r line) old new x does same from = absorbs root h x old new r same does.into_this from does.stamped
 allowed root h n (Return epoch) old new x does same from = tt
 
 module _ (root : Name) (run : Run) (past : Past) (lawful : IsLawful root (current run)) (holds : AreCurrent root past (current run) (epoch run)) where
@@ -104,21 +104,21 @@ module _ (root : Name) (run : Run) (past : Past) (lawful : IsLawful root (curren
       omega arith
 
   waits_for : (old : Process) (from : ℕ) (r : Retirement) → old.epoch ≡ epoch run → r.target ≡ old.name → GaveRetirement past from r → MayAbsorb root run past old from r
-      → Waits root (current run) old r
+      → Waits root (current run) r
   waits_for old from r now into_this gave (inl w) =
       elim (holds.retired from r gave (w.0 ∙ now)) [
-        | inl v ↦ (v.0, v.1 ∙ ap (λ (q : Name). Retired v.0 q) into_this, v.2)
+        | inl v ↦ v
         | inr v ↦ absurd (v.1 w.1)
       ]
   waits_for old from r now into_this gave (inr keeps) =
       let k = keeps now in
-      (k.event, retired_waits lawful r.process old.name k.event k.waits.occurs k.waits.of_process k.waits.retires k.waits.not_absorbed, k.stamp)
+      (k.event, retired_waits lawful r.process r.target k.event k.waits.occurs k.waits.of_process k.waits.retires k.waits.not_absorbed, k.stamp)
 
   -- what the call takes and names is so in the current history
   is_from : (a : Act) (old new : Process) → DoesSo a old new → MayDo root run past a old → old.epoch ≡ epoch run → IsFrom root (current run) (length past) a old
   is_from Work old new does may now = tt
   is_from (Send m) old new does may now = unsent (current run) (length past ∷ []) unsent_yet
-  is_from (Receive from m) old new does may now = holds.sent from m may.1 (does.epoch ∙ now)
+  is_from (Receive from m) old new does may now = elim may.1 [ inl gave ↦ holds.sent from m gave (does.epoch ∙ now) | inr keeps ↦ keeps now ]
   is_from (Check line) old new does may now = tt
   is_from (Present line) old new does may now = tt
   is_from (Fork s line) old new does may now =

@@ -8,7 +8,7 @@ use Rattle.histories.proofs.Rules.{retired_not_living}
 use Rattle.report_line.specs.declared.step.Deed.{Deed}
 use Rattle.report_line.specs.declared.step.Deed.TheVariants as deeds
 use Rattle.report_line.specs.declared.step.Step.{Step}
-use Rattle.report_line.specs.History.{Name, History, event_of, status}
+use Rattle.report_line.specs.History.{Name, History, Event, Living, event_of, status}
 use Rattle.report_line.specs.Lawful.{IsAllowed}
 use Rattle.settled_lists.specs.Runs.{Run, epoch, current}
 use Rattle.process.specs.declared.process.Process.{Process}
@@ -17,7 +17,7 @@ use Rattle.process.specs.declared.handed.Start.{Start}
 use Rattle.process.specs.declared.handed.Retirement.{Retirement}
 use Rattle.process_law.specs.Accounts.{Act, Work, Send, Receive, Check, Present, Fork, Begin, Retire, Absorb, Return, DoesSo, begun_by, deed_of}
 use Rattle.process_law.specs.Handing.{Past, goes_on, GoesFromNewest, IsUnbegun, IsUnabsorbed, MayAbsorb, MayDo}
-use Rattle.process_law.specs.EachCall.{LivesAs, step_of, IsSent}
+use Rattle.process_law.specs.EachCall.{LivesAs, step_of, IsSent, IsGiven}
 use Rattle.process_law.proofs.Calls.{call_within, GaveMessage, GaveStart, GaveRetirement, message_cases, start_cases, retirement_cases, unbegun_before, unabsorbed_before, forked_later, goes_on_is, newest_cases, newest_is, call_in}
 use Rattle.process_law.proofs.CallKinds.{doing, first_byte, same_deed, OnDeed, on_deed, sent_name, forked_child, absorbed_of}
 use Rattle.process_law.proofs.Orders.{AreInOrder}
@@ -51,6 +51,31 @@ lives_next root h n (Retire target r line) old new s does w on = absurd (none-so
 lives_next root h n (Absorb from r line) old new s does w on =
     lives_by root h old new (deeds.Absorb r.process) 1 (λ x. refl) (counted h (step_of old (deeds.Absorb r.process) new) refl) does.goes w
 lives_next root h n (Return epoch) old new s does w on = tt
+
+abbrev stamp_of_both : IdTree → EventTree → Stamp
+stamp_of_both i e = record { id = i; events = e }
+
+-- what it gives out is of the history then
+pub gives_now : (root : Name) (h : History) (n : ℕ) (a : Act) (old new : Process) (x : Event) → DoesSo a old new → status root h old.name ≡ Living x
+    → OnDeed (deed_of n a) (λ deed. IsAllowed root h x (step_of old deed new) deed) → OnDeed (deed_of n a) (λ deed. IsGiven root (step_of old deed new ∷ h) n a)
+gives_now root h n Work old new x does living ok = tt
+gives_now root h n (Send m) old new x does living ok =
+    let s = step_of old (deeds.Send (n ∷ [])) new in
+    (event_of h s, sends_now h s (n ∷ []) refl, sym does.events)
+gives_now root h n (Receive from m) old new x does living ok = tt
+gives_now root h n (Check line) old new x does living ok = tt
+gives_now root h n (Present line) old new x does living ok = tt
+gives_now root h n (Fork t line) old new x does living ok =
+    child_lives root h x (step_of old (deeds.Fork t.child t.stamp.id) new) (begun_by t) t.stamp.id living ok refl (ap (stamp_of_both t.stamp.id) (sym does.same)) refl
+gives_now root h n (Begin from t) old new x does living ok = tt
+gives_now root h n (Retire target r line) old new x does living ok =
+    let s = step_of old (deeds.Retire target) new in (
+      event_of h s,
+      retires_by root h s r.process r.target does.0.process (ap (λ (q : Name). deeds.Retire q) (sym does.0.target_is)),
+      ap (λ (p : Process). p.stamp) does.1,
+    )
+gives_now root h n (Absorb from r line) old new x does living ok = tt
+gives_now root h n (Return epoch) old new x does living ok = tt
 
 absorbed_name : (r p : Name) → deeds.Absorb r ≡ deeds.Absorb p → r ≡ p
 absorbed_name r p is = cc

@@ -329,7 +329,7 @@ a_family_is_possible = (
         from3,
         (
           receives_b,
-          (from4, (made (Send message) a2 a3, record { later = []; earlier = p3; past_is = refl; number = refl }, refl)),
+          (from4, inl (made (Send message) a2 a3, record { later = []; earlier = p3; past_is = refl; number = refl }, refl)),
           (checks_b, from5, (presents_a, from6, ((retires_b, refl), from7, rest8 _))),
         ),
       ),

@@ -11,7 +11,7 @@ use Rattle.report_line.specs.StepReports.{report_of, reporting_steps}
 use Rattle.process.specs.declared.process.Process.{Process}
 use Rattle.process.specs.declared.handed.Message.{Message}
 use Rattle.process.specs.declared.handed.Retirement.{Retirement}
-use Rattle.process_law.specs.Accounts.{Act, Send, Receive, Fork, Absorb, Doing, IsDone, deed_of}
+use Rattle.process_law.specs.Accounts.{Act, Send, Receive, Fork, Retire, Absorb, Doing, IsDone, deed_of, begun_by}
 use Rattle.process_law.specs.Handing.{stamp_of, goes_on}
 use Rattle.process_law.specs.Obeying.{line_given}
 
@@ -30,9 +30,9 @@ step_of old deed new = record { process = old.name; deed = deed; stamp = new.sta
 abbrev pub IsSent : History → ℕ → Message → Type 0
 IsSent h n m = (x : Event) × (sending h (n ∷ []) ≡ Some x) × (x.values ≡ m.events)
 
--- who left the retirement waits for this process, by an event with its stamp
-abbrev pub Waits : Name → History → Process → Retirement → Type 0
-Waits root h old r = (y : Event) × (status root h r.process ≡ Retired y old.name) × (stamp_of y ≡ r.stamp)
+-- who left the retirement waits for its target, by an event with its stamp
+abbrev pub Waits : Name → History → Retirement → Type 0
+Waits root h r = (y : Event) × (status root h r.process ≡ Retired y r.target) × (stamp_of y ≡ r.stamp)
 
 -- What the history has of what a call takes or names: a message that a call sends is new, one that it receives was sent; the name of a child
 -- is new; and who is absorbed waits for that.
@@ -40,8 +40,15 @@ abbrev pub IsFrom : Name → History → ℕ → Act → Process → Type 0
 IsFrom root h n (Send message) old = sending h (n ∷ []) ≡ None
 IsFrom root h n (Receive from message) old = IsSent h from message
 IsFrom root h n (Fork start line) old = (start.child ≢ root) × (status root h start.child ≡ Unborn)
-IsFrom root h n (Absorb from retirement line) old = Waits root h old retirement
+IsFrom root h n (Absorb from retirement line) old = Waits root h retirement
 IsFrom root h n act old = ⊤
+
+-- What a call gives out is of the history then: the message is sent, the child lives as its start says, and who retired waits for the target.
+abbrev pub IsGiven : Name → History → ℕ → Act → Type 0
+IsGiven root h n (Send message) = IsSent h n message
+IsGiven root h n (Fork start line) = LivesAs root h (begun_by start)
+IsGiven root h n (Retire target retirement line) = Waits root h retirement
+IsGiven root h n act = ⊤
 
 -- There is one line where there is a report, and it is read as this report of this epoch.
 abbrev pub IsTold : ℕ → Option Report → List (List ℕ) → Type 0
@@ -50,12 +57,14 @@ IsTold e o (line ∷ []) = (r : Report) × (o ≡ Some r) × Spells (calls.Repor
 IsTold e o (line ∷ other ∷ lines) = ⊥
 
 -- The step is allowed from the process's last event; its line is that of the report; and the process lives on as the call left it, if it does.
-pub record IsAllowedCall (root : Name) (h : History) (d : Doing) (deed : Deed) (before : Event) : Type 0 where
+pub record IsAllowedCall (root : Name) (h : History) (n : ℕ) (d : Doing) (deed : Deed) (before : Event) : Type 0 where
   pub allowed : IsAllowed root h before (step_of d.old deed d.new) deed
   pub told : IsTold d.old.epoch (report_of root h (step_of d.old deed d.new)) (line_given d.act)
   pub lives : (s : Process) → goes_on d.act d.new ≡ Some s → LivesAs root (step_of d.old deed d.new ∷ h) s
+  pub gives : IsGiven root (step_of d.old deed d.new ∷ h) n d.act
+  pub others : (s : Process) → s.name ≢ d.old.name → LivesAs root h s → LivesAs root (step_of d.old deed d.new ∷ h) s
 
 abbrev pub EachCallIsAllowed : Type 0
 EachCallIsAllowed =
     (root : Name) (h : History) (n : ℕ) (d : Doing) (deed : Deed) (w : LivesAs root h d.old) → IsDone d → deed_of n d.act ≡ Some deed → IsFrom root h n d.act d.old
-    → IsAllowedCall root h d deed w.event
+    → IsAllowedCall root h n d deed w.event

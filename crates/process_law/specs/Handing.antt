@@ -3,7 +3,7 @@
 use Rattle.std.specs.Prelude.{◌≡◌, ◌≢◌, ◌⊎◌, ℕ, ◌≤◌, if◌then◌else◌, List, [], ◌∷◌, ◌++◌, length, Contains, Option, Some, None, ⊤}
 use Rattle.std.specs.Str.{bytes_eq}
 use Rattle.id_tree.specs.IdTree.{One}
-use Rattle.event_tree.specs.EventTree.{Leaf}
+use Rattle.event_tree.specs.EventTree.{EventTree, Leaf}
 use Rattle.stamp.specs.declared.stamp.Stamp.{Stamp}
 use Rattle.report_line.specs.declared.call.Call.{Call}
 use Rattle.report_line.specs.declared.call.Call.TheVariants as calls
@@ -11,13 +11,14 @@ use Rattle.report_line.specs.declared.reply.Reply.{Reply}
 use Rattle.report_line.specs.declared.reply.Reply.TheVariants.{Accepted}
 use Rattle.report_line.specs.declared.report.Report.TheVariants as reports
 use Rattle.report_line.specs.declared.step.Deed.{Deed}
-use Rattle.report_line.specs.History.{Name, Event}
+use Rattle.report_line.specs.History.{Name, Event, sending}
 use Rattle.report_line.specs.Reading.{Spells}
 use Rattle.report_line.specs.StepReports.{reporting_steps}
 use Rattle.histories.specs.Rules.{IsNewest, IsWaiting}
 use Rattle.settled_lists.specs.Runs.{Run, Made, epoch, current}
 use Rattle.settled_turns.specs.Traces.{Adds}
 use Rattle.process.specs.declared.process.Process.{Process}
+use Rattle.process.specs.declared.handed.Message.{Message}
 use Rattle.process.specs.declared.handed.Start.{Start}
 use Rattle.process.specs.declared.handed.Retirement.{Retirement}
 use Rattle.process_law.specs.Accounts.{Act, Work, Send, Receive, Check, Present, Fork, Begin, Retire, Absorb, Return, Doing, IsDone, Did, Took, Account, deed_of}
@@ -79,9 +80,9 @@ pub record IsAtPosition (root : Name) (run : Run) (kept : Process) : Type 0 wher
   pub reports : kept.reports ≡ reporting_steps kept.name (current run)
 
 -- The retirement is one of the current history, it waits for this process, and who retired did not retire anew since the last settlement.
-pub record IsKept (root : Name) (run : Run) (past : Past) (into : Process) (retirement : Retirement) : Type 0 where
+pub record IsKept (root : Name) (run : Run) (past : Past) (retirement : Retirement) : Type 0 where
   pub event : Event
-  pub waits : IsWaiting root (current run) retirement.process into.name event
+  pub waits : IsWaiting root (current run) retirement.process retirement.target event
   pub stamp : stamp_of event ≡ retirement.stamp
   pub not_anew : (d : Doing) (target : Name) (other : Retirement) (line : List ℕ) → Contains past d → d.act ≡ Retire target other line
       → other.process ≡ retirement.process → other.epoch ≢ epoch run
@@ -90,13 +91,21 @@ pub record IsKept (root : Name) (run : Run) (past : Past) (into : Process) (reti
 -- that absorbs it has returned to the last of them.
 abbrev pub MayAbsorb : Name → Run → Past → Process → ℕ → Retirement → Type 0
 MayAbsorb root run past old from retirement =
-    ((retirement.epoch ≡ old.epoch) × IsUnabsorbed past from) ⊎ (old.epoch ≡ epoch run → IsKept root run past old retirement)
+    ((retirement.epoch ≡ old.epoch) × IsUnabsorbed past from) ⊎ (old.epoch ≡ epoch run → IsKept root run past retirement)
+
+-- What is received is what a call gave out; or, where the receiver has returned, it has the values of that call's event, which is one of the
+-- current history: who has it by its position hands it over once more, with the epoch that it has by then.
+abbrev pub WasSent : Run → ℕ → EventTree → Type 0
+WasSent run n values = (x : Event) × (sending (current run) (n ∷ []) ≡ Some x) × (x.values ≡ values)
+
+abbrev pub MayReceive : Run → Past → Process → ℕ → Message → Type 0
+MayReceive run past old from message = ((d : Doing) × IsCall past from d × (d.act ≡ Send message)) ⊎ (old.epoch ≡ epoch run → WasSent run from message.events)
 
 -- what is asked of a call
 abbrev pub MayDo : Name → Run → Past → Act → Process → Type 0
 MayDo root run past Work old = GoesFromNewest root past old
 MayDo root run past (Send message) old = GoesFromNewest root past old
-MayDo root run past (Receive from message) old = GoesFromNewest root past old × ((d : Doing) × IsCall past from d × (d.act ≡ Send message))
+MayDo root run past (Receive from message) old = GoesFromNewest root past old × MayReceive run past old from message
 MayDo root run past (Check line) old = GoesFromNewest root past old
 MayDo root run past (Present line) old = GoesFromNewest root past old
 MayDo root run past (Fork start line) old = GoesFromNewest root past old × IsNewName root past start.child

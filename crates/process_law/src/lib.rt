@@ -1,8 +1,9 @@
 //! Whoever takes its steps by the calls of `process` has what the headline asks of processes.
 //!
 //! An account tells which calls processes made and which turns the coordinator took, in order. What goes from one process to another is
-//! handed over as it was given out, each start and each retirement once, and no process goes on from an older state than it returned to.
-//! Then the steps obey the rules. These are laws of definitions.
+//! handed over as it was given out, each start and each retirement once, or, behind a settlement, a message of the current history once more; and a
+//! process goes on from its newest state, or, where it returns, from what it was at its position. Then the steps obey the rules. These are laws of
+//! definitions.
 #![tactic(auto)]
 
 ghost use Rattle.process_law.specs.Obeying.{StepsOfCallsObey, StepsOfCallsAreLawful};

@@ -8,25 +8,31 @@ use Rattle.report_line.specs.StepReports.{report_of}
 use Rattle.process.specs.declared.process.Process.{Process}
 use Rattle.process_law.specs.Accounts.{Doing, IsDone, deed_of}
 use Rattle.process_law.specs.Obeying.{line_given}
-use Rattle.process_law.specs.EachCall.{LivesAs, step_of, IsFrom, IsTold, IsAllowedCall}
+use Rattle.process_law.specs.EachCall.{LivesAs, step_of, IsFrom, IsGiven, IsTold, IsAllowedCall}
 use Rattle.process_law.proofs.Calls.{goes_on_is}
 use Rattle.process_law.proofs.CallKinds.{on_deed}
 use Rattle.process_law.proofs.Letting.{allowed}
 use Rattle.process_law.proofs.Telling.{tells}
-use Rattle.process_law.proofs.Stepping.{lives_next}
+use Rattle.process_law.proofs.Stepping.{lives_next, gives_now}
+use Rattle.process_law.proofs.Standing.{lives_on}
 use Rattle.process_law.proofs.each_call_is_allowed.Goals as goal
 
 each : (root : Name) (h : History) (n : ℕ) (d : Doing) (deed : Deed) (w : LivesAs root h d.old) → IsDone d → deed_of n d.act ≡ Some deed → IsFrom root h n d.act d.old
-    → IsAllowedCall root h d deed w.event
-each root h n d deed w does is from = record {
-  allowed = on_deed (deed_of n d.act) deed (λ c. IsAllowed root h w.event (step_of d.old c d.new) c) is (allowed root h n d.act d.old d.new w.event does w.stamp from);
-  told =
-      on_deed (deed_of n d.act) deed (λ c. IsTold d.old.epoch (report_of root h (step_of d.old c d.new)) (line_given d.act)) is
-      (tells root h n d.act d.old d.new does w);
-  lives = λ s goes.
-      subst (λ (p : Process). LivesAs root (step_of d.old deed d.new ∷ h) p) (sym (goes_on_is d.act d.new s goes))
-      (on_deed (deed_of n d.act) deed (λ c. LivesAs root (step_of d.old c d.new ∷ h) d.new) is (lives_next root h n d.act d.old d.new s does w goes));
-}
+    → IsAllowedCall root h n d deed w.event
+each root h n d deed w does is from =
+    let lets = allowed root h n d.act d.old d.new w.event does w.stamp from in
+    let ok : IsAllowed root h w.event (step_of d.old deed d.new) deed = on_deed (deed_of n d.act) deed (λ c. IsAllowed root h w.event (step_of d.old c d.new) c) is lets in
+    record {
+      allowed = ok;
+      told =
+          on_deed (deed_of n d.act) deed (λ c. IsTold d.old.epoch (report_of root h (step_of d.old c d.new)) (line_given d.act)) is
+          (tells root h n d.act d.old d.new does w);
+      lives = λ s goes.
+          subst (λ (p : Process). LivesAs root (step_of d.old deed d.new ∷ h) p) (sym (goes_on_is d.act d.new s goes))
+          (on_deed (deed_of n d.act) deed (λ c. LivesAs root (step_of d.old c d.new ∷ h) d.new) is (lives_next root h n d.act d.old d.new s does w goes));
+      gives = on_deed (deed_of n d.act) deed (λ c. IsGiven root (step_of d.old c d.new ∷ h) n d.act) is (gives_now root h n d.act d.old d.new w.event does w.lives lets);
+      others = λ s differs there. lives_on root h w.event (step_of d.old deed d.new) s w.lives ok differs there;
+    }
 
 pub returns : goal.returns
 returns c = each

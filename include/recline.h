@@ -7,7 +7,8 @@
  *
  * The answer of each call:
  *   n >= 0   The texts have n bytes in all. Where n <= out_len they stand in the first n bytes of out, and its rest is as it was. Where
- *            n > out_len nothing was written: call again with room for n bytes.
+ *            n > out_len nothing was written: call again with room for n bytes, until it is enough. That call gives
+ *            the same texts, or RECLINE_MEMORY. Of recline_fork_small it is left open which of the deepest leaves it cuts, so n may differ then.
  *   n < 0    A fault of recline_fault. Nothing was written, and the process stays as it was.
  *
  * No pointer is null, also where the length is 0. out shares no byte with what is handed in. Nothing ends with a NUL. Nothing is kept between
@@ -40,7 +41,8 @@ enum recline_fault {
     RECLINE_CLOCK_FULL = -12,   /* a value would be greater than 4,294,967,295 */
     RECLINE_TOO_DEEP = -13,     /* an id would be deeper than 40, or there is no leaf of the depth that is asked for */
     RECLINE_OVERLAP = -14,      /* the process and the retired one own a point in common: one of them is not what it was */
-    RECLINE_OTHER_PROCESS = -15 /* the state that was kept is another process's */
+    RECLINE_OTHER_PROCESS = -15, /* the state that was kept is another process's */
+    RECLINE_NOT_SENT = -16      /* the message tells what the process does not know: it did not send it, or that is undone */
 };
 
 /* Room that is enough as long as no line is longer than the 8,192 bytes that recline takes. */
@@ -64,8 +66,14 @@ int64_t recline_present(const char *state, size_t state_len, char *out, size_t o
 /* A message is sent. Gives: the new state, and the text that goes with the message. */
 int64_t recline_send(const char *state, size_t state_len, char *out, size_t out_len);
 
-/* A message of this epoch is received, by the text that came with it. Gives: the new state. RECLINE_OLDER: drop it, its sender hands it over
- * once more where it is not undone, with the epoch that it has by then in the text. RECLINE_NEWER: it waits until this process has returned. */
+/* A message that the process sent, or one that it absorbed, is handed over once more, by the text that went with it: behind a settlement, where it
+ * was sent by the sender's position and not received by that of the receiver. Gives: the state, which stays as it is, and the text that goes with
+ * the message now, of the epoch of the process. RECLINE_NEWER: it is of a newer epoch than the process. RECLINE_NOT_SENT: its sending is undone,
+ * or it is another one's; where the process went on and knows as much by now, that does not show. */
+int64_t recline_again(const char *state, size_t state_len, const char *message, size_t message_len, char *out, size_t out_len);
+
+/* A message of this epoch is received, by the text that came with it. Gives: the new state. RECLINE_OLDER: drop it; where it is not undone it is
+ * handed over once more, by recline_again. RECLINE_NEWER: it waits until this process has returned. */
 int64_t recline_receive(const char *state, size_t state_len, const char *message, size_t message_len, char *out, size_t out_len);
 
 /* A child is made of a name that no other process has or had. Gives: the new state, the line "FORK ..", and the start of the child, to be
@@ -76,7 +84,8 @@ int64_t recline_fork(const char *state, size_t state_len, const char *child, siz
  * once, and ids get no deeper, as long as these retire into this process. */
 int64_t recline_fork_small(const char *state, size_t state_len, const char *child, size_t child_len, uint8_t depth, char *out, size_t out_len);
 
-/* The process ends, and hands what it is to the target. Gives: the line "RETIRE ..", and the retirement, for the target. */
+/* The process ends, and hands what it is to the target. Gives: the line "RETIRE ..", and the retirement, for the target. Where the line is answered
+ * NO 10 the process has not ended: call once more, with the same state and another target, and the line has the same number and stamp. */
 int64_t recline_retire(const char *state, size_t state_len, const char *target, size_t target_len, char *out, size_t out_len);
 
 /* A retirement into this process, of its epoch, is absorbed, once. Gives: the new state, and the line "ABSORB ..". */

@@ -9,7 +9,7 @@ families, a seed, and NAME=COMMAND for each binding. The command takes steps, on
     keep p k              the state of p is kept as k
     return_to p k e       p, which is alive, returns to the state k, in the epoch e
     return p k e          the same where p has no state any more
-    again p m             the message m bears the epoch of p from now on
+    again p m             p hands m over once more, which bears its epoch from now on
 
 What is refused is written as FAULT and its number. The reports have to be those of examples/client/stamps.py, and, where all parts of ids are
 halves, those of `recline drive`; and `recline run` has to accept all of them. Every eighth family settles.
@@ -23,9 +23,9 @@ import tempfile
 
 recline, client, families, seed, *makers = sys.argv[1:]
 sys.path.insert(0, client)
-from stamps import Stamp, leaves, text
+from stamps import Stamp, join, leaves, text
 
-OLDER, NEWER, NOT_WAITING, SELF_TARGET, NAME_TAKEN, OVERLAP, OTHER_PROCESS = -8, -9, -7, -5, -6, -14, -15
+OLDER, NEWER, NOT_WAITING, SELF_TARGET, NAME_TAKEN, OVERLAP, OTHER_PROCESS, NOT_SENT = -8, -9, -7, -5, -6, -14, -15, -16
 LARGEST = 64
 
 
@@ -184,7 +184,9 @@ class Family:
         line = dict(json.loads(reply.partition(" ")[2])["line"])
         self.lines.append("SETTLE %d %s" % (len(self.lines), failed))
         self.script.append("settle " + failed)
-        self.messages = {m: sent for m, sent in self.messages.items() if line[sent[2]] == "retired" or sent[3] < line[sent[2]]}
+        before = self.messages
+        self.messages = {m: sent for m, sent in before.items() if line[sent[2]] == "retired" or sent[3] < line[sent[2]]}
+        undone = [(message, sent[2]) for message, sent in before.items() if message not in self.messages]
         self.retired = {name: gone for name, gone in self.retired.items() if line[name] == "retired" and line[gone[0]] != 0}
         late = list(self.stamps)
         alive = [name for name in late if name not in crashed]
@@ -193,16 +195,30 @@ class Family:
         self.chance.shuffle(order)
         for name in order:
             self.return_to(name, line[name], name in alive)
+            for message, sender in undone:
+                if sender == name and self.chance.random() < 0.3:
+                    self.refused("again %s %s" % (name, message), NOT_SENT)
             late = [other for other in late if other not in self.stamps]
             if late and self.chance.random() < 0.3:
                 # One that has not returned yet lets wait what another one hands over.
                 self.send(name)
-                self.refused("receive %s %s" % (self.chance.choice(late), list(self.messages)[-1]), NEWER)
-        for message, (events, _, sender, count) in list(self.messages.items()):
-            if self.messages[message][1] == 0 and self.chance.random() < 0.7:
-                self.step("again %s %s" % (order[0], message), False)
+                for call in ("receive", "again"):
+                    self.refused("%s %s %s" % (call, self.chance.choice(late), list(self.messages)[-1]), NEWER)
+        for message, (events, epoch, sender, count) in list(self.messages.items()):
+            if epoch == 0 and self.chance.random() < 0.7 and self.hand_over(message, events, sender):
                 self.messages[message] = events, 1, sender, count
         self.elements = {name: elements for name, elements in self.elements.items() if line[name] != 0}
+
+    def hand_over(self, message, events, sender):
+        """Whether it is handed over once more: by its sender, or where that ended by one that knows what it tells, if there is one."""
+        knows = [name for name in self.live() if join(events, self.stamps[name].events) == self.stamps[name].events]
+        others = [name for name in self.live() if name not in knows and name != sender]
+        if others and self.chance.random() < 0.2:
+            self.refused("again %s %s" % (self.chance.choice(others), message), NOT_SENT)
+        if sender not in self.stamps and not knows:
+            return False
+        self.step("again %s %s" % (sender if sender in self.stamps else self.chance.choice(knows), message), False)
+        return True
 
     def return_to(self, name, position, is_alive):
         stamp, number, absorbed = self.elements[name][position - 1]
@@ -272,8 +288,8 @@ for k in range(int(families)):
         expect("recline drive on family %d" % k, drive(family.script), family.lines)
 largest = max(len(family.elements) for family in made)
 expect("%d processes are in one family" % largest, [largest >= LARGEST or len(made) < 100], [True])
-ways = {kind: sum(step.startswith(kind + " ") for family in made for step in family.steps) for kind in ("return_to", "return")}
-expect("processes return in both ways: %s" % ways, [len(made) < 100 or min(ways.values()) > 0], [True])
+ways = {kind: sum(step.startswith(kind + " ") for family in made for step in family.steps) for kind in ("return_to", "return", "again")}
+expect("processes return in both ways, and hand messages over once more: %s" % ways, [len(made) < 100 or min(ways.values()) > 0], [True])
 steps = "".join(step + "\n" for family in made for step in family.steps)
 for maker in makers:
     name, _, command = maker.partition("=")

@@ -51,6 +51,7 @@ int process_work(Process *process) { CALL(STATE, recline_work, TEXT(process->sta
 int process_check(Process *process) { CALL(STATE | LINE, recline_check, TEXT(process->state)) }
 int process_present(Process *process) { CALL(STATE | LINE, recline_present, TEXT(process->state)) }
 int process_send(Process *process) { CALL(STATE | HANDED, recline_send, TEXT(process->state)) }
+int process_again(Process *process, const char *message) { CALL(STATE | HANDED, recline_again, TEXT(process->state), TEXT(message)) }
 int process_receive(Process *process, const char *message) { CALL(STATE, recline_receive, TEXT(process->state), TEXT(message)) }
 int process_fork(Process *process, const char *child) { CALL(STATE | LINE | HANDED, recline_fork, TEXT(process->state), TEXT(child)) }
 int process_fork_small(Process *process, const char *child, uint8_t depth) {
@@ -64,10 +65,12 @@ int process_return_to(Process *process, const char *kept, uint32_t epoch) {
 }
 int process_returned(Process *process, uint32_t epoch) { CALL(STATE, recline_returned, TEXT(process->state), epoch) }
 
-/* The state is read at the next call. */
+/* The state is read at the next call. It is one line. */
 int process_restore(Process *process, const char *state) {
-    size_t size = strlen(state);
-    char *texts = malloc(size + 2);
+    size_t size = state ? strlen(state) : 0;
+    char *texts;
+    if (!state || strchr(state, '\n')) return RECLINE_NO_STATE;
+    texts = malloc(size + 2);
     if (!texts) return RECLINE_MEMORY;
     memcpy(texts, state, size);
     texts[size] = '\n';

@@ -31,14 +31,6 @@ static void keep(const char *name, const char *text) {
     texts[put++].text = strdup(text);
 }
 
-/* The message with the epoch of the process in place of its own. */
-static void mark_again(Process *process, const char *name) {
-    char *again = malloc(strlen(text_of(name)) + 16);
-    sprintf(again, "message %lu%s", strtoul(strchr(strchr(process->state, ' ') + 1, ' '), NULL, 10), strrchr(text_of(name), ' '));
-    keep(name, again);
-    free(again);
-}
-
 static void forget_all(void) {
     while (born) free(processes[--born].name), process_free(&processes[born].process);
     while (put) free(texts[--put].name), free(texts[put].text);
@@ -58,11 +50,14 @@ static int step(char *words[WORDS]) {
     if (!strcmp(kind, "absorb")) return process_absorb(p, text_of(object));
     if (!strcmp(kind, "absorb_kept")) return process_absorb_kept(p, text_of(object));
     if (!strcmp(kind, "keep")) return keep(object, p->state), process_restore(p, text_of(object));
-    if (!strcmp(kind, "again")) return mark_again(p, object), process_restore(p, p->state);
     if (!strcmp(kind, "return_to")) return process_return_to(p, text_of(object), (uint32_t)atoi(more));
     if (!strcmp(kind, "return")) return process_restore(p, text_of(object)) ? RECLINE_MEMORY : process_returned(p, (uint32_t)atoi(more));
     if (!strcmp(kind, "send")) {
         if (!(answer = process_send(p))) keep(object, p->handed);
+        return answer;
+    }
+    if (!strcmp(kind, "again")) {
+        if (!(answer = process_again(p, text_of(object)))) keep(object, p->handed);
         return answer;
     }
     if (!strcmp(kind, "retire")) {

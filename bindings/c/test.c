@@ -62,12 +62,43 @@ static void try_example(void) {
     expect("b ended, and has no live state", process_return_to(&b, kept_b, 1) == RECLINE_NO_STATE);
     expect("b returns to its birth", !process_restore(&b, kept_b) && !process_returned(&b, 1));
     expect_text("the state of b that returned", b.state, "process b 1 0 (0,1);1");
+    expect("a hands over once more what it sent before its position", !process_again(&a, "message 0 (1,1,0)"));
+    expect_text("the message of the new epoch", a.handed, "message 1 (1,1,0)");
+    expect_text("a hand-over is no step", a.state, "process a 1 2 (1,0);(1,1,0)");
+    expect("a message that it sent behind its position", process_again(&a, "message 0 (2,3,0)") == RECLINE_NOT_SENT);
+    expect_text("what is refused hands over nothing else", a.handed, "message 1 (1,1,0)");
     expect("a checks behind the settlement", !process_check(&a));
     expect_text("CHECK with a mark", a.line, "CHECK@1 a 3 (1,0);(1,2,0)");
     expect("a tells its present state", !process_present(&a) && !strncmp(a.line, "PRESENT@1 a 4 ", 14));
     expect("a works", !process_work(&a) && !a.line);
     process_free(&a);
     process_free(&b);
+}
+
+/* A state that is restored is one line. */
+static void try_restore(void) {
+    Process a = {0};
+    expect("a state", !process_restore(&a, "process a 0 0 1;0"));
+    expect("no state at all", process_restore(&a, NULL) == RECLINE_NO_STATE);
+    expect("a state with a line behind it", process_restore(&a, "process a 0 1 1;1\nCHECK a 1 1;1") == RECLINE_NO_STATE);
+    expect("a state with its LF", process_restore(&a, "process a 0 1 1;1\n") == RECLINE_NO_STATE);
+    expect_text("what is refused changes nothing", a.state, "process a 0 0 1;0");
+    expect("a text of no process is restored", !process_restore(&a, "process a"));
+    expect("and shows at the next call", process_work(&a) == RECLINE_NO_STATE);
+    process_free(&a);
+}
+
+/* A process whose retirement was refused retires anew, from the state that it had: with the same number and stamp, into another target. */
+static void try_other_target(void) {
+    Process a = {0};
+    expect("a process", !process_restore(&a, "process a 0 1 (1,0);1"));
+    expect("it retires", !process_retire(&a, "b"));
+    expect_text("RETIRE", a.line, "RETIRE a 2 (1,0);(1,1,0) b");
+    expect("its state was kept", !process_restore(&a, "process a 0 1 (1,0);1"));
+    expect("it retires into another one", !process_retire(&a, "c"));
+    expect_text("RETIRE with another target", a.line, "RETIRE a 2 (1,0);(1,1,0) c");
+    expect_text("the retirement for that", a.handed, "retirement a 0 c (1,0);(1,1,0)");
+    process_free(&a);
 }
 
 static int64_t call(int64_t (*one)(const char *, size_t, const char *, size_t, char *, size_t), const char *state, const char *handed) {
@@ -104,6 +135,13 @@ static void try_faults(void) {
     expect("one that was kept", call(recline_absorb_kept, a, "retirement a 0 a (0,1);2") == RECLINE_NOT_WAITING);
     expect("an older message", call(recline_receive, a, "message 0 9") == RECLINE_OLDER);
     expect("a newer message", call(recline_receive, a, "message 2 9") == RECLINE_NEWER);
+    expect("a message once more", call(recline_again, a, "message 0 1") == 22 + 12);
+    expect("one of this epoch", call(recline_again, a, "message 1 0") == 22 + 12);
+    expect("one of a newer epoch", call(recline_again, a, "message 2 1") == RECLINE_NEWER);
+    expect("one that it does not know", call(recline_again, a, "message 0 (1,0,1)") == RECLINE_NOT_SENT);
+    expect("one of a newer epoch that it does not know", call(recline_again, a, "message 2 9") == RECLINE_NEWER);
+    expect("what is no message", call(recline_again, a, "message 0 ") == RECLINE_NO_TEXT);
+    expect("of no process", call(recline_again, "", "message 0 1") == RECLINE_NO_STATE);
     expect("an older retirement", call(recline_absorb, a, "retirement b 0 a (0,1);2") == RECLINE_OLDER);
     expect("a newer retirement", call(recline_absorb, a, "retirement b 2 a (0,1);2") == RECLINE_NEWER);
     expect("an older retirement that was kept", call(recline_absorb_kept, a, "retirement b 0 a (0,1);2") > 0);
@@ -145,6 +183,8 @@ static void try_room(void) {
 
 int main(void) {
     try_example();
+    try_restore();
+    try_other_target();
     try_faults();
     try_room();
     printf("%d passed, %d failed\n", passed, failed);

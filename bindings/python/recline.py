@@ -13,7 +13,7 @@ import ctypes
 import os
 
 (MEMORY, NO_STATE, NO_TEXT, NO_NAME, SELF_TARGET, NAME_TAKEN, NOT_WAITING, OLDER, NEWER, WORN, NOTHING_OWNED, CLOCK_FULL, TOO_DEEP, OVERLAP,
- OTHER_PROCESS) = range(-1, -16, -1)
+ OTHER_PROCESS, NOT_SENT) = range(-1, -17, -1)
 
 # `build` beside this file makes the library.
 library = ctypes.CDLL(os.environ.get("RECLINE_LIBRARY") or os.path.join(os.path.dirname(os.path.abspath(__file__)), "librecline.so"))
@@ -89,6 +89,10 @@ class Process:
 
     def send(self):
         return self.step("send")[0]
+
+    def again(self, message):
+        """The same message with the epoch that this process has: to be handed over once more behind a settlement, where its sending is not undone."""
+        return self.step("again", message)[0]
 
     def receive(self, message):
         self.step("receive", message)

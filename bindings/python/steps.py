@@ -31,7 +31,7 @@ def step(kind, name, *words):
     elif kind == "keep":
         texts[words[0]] = processes[name].state
     elif kind == "again":
-        texts[words[0]] = "message %s %s" % (processes[name].state.split()[2], texts[words[0]].split()[2])
+        texts[words[0]] = processes[name].again(texts[words[0]])
     elif kind == "return_to":
         processes[name].return_to(texts[words[0]], int(words[1]))
     elif kind == "return":

@@ -63,9 +63,9 @@ impl Family {
                 self.texts.insert(object.into(), state);
             }
             "again" => {
-                let epoch = self.process(name).state().split(' ').nth(2).unwrap_or_default().to_string();
-                let events = self.texts[object].rsplit(' ').next().unwrap_or_default().to_string();
-                self.texts.insert(object.into(), format!("message {epoch} {events}"));
+                let message = self.texts[object].clone();
+                let again = self.process(name).again(&message)?;
+                self.texts.insert(object.into(), again);
             }
             "return_to" => {
                 let kept = self.texts[object].clone();

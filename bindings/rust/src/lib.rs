@@ -53,9 +53,11 @@ pub enum Fault {
     Overlap = -14,
     /// The state that was kept is another process's.
     OtherProcess = -15,
+    /// The message tells what the process does not know: it did not send it, or that is undone.
+    NotSent = -16,
 }
 
-const FAULTS: [Fault; 15] = [
+const FAULTS: [Fault; 16] = [
     Fault::Memory,
     Fault::NoState,
     Fault::NoText,
@@ -71,6 +73,7 @@ const FAULTS: [Fault; 15] = [
     Fault::TooDeep,
     Fault::Overlap,
     Fault::OtherProcess,
+    Fault::NotSent,
 ];
 
 impl fmt::Display for Fault {
@@ -154,6 +157,12 @@ impl Process {
     pub fn send(&mut self) -> Result<String, Fault> {
         let [_, message] = self.becomes(texts(|out| sys::send(&self.state, out))?);
         Ok(message)
+    }
+
+    /// The same message with the epoch that this process has: to be handed over once more behind a settlement, where its sending is not undone.
+    pub fn again(&self, message: &str) -> Result<String, Fault> {
+        let [_, again] = texts(|out| sys::again(&self.state, message, out))?;
+        Ok(again)
     }
 
     /// Receives a message, by the text that came with it.

@@ -7,6 +7,7 @@ extern "C" {
     fn recline_check(state: *const u8, state_len: usize, out: *mut u8, out_len: usize) -> i64;
     fn recline_present(state: *const u8, state_len: usize, out: *mut u8, out_len: usize) -> i64;
     fn recline_send(state: *const u8, state_len: usize, out: *mut u8, out_len: usize) -> i64;
+    fn recline_again(state: *const u8, state_len: usize, message: *const u8, message_len: usize, out: *mut u8, out_len: usize) -> i64;
     fn recline_receive(state: *const u8, state_len: usize, message: *const u8, message_len: usize, out: *mut u8, out_len: usize) -> i64;
     fn recline_fork(state: *const u8, state_len: usize, child: *const u8, child_len: usize, out: *mut u8, out_len: usize) -> i64;
     fn recline_fork_small(state: *const u8, state_len: usize, child: *const u8, child_len: usize, depth: u8, out: *mut u8, out_len: usize) -> i64;
@@ -45,6 +46,11 @@ pub fn present(state: &str, out: &mut [u8]) -> i64 {
 pub fn send(state: &str, out: &mut [u8]) -> i64 {
     // SAFETY: recline.h asks for pointers that are not null, each to as many bytes as the length behind it says, of which none is also out's.
     unsafe { recline_send(state.as_ptr(), state.len(), out.as_mut_ptr(), out.len()) }
+}
+
+pub fn again(state: &str, message: &str, out: &mut [u8]) -> i64 {
+    // SAFETY: recline.h asks for pointers that are not null, each to as many bytes as the length behind it says, of which none is also out's.
+    unsafe { recline_again(state.as_ptr(), state.len(), message.as_ptr(), message.len(), out.as_mut_ptr(), out.len()) }
 }
 
 pub fn receive(state: &str, message: &str, out: &mut [u8]) -> i64 {

@@ -15,7 +15,8 @@ fn example() -> Result<(), Fault> {
     let kept = a.state().to_string();
     a.receive(&b.send()?)?;
     assert_eq!(a.check()?, "CHECK a 3 (1,0);(2,2,0)");
-    b.receive(&a.send()?)?;
+    let sent = a.send()?;
+    b.receive(&sent)?;
     assert_eq!(b.check()?, "CHECK b 1 (0,1);(5,0,1)");
     let (retire, retirement) = b.retire("a")?;
     assert_eq!(retire, "RETIRE b 2 (0,1);(5,0,2) a");
@@ -30,6 +31,9 @@ fn example() -> Result<(), Fault> {
     assert_eq!(a.return_to(&kept, 1), Err(Fault::Older));
     let mut crashed = Process::restored(&kept);
     crashed.returned(1)?;
+    assert_eq!(crashed, a);
+    assert_eq!(a.again("message 0 (1,1,0)")?, "message 1 (1,1,0)");
+    assert_eq!(a.again(&sent), Err(Fault::NotSent));
     assert_eq!(crashed, a);
     a.work()?;
     assert_eq!(a.present()?, "PRESENT@1 a 3 (1,0);(1,3,0)");
@@ -49,6 +53,8 @@ fn faults_change_nothing() {
     assert_eq!(a.fork_small("b", 1), Err(Fault::TooDeep));
     assert_eq!(a.retire("a"), Err(Fault::SelfTarget));
     assert_eq!(a.receive("message 1 9"), Err(Fault::Newer));
+    assert_eq!(a.again("message 1 0"), Err(Fault::Newer));
+    assert_eq!(a.again("message 0"), Err(Fault::NoText));
     assert_eq!(a.absorb("retirement b 0 c (0,1);2"), Err(Fault::NotWaiting));
     assert_eq!(a.absorb("retirement a 0 a (0,1);2"), Err(Fault::NotWaiting));
     assert_eq!(a.returned(0), Err(Fault::Older));

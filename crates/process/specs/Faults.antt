@@ -6,6 +6,7 @@ use Rattle.stamp.specs.declared.fault.StampFault.{StampFault}
 use Rattle.stamp.specs.declared.fault.StampFault.TheVariants as stamps
 use Rattle.id_tree.specs.IdTree.{Zero}
 use Rattle.event_tree.specs.Event.{PassesLimit}
+use Rattle.event_tree.specs.Values.{IsAtOrBelow}
 use Rattle.process.specs.Leaves.{HasRoomFor}
 use Rattle.report_line.specs.History.{Name}
 use Rattle.process.specs.declared.fault.ProcessFault.{ProcessFault}
@@ -39,6 +40,13 @@ RefusesReceipt faults.NothingOwned epoch s m = (m.epoch ≡ epoch) × IsReceiveF
 RefusesReceipt faults.ClockFull epoch s m = (m.epoch ≡ epoch) × IsReceiveFault stamps.ClockFull s m.events
 RefusesReceipt faults.Memory epoch s m = ⊤
 RefusesReceipt _ epoch s m = ⊥
+
+-- a message is not handed over once more: it is of a newer epoch, or tells what the process does not know
+abbrev pub RefusesAgain : ProcessFault → Process → Message → Type 0
+RefusesAgain faults.Newer p m = p.epoch < m.epoch
+RefusesAgain faults.NotSent p m = (¬ (p.epoch < m.epoch)) × ¬ IsAtOrBelow m.events p.stamp.events
+RefusesAgain faults.Memory p m = ⊤
+RefusesAgain _ p m = ⊥
 
 -- a stamp is not parted by halves
 abbrev pub RefusesHalves : ProcessFault → Stamp → Type 0

@@ -1,9 +1,10 @@
 -- What each call does: a step of the process by the clock's rules, and its report.
-use Rattle.std.specs.Prelude.{◌≡◌, ◌≢◌, ℕ, ◌+◌, ◌<◌, List}
+use Rattle.std.specs.Prelude.{◌≡◌, ◌≢◌, ℕ, ◌+◌, ◌<◌, ◌≤◌, List}
 use Rattle.id_tree.specs.IdTree.{IdTree}
 use Rattle.id_tree.specs.Split.{left_part, right_part, IsSplit}
 use Rattle.event_tree.specs.Event.{IsEventStep}
 use Rattle.event_tree.specs.Grown.{IsGrown}
+use Rattle.event_tree.specs.Values.{IsAtOrBelow}
 use Rattle.stamp.specs.declared.stamp.Stamp.{Stamp}
 use Rattle.stamp.specs.Operations.{IsEvent, IsReceive, IsAbsorb}
 use Rattle.report_line.specs.declared.call.Call.TheVariants as calls
@@ -52,6 +53,14 @@ pub record Sends (old new : Process) (message : Message) : Type 0 where
   pub works : Works old new
   pub epoch : message.epoch ≡ old.epoch
   pub events : message.events ≡ new.stamp.events
+
+-- A message is handed over once more, with the epoch that the process has by now. It tells nothing that the process does not know, as it does
+-- where the process sent it and that is not undone. The process makes no step.
+pub record HandsOver (p : Process) (message again : Message) : Type 0 where
+  pub not_newer : message.epoch ≤ p.epoch
+  pub known : IsAtOrBelow message.events p.stamp.events
+  pub epoch : again.epoch ≡ p.epoch
+  pub events : again.events ≡ message.events
 
 -- a step of its own that it reports: a check, or its present state
 pub record Tells (old new : Process) (action : Action) (line : List ℕ) : Type 0 where

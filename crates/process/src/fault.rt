@@ -23,7 +23,7 @@ pub enum ProcessFault {
     /// process, or what was kept of it, has the epoch that it is to return to, or a later one.
     #[error("older epoch")]
     Older,
-    /// What came is of a newer epoch: it waits until this process has returned, too.
+    /// What came is of a newer epoch: it waits until this process has returned, too. Or the message that is to be handed over once more is.
     #[error("newer epoch")]
     Newer,
     /// The process made 4,294,967,295 reports.
@@ -44,6 +44,9 @@ pub enum ProcessFault {
     /// What was kept, and is to be returned to, is another process's.
     #[error("other process")]
     OtherProcess,
+    /// The message that is to be handed over once more tells what the process does not know: it did not send it, or that is undone.
+    #[error("not sent")]
+    NotSent,
     /// A growth was refused.
     #[error("memory")]
     Memory,

@@ -6,8 +6,8 @@ ghost use Rattle.event_tree.specs.EventTree.{EventTree, Leaf};
 ghost use Rattle.event_tree.specs.Event.{PassesLimit};
 ghost use Rattle.report_line.specs.declared.report.Action.TheVariants as actions;
 ghost use Rattle.report_line.specs.declared.report.Report.TheVariants.{Begin};
-ghost use Rattle.process.specs.Steps.{Works, Sends, Tells, Receives, Retires, Absorbs, Returns, Counts, IsLineOf};
-ghost use Rattle.process.specs.Faults.{RefusesEvent, RefusesReport, RefusesReceipt, RefusesRetirement, RefusesAbsorption, RefusesKept, RefusesStamp, RefusesSum, RefusesReturn, IsWorn, fault_of};
+ghost use Rattle.process.specs.Steps.{Works, Sends, HandsOver, Tells, Receives, Retires, Absorbs, Returns, Counts, IsLineOf};
+ghost use Rattle.process.specs.Faults.{RefusesEvent, RefusesReport, RefusesAgain, RefusesReceipt, RefusesRetirement, RefusesAbsorption, RefusesKept, RefusesStamp, RefusesSum, RefusesReturn, IsWorn, fault_of};
 ghost use Rattle.process.specs.Telling.{IsTold, IsReported, IsAbsorbTold, after_told};
 ghost use Rattle.stamp.specs.Operations.{IsNormalJoin, IsReceive, IsAbsorb};
 
@@ -113,8 +113,28 @@ impl Process {
         })
     }
 
-    /// Receives a message of its own epoch. One of an older epoch is refused, and dropped: where its sending is not undone its sender hands
-    /// it over once more, with the epoch that it has by then. One of a newer epoch waits until this process has returned, too.
+    /// Hands a message over once more that it sent before, or that a process sent which it absorbed: the same message, marked with the epoch
+    /// that this process has by now. That is no step. `Newer` where the message is of a newer epoch, and `NotSent` where it tells what this
+    /// process does not know: it sent none such, or has returned to before that.
+    pub fn again(&self, alloc: Global, message: &Message) -> Result<Message, ProcessFault>
+        ensures ok { IfOk result (λ again. HandsOver self.now message.now again) }
+        ensures err { IfErr result (λ fault. RefusesAgain fault self.now message.now) }
+    {
+        if self.epoch < message.epoch {
+            return Err(ProcessFault::Newer);
+        }
+        if !message.events.leq(&self.stamp.events) {
+            return Err(ProcessFault::NotSent);
+        }
+        let events = message.events.copy(alloc)?;
+        Ok(Message {
+            epoch: self.epoch,
+            events,
+        })
+    }
+
+    /// Receives a message of its own epoch. One of an older epoch is refused, and dropped: where its sending is not undone it is handed over
+    /// once more (`again`). One of a newer epoch waits until this process has returned, too.
     pub fn receive(&mut self, alloc: Global, message: &Message) -> Result<(), ProcessFault>
         ensures ok { OnOk result (Receives self.old message.now self.new) }
         ensures err { IfErr result (λ fault. RefusesReceipt fault self.old.epoch self.old.stamp message.now) }

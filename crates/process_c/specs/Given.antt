@@ -10,7 +10,7 @@ use Rattle.process.specs.declared.handed.Message.{Message}
 use Rattle.process.specs.declared.handed.Start.{Start}
 use Rattle.process.specs.declared.handed.Retirement.{Retirement}
 use Rattle.process.specs.Leaves.{IsLeafAt, IsFromDeepest}
-use Rattle.process.specs.Steps.{Works, Sends, Tells, Receives, Forks, Retires, Absorbs, Returns, Halves, IsLineOf}
+use Rattle.process.specs.Steps.{Works, Sends, HandsOver, Tells, Receives, Forks, Retires, Absorbs, Returns, Halves, IsLineOf}
 use Rattle.process.specs.Texts.{IsProcess, IsMessage, IsStart, IsRetirement, process_text, message_text, start_text, retirement_text}
 use Rattle.process_c.specs.Answers.{lines_of}
 use Rattle.process_c.specs.Texts.{IsStateOf, IsStartOf}
@@ -29,6 +29,10 @@ IsTelling action p q texts = (line : List ℕ) × Tells p q action line × (text
 
 abbrev pub IsSending : Process → Process → List (List ℕ) → Type 0
 IsSending p q texts = (m : Message) × Sends p q m × IsMessage m × (texts ≡ message_text m ∷ [])
+
+-- of a message that is handed over once more: the process stays as it is
+abbrev pub IsHandingOver : Message → Process → Process → List (List ℕ) → Type 0
+IsHandingOver m p q texts = (again : Message) × HandsOver p m again × (q ≡ p) × IsMessage again × (texts ≡ message_text again ∷ [])
 
 abbrev pub IsReceipt : Message → Process → Process → List (List ℕ) → Type 0
 IsReceipt m p q texts = Receives p m q × (texts ≡ [])

@@ -5,7 +5,7 @@ use Rattle.process.specs.declared.fault.ProcessFault.TheVariants as refusals
 use Rattle.process_c.specs.declared.fault.Fault.{Fault}
 use Rattle.process_c.specs.declared.fault.Fault.TheVariants as faults
 
--- -1 for memory, and -5 to -15 for the others in their order; `negsuc n` is the number below -n
+-- -1 for memory, and -5 to -16 for the others in their order; `negsuc n` is the number below -n
 abbrev pub number_of_refusal : ProcessFault → ℤ
 number_of_refusal refusals.Memory = negsuc 0
 number_of_refusal refusals.SelfTarget = negsuc 4
@@ -19,6 +19,7 @@ number_of_refusal refusals.ClockFull = negsuc 11
 number_of_refusal refusals.TooDeep = negsuc 12
 number_of_refusal refusals.Overlap = negsuc 13
 number_of_refusal refusals.OtherProcess = negsuc 14
+number_of_refusal refusals.NotSent = negsuc 15
 
 abbrev pub number_of : Fault → ℤ
 number_of faults.State = negsuc 1

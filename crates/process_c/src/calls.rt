@@ -2,11 +2,11 @@
 
 ghost use Rattle.std.specs.Prelude.{◌≡◌, IfOk, IfErr, MatchResult};
 ghost use Rattle.report_line.specs.declared.report.Action.TheVariants as actions;
-ghost use Rattle.process.specs.Faults.{RefusesEvent, RefusesReport, RefusesReceipt, RefusesFork, RefusesLeaf, RefusesRetirement, RefusesAbsorption, RefusesKept, RefusesReturn};
+ghost use Rattle.process.specs.Faults.{RefusesEvent, RefusesReport, RefusesAgain, RefusesReceipt, RefusesFork, RefusesLeaf, RefusesRetirement, RefusesAbsorption, RefusesKept, RefusesReturn};
 ghost use Rattle.process.specs.declared.fault.ProcessFault.TheVariants.{Memory};
 ghost use Rattle.process_c.specs.declared.fault.Fault.TheVariants.{Refused};
 ghost use Rattle.process_c.specs.Texts.{IsStateOf, IsMessageOf, IsRetirementOf};
-ghost use Rattle.process_c.specs.Given.{IsWork, IsTelling, IsSending, IsReceipt, IsHalving, IsCarving, IsAbsorption, IsKeptAbsorption, IsReturn, IsReturned, Handed, Gives, GivesRoot, GivesChild, GivesRetirement};
+ghost use Rattle.process_c.specs.Given.{IsWork, IsTelling, IsSending, IsHandingOver, IsReceipt, IsHalving, IsCarving, IsAbsorption, IsKeptAbsorption, IsReturn, IsReturned, Handed, Gives, GivesRoot, GivesChild, GivesRetirement};
 ghost use Rattle.process_c.specs.Refusals.{ByProcess, ByName, ByText, Refuses, RefusesRoot, RefusesChild, RefusesReturned};
 
 use crate::fault::Fault;
@@ -75,6 +75,16 @@ pub fn send(alloc: Global, state: &[u8]) -> Result<Vec<u8>, Fault>
 {
     let mut process = read_state(alloc, state)?;
     stepping::send(alloc, &mut process)
+}
+
+/// Hands a message over once more.
+pub fn again(alloc: Global, state: &[u8], message: &[u8]) -> Result<Vec<u8>, Fault>
+    ensures { MatchResult result (λ v. Gives (Handed IsMessageOf IsHandingOver message.now) state.now v.items) (Refuses (ByText IsMessageOf (λ m fault p. RefusesAgain fault p m) message.now) state.now) }
+{
+    let process = read_state(alloc, state)?;
+    let again = stepping::again(alloc, &process, message);
+    drop(process);
+    again
 }
 
 /// Receives a message.

@@ -15,10 +15,10 @@ mod writing;
 
 ghost use Rattle.std.specs.Prelude.{◌≡◌};
 ghost use Rattle.report_line.specs.declared.report.Action.TheVariants as actions;
-ghost use Rattle.process.specs.Faults.{RefusesEvent, RefusesReport, RefusesReceipt, RefusesFork, RefusesLeaf, RefusesRetirement, RefusesAbsorption, RefusesKept, RefusesReturn};
+ghost use Rattle.process.specs.Faults.{RefusesEvent, RefusesReport, RefusesAgain, RefusesReceipt, RefusesFork, RefusesLeaf, RefusesRetirement, RefusesAbsorption, RefusesKept, RefusesReturn};
 ghost use Rattle.process_c.specs.Texts.{IsStateOf, IsMessageOf, IsRetirementOf};
 ghost use Rattle.process_c.specs.Answers.{IsAnswer};
-ghost use Rattle.process_c.specs.Given.{IsWork, IsTelling, IsSending, IsReceipt, IsHalving, IsCarving, IsAbsorption, IsKeptAbsorption, IsReturn, IsReturned, Handed, Gives, GivesRoot, GivesChild, GivesRetirement};
+ghost use Rattle.process_c.specs.Given.{IsWork, IsTelling, IsSending, IsHandingOver, IsReceipt, IsHalving, IsCarving, IsAbsorption, IsKeptAbsorption, IsReturn, IsReturned, Handed, Gives, GivesRoot, GivesChild, GivesRetirement};
 ghost use Rattle.process_c.specs.Refusals.{ByProcess, ByName, ByText, Refuses, RefusesRoot, RefusesChild, RefusesReturned};
 
 use crate::answer::answer;
@@ -71,6 +71,15 @@ pub extern "C" fn recline_send(alloc: Global, state: &[u8], out: &mut [u8]) -> i
     ensures { IsAnswer (Gives (IsSending) state.now) (Refuses (ByProcess (λ fault p. RefusesEvent fault p.stamp)) state.now) result out.old out.new }
 {
     answer(calls::send(alloc, state), out)
+}
+
+/// A message is handed over once more, behind a settlement that has its sending: the state, which stays as it is, and what goes with the message
+/// now.
+#[unsafe(no_mangle)]
+pub extern "C" fn recline_again(alloc: Global, state: &[u8], message: &[u8], out: &mut [u8]) -> i64
+    ensures { IsAnswer (Gives (Handed IsMessageOf IsHandingOver message.now) state.now) (Refuses (ByText IsMessageOf (λ m fault p. RefusesAgain fault p m) message.now) state.now) result out.old out.new }
+{
+    answer(calls::again(alloc, state, message), out)
 }
 
 /// A message is received: the new state.

@@ -2,9 +2,9 @@
 
 ghost use Rattle.std.specs.Prelude.{◌≡◌, IfOk, IfErr, MatchResult};
 ghost use Rattle.report_line.specs.declared.report.Action.TheVariants as actions;
-ghost use Rattle.process.specs.Faults.{RefusesEvent, RefusesReport, RefusesReceipt, RefusesFork, RefusesLeaf, RefusesRetirement, RefusesAbsorption, RefusesKept, RefusesReturn};
+ghost use Rattle.process.specs.Faults.{RefusesEvent, RefusesReport, RefusesAgain, RefusesReceipt, RefusesFork, RefusesLeaf, RefusesRetirement, RefusesAbsorption, RefusesKept, RefusesReturn};
 ghost use Rattle.process_c.specs.Texts.{IsStateOf, IsMessageOf, IsRetirementOf};
-ghost use Rattle.process_c.specs.Given.{IsWork, IsTelling, IsSending, IsReceipt, IsHalving, IsCarving, IsAbsorption, IsKeptAbsorption, IsReturn, IsReturned, Becomes, Handed, IsEnd};
+ghost use Rattle.process_c.specs.Given.{IsWork, IsTelling, IsSending, IsHandingOver, IsReceipt, IsHalving, IsCarving, IsAbsorption, IsKeptAbsorption, IsReturn, IsReturned, Becomes, Handed, IsEnd};
 ghost use Rattle.process_c.specs.Refusals.{ByProcess, ByName, ByText, RefusesReturned};
 ghost use Rattle.process_c.specs.Working.{IsUnreturned};
 
@@ -56,6 +56,26 @@ pub fn send(alloc: Global, process: &mut Process) -> Result<Vec<u8>, Fault>
     process.known();
     message.known();
     Ok(state_and_message(alloc, process, &message)?)
+}
+
+// Hands this message over once more.
+fn handed_again(alloc: Global, process: &Process, message: &Message) -> Result<Vec<u8>, Fault>
+    ensures ok { IfOk result (λ v. Becomes (IsHandingOver message.now process.now) v.items) }
+    ensures err { IfErr result (ByProcess (λ fault p. RefusesAgain fault p message.now) process.now) }
+{
+    let again = process.again(alloc, message)?;
+    process.known();
+    again.known();
+    Ok(state_and_message(alloc, process, &again)?)
+}
+
+/// Hands the message of this text over once more.
+pub fn again(alloc: Global, process: &Process, text: &[u8]) -> Result<Vec<u8>, Fault>
+    ensures ok { IfOk result (λ v. Becomes (Handed IsMessageOf IsHandingOver text.now process.now) v.items) }
+    ensures err { IfErr result (ByText IsMessageOf (λ m fault p. RefusesAgain fault p m) text.now process.now) }
+{
+    let message = read_message(alloc, text)?;
+    handed_again(alloc, process, &message)
 }
 
 // Receives this message.

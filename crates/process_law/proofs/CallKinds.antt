@@ -1,4 +1,4 @@
--- What a call is: a step of a process that goes on from its newest state, a beginning, or a return.
+-- What a call is: a step of a process that goes on from its newest state, a hand-over by it, a beginning, or a return.
 use Rattle.std.proofs.Common.{◌≡◌, ℕ, ◌≤◌, Option, Some, None, List, [], ◌∷◌, length, refl, ap, subst}
 use Rattle.std.specs.Prelude.{⊤}
 use Rattle.id_tree.specs.IdTree.{IdTree}
@@ -7,15 +7,13 @@ use Rattle.report_line.specs.declared.step.Deed.TheVariants as deeds
 use Rattle.report_line.specs.History.{Name}
 use Rattle.settled_lists.specs.Runs.{Run, epoch}
 use Rattle.process.specs.declared.process.Process.{Process}
+use Rattle.process.specs.declared.handed.Message.{Message}
 use Rattle.process.specs.declared.handed.Start.{Start}
 use Rattle.process.specs.declared.handed.Retirement.{Retirement}
-use Rattle.process.specs.Steps.{Returns}
-use Rattle.process_law.specs.Accounts.{Act, Work, Send, Receive, Check, Present, Fork, Begin, Retire, Absorb, Return, Doing, DoesSo, begun_by, deed_of}
-use Rattle.process_law.specs.Handing.{Past, GoesFromNewest, WasOnce, IsUnbegun, IsAtPosition, MayDo}
+use Rattle.process.specs.Steps.{Returns, HandsOver}
+use Rattle.process_law.specs.Accounts.{Act, Work, Send, Again, Receive, Check, Present, Fork, Begin, Retire, Absorb, Return, DoesSo, begun_by, deed_of}
+use Rattle.process_law.specs.Handing.{Past, GoesFromNewest, WasOnce, IsUnbegun, IsAtPosition, WasSent, MayDo}
 use Rattle.process_law.proofs.Calls.{GaveStart}
-
-abbrev pub doing : Act → Process → Process → Doing
-doing a old new = record { act = a; old = old; new = new }
 
 -- it holds of the deed, where there is one
 abbrev pub OnDeed : Option Deed → (Deed → Type 0) → Type 0
@@ -29,12 +27,15 @@ pub data Kind (root : Name) (run : Run) (past : Past) (a : Act) (old new : Proce
   steps : (deed : Deed) → deed_of (length past) a ≡ Some deed → new.name ≡ old.name → new.epoch ≡ old.epoch → GoesFromNewest root past old
       → Kind root run past a old new
   begins : (from : ℕ) → (s : Start) → a ≡ Begin from s → new ≡ begun_by s → GaveStart past from s → IsUnbegun past from → Kind root run past a old new
+  hands : (from : ℕ) → (sent again : Message) → a ≡ Again from sent again → new ≡ old → HandsOver old sent again → GoesFromNewest root past old
+      → (old.epoch ≡ epoch run → WasSent run from sent.events) → Kind root run past a old new
   returns : (now : ℕ) → a ≡ Return now → Returns old new now → WasOnce root past old → now ≤ epoch run → (now ≡ epoch run → IsAtPosition root run old)
       → Kind root run past a old new
 
 pub kind_of : (root : Name) (run : Run) (past : Past) (a : Act) (old new : Process) → DoesSo a old new → MayDo root run past a old → Kind root run past a old new
 kind_of root run past Work old new does may = steps deeds.Work refl does.goes.name does.goes.epoch may
 kind_of root run past (Send message) old new does may = steps (deeds.Send (length past ∷ [])) refl does.works.goes.name does.works.goes.epoch may
+kind_of root run past (Again from sent again) old new does may = hands from sent again refl does.1 does.0 may.0 may.1
 kind_of root run past (Receive from message) old new does may = steps (deeds.Receive (from ∷ [])) refl does.goes.name does.goes.epoch may.0
 kind_of root run past (Check line) old new does may = steps deeds.Check refl does.goes.name does.goes.epoch may
 kind_of root run past (Present line) old new does may = steps deeds.Present refl does.goes.name does.goes.epoch may
@@ -56,6 +57,7 @@ first_byte n k is = cc
 pub sent_name : (n : ℕ) (a : Act) (m : List ℕ) → deed_of n a ≡ Some (deeds.Send m) → m ≡ n ∷ []
 sent_name n Work m is = absurd (cc)
 sent_name n (Send message) m is = cc
+sent_name n (Again from sent again) m is = absurd (cc)
 sent_name n (Receive from message) m is = absurd (cc)
 sent_name n (Check line) m is = absurd (cc)
 sent_name n (Present line) m is = absurd (cc)
@@ -68,6 +70,7 @@ sent_name n (Return now) m is = absurd (cc)
 pub forked_child : (n : ℕ) (a : Act) (c : Name) (given : IdTree) → deed_of n a ≡ Some (deeds.Fork c given) → (s : Start) × (line : List ℕ) × (a ≡ Fork s line) × (s.child ≡ c)
 forked_child n Work c given is = absurd (cc)
 forked_child n (Send message) c given is = absurd (cc)
+forked_child n (Again from sent again) c given is = absurd (cc)
 forked_child n (Receive from message) c given is = absurd (cc)
 forked_child n (Check line) c given is = absurd (cc)
 forked_child n (Present line) c given is = absurd (cc)
@@ -80,6 +83,7 @@ forked_child n (Return now) c given is = absurd (cc)
 pub absorbed_of : (n : ℕ) (a : Act) (p : Name) → deed_of n a ≡ Some (deeds.Absorb p) → (from : ℕ) × (r : Retirement) × (line : List ℕ) × (a ≡ Absorb from r line) × (r.process ≡ p)
 absorbed_of n Work p is = absurd (cc)
 absorbed_of n (Send message) p is = absurd (cc)
+absorbed_of n (Again from sent again) p is = absurd (cc)
 absorbed_of n (Receive from message) p is = absurd (cc)
 absorbed_of n (Check line) p is = absurd (cc)
 absorbed_of n (Present line) p is = absurd (cc)

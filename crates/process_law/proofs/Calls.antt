@@ -12,7 +12,7 @@ use Rattle.process.specs.declared.process.Process.{Process}
 use Rattle.process.specs.declared.handed.Message.{Message}
 use Rattle.process.specs.declared.handed.Start.{Start}
 use Rattle.process.specs.declared.handed.Retirement.{Retirement}
-use Rattle.process_law.specs.Accounts.{Act, Work, Send, Receive, Check, Present, Fork, Begin, Retire, Absorb, Return, Doing}
+use Rattle.process_law.specs.Accounts.{Act, Work, Send, Again, Receive, Check, Present, Fork, Begin, Retire, Absorb, Return, Doing}
 use Rattle.process_law.specs.Handing.{Past, first, goes_on, newest, WasOnce, IsCall, IsNewName, IsUnbegun, IsUnabsorbed}
 
 -- ---- places
@@ -51,6 +51,10 @@ call_cases past d e n call = by call.later call.earlier call.past_is call.number
 abbrev pub GaveMessage : Past → ℕ → Message → Type 0
 GaveMessage past n message = (d : Doing) × IsCall past n d × (d.act ≡ Send message)
 
+-- it was handed over once more by a call, and sent by this one
+abbrev pub GaveAgain : Past → ℕ → Message → Type 0
+GaveAgain past n again = (d : Doing) × (sent : Message) × Contains past d × (d.act ≡ Again n sent again)
+
 abbrev pub GaveStart : Past → ℕ → Start → Type 0
 GaveStart past n start = (d : Doing) × (line : List ℕ) × IsCall past n d × (d.act ≡ Fork start line)
 
@@ -64,6 +68,13 @@ message_cases past d n m gave =
     elim (call_cases past d gave.0 n gave.1) [
       | inl w ↦ inl (ap (λ (x : Doing). x.act) w.0 ∙ gave.2, w.1)
       | inr before ↦ inr (gave.0, before, gave.2)
+    ]
+
+pub again_cases : (past : Past) (d : Doing) (n : ℕ) (m : Message) → GaveAgain (d ∷ past) n m → ((sent : Message) × (d.act ≡ Again n sent m)) ⊎ GaveAgain past n m
+again_cases past d n m gave =
+    elim (in_cases d gave.0 past gave.2) [
+      | inl same ↦ inl (gave.1, ap (λ (x : Doing). x.act) same ∙ gave.3)
+      | inr before ↦ inr (gave.0, gave.1, before, gave.3)
     ]
 
 pub start_cases : (past : Past) (d : Doing) (n : ℕ) (s : Start) → GaveStart (d ∷ past) n s
@@ -128,6 +139,7 @@ once_later root past d p (inr w) = inr (w.0, later_in d w.0 past w.1, w.2)
 pub goes_on_is : (a : Act) (new s : Process) → goes_on a new ≡ Some s → s ≡ new
 goes_on_is Work new s is = sym (same_Some new s is)
 goes_on_is (Send message) new s is = sym (same_Some new s is)
+goes_on_is (Again from message again) new s is = sym (same_Some new s is)
 goes_on_is (Receive from message) new s is = sym (same_Some new s is)
 goes_on_is (Check line) new s is = sym (same_Some new s is)
 goes_on_is (Present line) new s is = sym (same_Some new s is)

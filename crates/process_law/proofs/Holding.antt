@@ -16,8 +16,8 @@ use Rattle.process.specs.declared.handed.Retirement.{Retirement}
 use Rattle.process_law.specs.Accounts.{Act, Send, Fork, Retire, Doing, DoesSo, begun_by, deed_of}
 use Rattle.process_law.specs.Handing.{Past, first, newest, IsCall, IsUnbegun, IsUnabsorbed, stamp_of}
 use Rattle.process_law.specs.EachCall.{LivesAs, IsSent}
-use Rattle.process_law.proofs.Calls.{call_within, GaveMessage, GaveStart, GaveRetirement, IsForked, first_is, newest_is}
-use Rattle.process_law.proofs.Orders.{AreInOrder, message_within, start_within, retirement_within}
+use Rattle.process_law.proofs.Calls.{call_within, GaveMessage, GaveAgain, GaveStart, GaveRetirement, IsForked, first_is, newest_is}
+use Rattle.process_law.proofs.Orders.{AreInOrder, message_within, again_within, start_within, retirement_within}
 
 -- Who left it stands retired by it; or it was absorbed, and then some call did so.
 abbrev pub HasRetired : Name → History → Past → ℕ → Retirement → Type 0
@@ -29,6 +29,7 @@ pub record AreCurrent (root : Name) (past : Past) (h : History) (e : ℕ) : Type
   pub forked : (s : Step) (c : Name) (i : IdTree) → Contains h s → s.deed ≡ deeds.Fork c i → IsForked past c
   pub numbered : (s : Step) (m : Name) → Contains h s → s.deed ≡ deeds.Send m → (k : ℕ) × (m ≡ k ∷ []) × (k < length past)
   pub sent : (n : ℕ) (m : Message) → GaveMessage past n m → m.epoch ≡ e → IsSent h n m
+  pub again : (n : ℕ) (m : Message) → GaveAgain past n m → m.epoch ≡ e → IsSent h n m
   pub started : (n : ℕ) (s : Start) → GaveStart past n s → s.epoch ≡ e → IsUnbegun past n → LivesAs root h (begun_by s)
   pub retired : (n : ℕ) (r : Retirement) → GaveRetirement past n r → r.epoch ≡ e → HasRetired root h past n r
   pub once : (n m : ℕ) (r q : Retirement) → GaveRetirement past n r → GaveRetirement past m q → r.epoch ≡ e → q.epoch ≡ e → r.process ≡ q.process → n ≡ m
@@ -47,6 +48,7 @@ first_current root = record {
   forked = λ s c i at is. absurd (none_in s at);
   numbered = λ s m at is. absurd (none_in s at);
   sent = λ n m gave same. absurd (nothing_called n gave.0 gave.1);
+  again = λ n m gave same. absurd (none_in gave.0 gave.2);
   started = λ n s gave same none. absurd (nothing_called n gave.0 gave.2);
   retired = λ n r gave same. absurd (nothing_called n gave.0 gave.3);
   once = λ n m r q gave_r gave_q same also equal. absurd (nothing_called n gave_r.0 gave_r.3);
@@ -76,6 +78,7 @@ current_settled root past h e cut order holds = record {
   forked = λ s c i at is. holds.forked s c i (kept_in cut h s at) is;
   numbered = λ s m at is. holds.numbered s m (kept_in cut h s at) is;
   sent = λ n m gave same. absurd (none_newer m.epoch e (message_within root past e order n m gave) same);
+  again = λ n m gave same. absurd (none_newer m.epoch e (again_within root past e order n m gave) same);
   started = λ n s gave same none. absurd (none_newer s.epoch e (start_within root past e order n s gave) same);
   retired = λ n r gave same. absurd (none_newer r.epoch e (retirement_within root past e order n r gave) same);
   once = λ n m r q gave_r gave_q same also equal. absurd (none_newer r.epoch e (retirement_within root past e order n r gave_r) same);

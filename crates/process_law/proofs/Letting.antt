@@ -21,7 +21,7 @@ use Rattle.process.specs.declared.handed.Message.{Message}
 use Rattle.process.specs.declared.handed.Start.{Start}
 use Rattle.process.specs.declared.handed.Retirement.{Retirement}
 use Rattle.process.specs.Steps.{Counts}
-use Rattle.process_law.specs.Accounts.{Act, Work, Send, Receive, Check, Present, Fork, Begin, Retire, Absorb, Return, DoesSo, deed_of}
+use Rattle.process_law.specs.Accounts.{Act, Work, Send, Again, Receive, Check, Present, Fork, Begin, Retire, Absorb, Return, DoesSo, deed_of}
 use Rattle.process_law.specs.Handing.{Past, stamp_of, MayAbsorb, MayDo}
 use Rattle.process_law.specs.EachCall.{step_of, IsSent, Waits, IsFrom}
 use Rattle.process_law.proofs.Calls.{GaveRetirement, new_is_unnamed}
@@ -83,6 +83,7 @@ pub allowed : (root : Name) (h : History) (n : ℕ) (a : Act) (old new : Process
     → OnDeed (deed_of n a) (λ deed. IsAllowed root h x (step_of old deed new) deed)
 allowed root h n Work old new x does same from = own_work x old new deeds.Work same does.stamped
 allowed root h n (Send m) old new x does same from = (own_work x old new (deeds.Send (n ∷ [])) same does.works.stamped, from)
+allowed root h n (Again k sent m) old new x does same from = tt
 allowed root h n (Receive k m) old new x does same from = receives h x old new k m same from does.stamped
 allowed root h n (Check line) old new x does same from = own_work x old new deeds.Check same does.stamped
 allowed root h n (Present line) old new x does same from = own_work x old new deeds.Present same does.stamped
@@ -118,7 +119,12 @@ module _ (root : Name) (run : Run) (past : Past) (lawful : IsLawful root (curren
   is_from : (a : Act) (old new : Process) → DoesSo a old new → MayDo root run past a old → old.epoch ≡ epoch run → IsFrom root (current run) (length past) a old
   is_from Work old new does may now = tt
   is_from (Send m) old new does may now = unsent (current run) (length past ∷ []) unsent_yet
-  is_from (Receive from m) old new does may now = elim may.1 [ inl gave ↦ holds.sent from m gave (does.epoch ∙ now) | inr keeps ↦ keeps now ]
+  is_from (Again from sent m) old new does may now = tt
+  is_from (Receive from m) old new does may now =
+      elim may.1 [
+        | inl gave ↦ holds.sent from m gave (does.epoch ∙ now)
+        | inr other ↦ elim other [ inl gave ↦ holds.again from m gave (does.epoch ∙ now) | inr keeps ↦ keeps now ]
+      ]
   is_from (Check line) old new does may now = tt
   is_from (Present line) old new does may now = tt
   is_from (Fork s line) old new does may now =

@@ -11,4 +11,5 @@ pub mod Running
 pub mod Calling
 pub mod Turning
 pub mod Written
-pub mod Returned
+pub mod GoneBack
+pub mod Waiting

@@ -11,10 +11,10 @@ use Rattle.report_line.specs.Lawful.{IsAllowed, IsLawful, start, next}
 use Rattle.settled_lists.specs.Runs.{Run, Made, epoch, current, earlier}
 use Rattle.settled_turns.specs.Traces.{IsRightStep}
 use Rattle.process.specs.declared.process.Process.{Process}
-use Rattle.process_law.specs.Accounts.{Act, Doing, DoesSo, deed_of}
+use Rattle.process_law.specs.Accounts.{Act, Doing, DoesSo, deed_of, made}
 use Rattle.process_law.specs.Handing.{Past, GoesFromNewest, MayDo, run_with}
 use Rattle.process_law.specs.EachCall.{step_of, IsTold}
-use Rattle.process_law.proofs.CallKinds.{doing, on_deed, Kind, steps, begins, returns, kind_of}
+use Rattle.process_law.proofs.CallKinds.{on_deed, Kind, steps, begins, hands, returns, kind_of}
 use Rattle.process_law.proofs.Orders.{AreInOrder, order_next, first_order, old_within}
 use Rattle.process_law.proofs.Holding.{AreCurrent, first_current}
 use Rattle.process_law.proofs.Resting.{current_still}
@@ -80,6 +80,7 @@ own_step : (root : Name) (run : Run) (past : Past) (a : Act) (old new : Process)
     → (new.name ≡ old.name) × GoesFromNewest root past old
 own_step root run past a old new deed is (steps other as_deed name epoch from) = (name, from)
 own_step root run past a old new deed is (begins n s act new_is gave none) = absurd (none-some deed (sym (ap (deed_of (length past)) act) ∙ is))
+own_step root run past a old new deed is (hands n sent again act same does from was) = absurd (none-some deed (sym (ap (deed_of (length past)) act) ∙ is))
 own_step root run past a old new deed is (returns now act does once within at) = absurd (none-some deed (sym (ap (deed_of (length past)) act) ∙ is))
 
 module _ (root : Name) (run : Run) (past : Past) (a : Act) (old new : Process) (w : Holds root run past) (does : DoesSo a old new) (may : MayDo root run past a old) where
@@ -103,36 +104,36 @@ module _ (root : Name) (run : Run) (past : Past) (a : Act) (old new : Process) (
             (is_allowed root run past w.lawful w.holding a old new living.event does may now living.stamp);
       }
 
-  order : AreInOrder root (doing a old new ∷ past) (epoch run)
+  order : AreInOrder root (made a old new ∷ past) (epoch run)
   order = order_next root run past w.order a old new does may kind
 
   -- no step
-  none_on : deed_of (length past) a ≡ None → Holds root run (doing a old new ∷ past)
+  none_on : deed_of (length past) a ≡ None → Holds root run (made a old new ∷ past)
   none_on is = record {
     lawful = w.lawful;
     order = order;
     holding = current_still root run past a old new w.lawful w.holding does kind (λ deed other. absurd (none-some deed (sym is ∙ other)));
-    marked = marked_more root run run past (doing a old new) w.marked (λ mark r was. was) (marked_silent root run (length past) a is);
+    marked = marked_more root run run past (made a old new) w.marked (λ mark r was. was) (marked_silent root run (length past) a is);
   }
 
   -- a step of a process that has not returned
-  left_on : (deed : Deed) → deed_of (length past) a ≡ Some deed → old.epoch < epoch run → Holds root (Made old.epoch (step_of old deed new) ∷ run) (doing a old new ∷ past)
+  left_on : (deed : Deed) → deed_of (length past) a ≡ Some deed → old.epoch < epoch run → Holds root (Made old.epoch (step_of old deed new) ∷ run) (made a old new ∷ past)
   left_on deed is less =
       let s = step_of old deed new in
-      holds_as root (Made old.epoch s ∷ run) (doing a old new ∷ past) (current run) (epoch run) (current_left run old.epoch s less) (epoch_made run old.epoch s) w.lawful order
+      holds_as root (Made old.epoch s ∷ run) (made a old new ∷ past) (current run) (epoch run) (current_left run old.epoch s less) (epoch_made run old.epoch s) w.lawful order
       (current_still root run past a old new w.lawful w.holding does kind (λ other also. less))
-      (marked_more root run (Made old.epoch s ∷ run) past (doing a old new) w.marked (λ mark r was. earlier was) (marked_left root run a old new deed does less))
+      (marked_more root run (Made old.epoch s ∷ run) past (made a old new) w.marked (λ mark r was. earlier was) (marked_left root run a old new deed does less))
 
   -- a step of a process that has returned
-  next_on : (deed : Deed) → deed_of (length past) a ≡ Some deed → old.epoch ≡ epoch run → Holds root (Made old.epoch (step_of old deed new) ∷ run) (doing a old new ∷ past)
+  next_on : (deed : Deed) → deed_of (length past) a ≡ Some deed → old.epoch ≡ epoch run → Holds root (Made old.epoch (step_of old deed new) ∷ run) (made a old new ∷ past)
   next_on deed is now =
       let s = step_of old deed new in
       let own = own_step root run past a old new deed is kind in
       let step = step_now deed is now in
-      holds_as root (Made old.epoch s ∷ run) (doing a old new ∷ past) (s ∷ current run) (epoch run) (current_made run old.epoch s now) (epoch_made run old.epoch s)
+      holds_as root (Made old.epoch s ∷ run) (made a old new ∷ past) (s ∷ current run) (epoch run) (current_made run old.epoch s now) (epoch_made run old.epoch s)
       (next w.lawful step.living.lives step.allowed) order
       (current_next root run past a old new deed w.order w.holding does may own.0 step)
-      (marked_more root run (Made old.epoch s ∷ run) past (doing a old new) w.marked (λ mark r was. earlier was)
+      (marked_more root run (Made old.epoch s ∷ run) past (made a old new) w.marked (λ mark r was. earlier was)
       (marked_now root run a old new deed now
       (on_deed (deed_of (length past) a) deed (λ c. IsTold old.epoch (report_of root (current run) (step_of old c new)) (line_given a)) is
       (tells root (current run) (length past) a old new does step.living))))
@@ -150,7 +151,7 @@ module _ (root : Name) (run : Run) (past : Past) (a : Act) (old new : Process) (
       )
 
   some_on : (deed : Deed) → deed_of (length past) a ≡ Some deed
-      → IsRight root run (Some deed) (doing a old new) × Holds root (Made old.epoch (step_of old deed new) ∷ run) (doing a old new ∷ past)
+      → IsRight root run (Some deed) (made a old new) × Holds root (Made old.epoch (step_of old deed new) ∷ run) (made a old new ∷ past)
   some_on deed is =
       elim (cases_lt old.epoch (epoch run)) [
         | inl less ↦ (inr less, left_on deed is less)
@@ -160,6 +161,6 @@ module _ (root : Name) (run : Run) (past : Past) (a : Act) (old new : Process) (
             (right_now deed is now, next_on deed is now))
       ]
 
-  pub call_on : (o : Option Deed) → deed_of (length past) a ≡ o → IsRight root run o (doing a old new) × Holds root (run_with o (doing a old new) run) (doing a old new ∷ past)
+  pub call_on : (o : Option Deed) → deed_of (length past) a ≡ o → IsRight root run o (made a old new) × Holds root (run_with o (made a old new) run) (made a old new ∷ past)
   call_on None is = (tt, none_on is)
   call_on (Some deed) is = some_on deed is

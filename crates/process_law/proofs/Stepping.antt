@@ -8,23 +8,29 @@ use Rattle.histories.proofs.Rules.{retired_not_living}
 use Rattle.report_line.specs.declared.step.Deed.{Deed}
 use Rattle.report_line.specs.declared.step.Deed.TheVariants as deeds
 use Rattle.report_line.specs.declared.step.Step.{Step}
-use Rattle.report_line.specs.History.{Name, History, Event, Living, event_of, status}
+use Rattle.report_line.specs.History.{Name, History, Event, Living, event_of, sending, status}
 use Rattle.report_line.specs.Lawful.{IsAllowed}
 use Rattle.settled_lists.specs.Runs.{Run, epoch, current}
 use Rattle.process.specs.declared.process.Process.{Process}
 use Rattle.process.specs.declared.handed.Message.{Message}
 use Rattle.process.specs.declared.handed.Start.{Start}
 use Rattle.process.specs.declared.handed.Retirement.{Retirement}
-use Rattle.process_law.specs.Accounts.{Act, Work, Send, Receive, Check, Present, Fork, Begin, Retire, Absorb, Return, DoesSo, begun_by, deed_of}
+use Rattle.process_law.specs.Accounts.{Act, Work, Send, Again, Receive, Check, Present, Fork, Begin, Retire, Absorb, Return, DoesSo, begun_by, deed_of, made}
 use Rattle.process_law.specs.Handing.{Past, goes_on, GoesFromNewest, IsUnbegun, IsUnabsorbed, MayAbsorb, MayDo}
 use Rattle.process_law.specs.EachCall.{LivesAs, step_of, IsSent, IsGiven}
-use Rattle.process_law.proofs.Calls.{call_within, GaveMessage, GaveStart, GaveRetirement, message_cases, start_cases, retirement_cases, unbegun_before, unabsorbed_before, forked_later, goes_on_is, newest_cases, newest_is, call_in}
-use Rattle.process_law.proofs.CallKinds.{doing, first_byte, same_deed, OnDeed, on_deed, sent_name, forked_child, absorbed_of}
+use Rattle.process_law.proofs.Calls.{call_within, GaveMessage, GaveAgain, GaveStart, GaveRetirement, message_cases, again_cases, start_cases, retirement_cases, unbegun_before, unabsorbed_before, forked_later, goes_on_is, newest_cases, newest_is, call_in}
+use Rattle.process_law.proofs.CallKinds.{first_byte, same_deed, OnDeed, on_deed, sent_name, forked_child, absorbed_of}
 use Rattle.process_law.proofs.Orders.{AreInOrder}
 use Rattle.process_law.proofs.Standing.{absorbed_not_living, lives_on, counted, uncounted, lives_by, child_lives, retires_by, retired_stays, retired_ends, absorbed_stays, sends_now, sent_stays}
 use Rattle.process_law.proofs.Holding.{HasRetired, AreCurrent, message_of, start_of, retirement_of}
 use Rattle.stamp.specs.declared.stamp.Stamp.{Stamp}
 use Rattle.std.proofs.lemmas.Option.{none-some}
+
+sent_twice : (root : Name) (h : History) (x : Event) (s : Step) (deed : Deed) (m : Name) (y : Event) → IsAllowed root h x s deed → deed ≡ deeds.Send m
+    → sending h m ≡ Some y → ⊥
+sent_twice root h x s deed m y allowed is sent =
+    let w : IsAllowed root h x s (deeds.Send m) = subst (IsAllowed root h x s) is allowed in
+    none-some y (sym w.1 ∙ sent)
 
 -- what is known of it
 pub record IsStepNow (root : Name) (run : Run) (past : Past) (a : Act) (old new : Process) (deed : Deed) : Type 0 where
@@ -40,6 +46,7 @@ pub lives_next : (root : Name) (h : History) (n : ℕ) (a : Act) (old new s : Pr
 lives_next root h n Work old new s does w on = lives_by root h old new deeds.Work 0 (λ x. refl) (uncounted h (step_of old deeds.Work new) refl) does.goes w
 lives_next root h n (Send m) old new s does w on =
     lives_by root h old new (deeds.Send (n ∷ [])) 0 (λ x. refl) (uncounted h (step_of old (deeds.Send (n ∷ [])) new) refl) does.works.goes w
+lives_next root h n (Again from sent m) old new s does w on = tt
 lives_next root h n (Receive from m) old new s does w on =
     lives_by root h old new (deeds.Receive (from ∷ [])) 0 (λ x. refl) (uncounted h (step_of old (deeds.Receive (from ∷ [])) new) refl) does.goes w
 lives_next root h n (Check line) old new s does w on = lives_by root h old new deeds.Check 1 (λ x. refl) (counted h (step_of old deeds.Check new) refl) does.goes w
@@ -62,6 +69,7 @@ gives_now root h n Work old new x does living ok = tt
 gives_now root h n (Send m) old new x does living ok =
     let s = step_of old (deeds.Send (n ∷ [])) new in
     (event_of h s, sends_now h s (n ∷ []) refl, sym does.events)
+gives_now root h n (Again from sent m) old new x does living ok = tt
 gives_now root h n (Receive from m) old new x does living ok = tt
 gives_now root h n (Check line) old new x does living ok = tt
 gives_now root h n (Present line) old new x does living ok = tt
@@ -98,14 +106,14 @@ module _ (root : Name) (run : Run) (past : Past) (a : Act) (old new : Process) (
     (w : IsStepNow root run past a old new deed) where
   -- an older call's process that stands retired: so it does, unless it is absorbed now
   retired_next : (n : ℕ) (r : Retirement) → GaveRetirement past n r → r.epoch ≡ epoch run
-      → HasRetired root (step_of old deed new ∷ current run) (doing a old new ∷ past) n r
+      → HasRetired root (step_of old deed new ∷ current run) (made a old new ∷ past) n r
   retired_next n r gave now =
       let h = current run in
       let s = step_of old deed new in
       elim (holds.retired n r gave now) [
         | inr ended ↦ inr (
           absorbed_stays root h w.living.event s w.living.lives w.allowed r.process ended.0,
-          λ none. ended.1 (unabsorbed_before past (doing a old new) n none),
+          λ none. ended.1 (unabsorbed_before past (made a old new) n none),
         )
         | inl waits ↦ elim (cases_absorbs deed r.process) [
           | inr other ↦ inl (waits.0, retired_stays root h w.living.event s w.living.lives w.allowed r.process r.target waits.0 other waits.1, waits.2)
@@ -118,7 +126,7 @@ module _ (root : Name) (run : Run) (past : Past) (a : Act) (old new : Process) (
     where
       -- the call that absorbs it now was given the retirement of that call
       absorbed_by : (n : ℕ) (r : Retirement) → GaveRetirement past n r → r.epoch ≡ epoch run
-          → (from : ℕ) × (q : Retirement) × (line : List ℕ) × (a ≡ Absorb from q line) × (q.process ≡ r.process) → ¬ IsUnabsorbed (doing a old new ∷ past) n
+          → (from : ℕ) × (q : Retirement) × (line : List ℕ) × (a ≡ Absorb from q line) × (q.process ≡ r.process) → ¬ IsUnabsorbed (made a old new ∷ past) n
       absorbed_by n r gave now (from, q, line, is, same) none = by may_absorb.2
         where
           may_absorb : MayDo root run past (Absorb from q line) old
@@ -127,7 +135,7 @@ module _ (root : Name) (run : Run) (past : Past) (a : Act) (old new : Process) (
           by : MayAbsorb root run past old from q → ⊥
           by (inl v) =
               (let place : from ≡ n = holds.once from n q r may_absorb.1 gave (v.0 ∙ w.now) now same in
-              none (doing a old new) q line (first_in (doing a old new) past) (is ∙ ap (λ (k : ℕ). Absorb k q line) place))
+              none (made a old new) q line (first_in (made a old new) past) (is ∙ ap (λ (k : ℕ). Absorb k q line) place))
           by (inr keeps) = (keeps w.now).not_anew gave.0 gave.1 r gave.2 (call_in past n gave.0 gave.3) gave.4 (sym same) now
 
   -- who retires now did not retire before in this epoch
@@ -145,10 +153,10 @@ module _ (root : Name) (run : Run) (past : Past) (a : Act) (old new : Process) (
       child_lives root (current run) w.living.event (step_of old deed new) (begun_by s) s.stamp.id w.living.lives w.allowed same
       (ap (stamp_with s.stamp.id) (sym g.events)) refl
 
-  pub current_next : AreCurrent root (doing a old new ∷ past) (step_of old deed new ∷ current run) (epoch run)
+  pub current_next : AreCurrent root (made a old new ∷ past) (step_of old deed new ∷ current run) (epoch run)
   current_next = record {
     lives = λ p s is now.
-        elim (newest_cases root past (doing a old new) p s is) [
+        elim (newest_cases root past (made a old new) p s is) [
           | inl v ↦
               subst (λ (q : Process). LivesAs root (step_of old deed new ∷ current run) q) (sym (goes_on_is a new s v.1))
               (on_deed (deed_of (length past) a) deed (λ c. LivesAs root (step_of old c new ∷ current run) new) w.is_deed
@@ -161,8 +169,8 @@ module _ (root : Name) (run : Run) (past : Past) (a : Act) (old new : Process) (
         elim (in_cases (step_of old deed new) s (current run) at) [
           | inl same ↦
               (let v = forked_child (length past) a c i (w.is_deed ∙ ap (λ (x : Deed). Some x) (ap (λ (t : Step). t.deed) same ∙ is)) in
-              (doing a old new, v.0, v.1, first_in (doing a old new) past, v.2, v.3))
-          | inr before ↦ forked_later past (doing a old new) c (holds.forked s c i before is)
+              (made a old new, v.0, v.1, first_in (made a old new) past, v.2, v.3))
+          | inr before ↦ forked_later past (made a old new) c (holds.forked s c i before is)
         ];
     numbered = λ s m at is.
         elim (in_cases (step_of old deed new) s (current run) at) [
@@ -171,19 +179,24 @@ module _ (root : Name) (run : Run) (past : Past) (a : Act) (old new : Process) (
           | inr before ↦ (let v = holds.numbered s m before is in let lt : v.0 < length past = v.2 in (v.0, v.1, omega arith))
         ];
     sent = λ n m gave now.
-        elim (message_cases past (doing a old new) n m gave) [
+        elim (message_cases past (made a old new) n m gave) [
           | inl v ↦ sent_now n m v.0 v.1
           | inr before ↦ sent_before n m before now
         ];
+    again = λ n m gave now.
+        elim (again_cases past (made a old new) n m gave) [
+          | inl v ↦ absurd (none-some deed (sym (ap (deed_of (length past)) v.1) ∙ w.is_deed))
+          | inr before ↦ again_before n m before now
+        ];
     started = λ n s gave now none.
-        elim (start_cases past (doing a old new) n s gave) [
+        elim (start_cases past (made a old new) n s gave) [
           | inl v ↦ child_starts s v.0 v.1
           | inr before ↦
               lives_on root (current run) w.living.event (step_of old deed new) (begun_by s) w.living.lives w.allowed (not_begun_yet n s before none)
-              (holds.started n s before now (unbegun_before past (doing a old new) n none))
+              (holds.started n s before now (unbegun_before past (made a old new) n none))
         ];
     retired = λ n r gave now.
-        elim (retirement_cases past (doing a old new) n r gave) [
+        elim (retirement_cases past (made a old new) n r gave) [
           | inl v ↦
               (let g = retirement_of (length past) a v.0 r v.1 old new does v.2 in
               inl (
@@ -194,12 +207,12 @@ module _ (root : Name) (run : Run) (past : Past) (a : Act) (old new : Process) (
           | inr before ↦ retired_next n r before now
         ];
     once = λ n m r q gave_r gave_q now also equal.
-        elim (retirement_cases past (doing a old new) n r gave_r) [
-          | inl v ↦ elim (retirement_cases past (doing a old new) m q gave_q) [
+        elim (retirement_cases past (made a old new) n r gave_r) [
+          | inl v ↦ elim (retirement_cases past (made a old new) m q gave_q) [
             | inl u ↦ sym v.3 ∙ u.3
             | inr before ↦ absurd (not_again m q before also (sym equal ∙ (retirement_of (length past) a v.0 r v.1 old new does v.2).process))
           ]
-          | inr before ↦ elim (retirement_cases past (doing a old new) m q gave_q) [
+          | inr before ↦ elim (retirement_cases past (made a old new) m q gave_q) [
             | inl u ↦ absurd (not_again n r before now (equal ∙ (retirement_of (length past) a u.0 q u.1 old new does u.2).process))
             | inr earlier ↦ holds.once n m r q before earlier now also equal
           ]
@@ -226,6 +239,16 @@ module _ (root : Name) (run : Run) (past : Past) (a : Act) (old new : Process) (
             v.2,
           )
 
-      not_begun_yet : (n : ℕ) (s : Start) → GaveStart past n s → IsUnbegun (doing a old new ∷ past) n → s.child ≢ old.name
+      -- nobody sends once more what was sent
+      again_before : (n : ℕ) (m : Message) → GaveAgain past n m → m.epoch ≡ epoch run → IsSent (step_of old deed new ∷ current run) n m
+      again_before n m gave now =
+          let v = holds.again n m gave now in (
+            v.0,
+            sent_stays (current run) (step_of old deed new) (n ∷ []) (λ is. sent_twice root (current run) w.living.event (step_of old deed new) deed (n ∷ []) v.0 w.allowed is v.1)
+                ∙ v.1,
+            v.2,
+          )
+
+      not_begun_yet : (n : ℕ) (s : Start) → GaveStart past n s → IsUnbegun (made a old new ∷ past) n → s.child ≢ old.name
       not_begun_yet n s gave none same =
-          order.unbegun n s gave (unbegun_before past (doing a old new) n none) old (newest_is root past old.name old w.from).1 (sym same)
+          order.unbegun n s gave (unbegun_before past (made a old new) n none) old (newest_is root past old.name old w.from).1 (sym same)

@@ -20,7 +20,7 @@ use Rattle.report_line.proofs.OneCall.{one_call}
 use Rattle.settled_lists.specs.Runs.{Run, Made, epoch, current, IsMarkedReport, of_current, of_left_behind}
 use Rattle.process.specs.declared.process.Process.{Process}
 use Rattle.process.specs.Steps.{next_report}
-use Rattle.process_law.specs.Accounts.{Act, Work, Send, Receive, Check, Present, Fork, Begin, Retire, Absorb, Return, Doing, DoesSo, deed_of}
+use Rattle.process_law.specs.Accounts.{Act, Work, Send, Again, Receive, Check, Present, Fork, Begin, Retire, Absorb, Return, Doing, DoesSo, deed_of}
 use Rattle.process_law.specs.Handing.{Past, HasLine}
 use Rattle.process_law.specs.Obeying.{line_given, AreLinesOf}
 use Rattle.process_law.specs.EachCall.{LivesAs, step_of, IsTold}
@@ -37,6 +37,7 @@ pub tells : (root : Name) (h : History) (n : ℕ) (a : Act) (old new : Process) 
     → OnDeed (deed_of n a) (λ deed. IsTold old.epoch (report_of root h (step_of old deed new)) (line_given a))
 tells root h n Work old new does w = refl
 tells root h n (Send m) old new does w = refl
+tells root h n (Again from sent m) old new does w = tt
 tells root h n (Receive from m) old new does w = refl
 tells root h n (Check line) old new does w =
     (next_report old new.stamp actions.Check, ap (λ (r : Report). Some r) (numbered_is root h old new deeds.Check new.stamp.id actions.Check w), does.reported)
@@ -66,6 +67,7 @@ tells root h n (Return now) old new does w = tt
 pub silent : (n : ℕ) (a : Act) → deed_of n a ≡ None → line_given a ≡ []
 silent n Work is = absurd (cc)
 silent n (Send m) is = absurd (cc)
+silent n (Again from sent m) is = refl
 silent n (Receive from m) is = absurd (cc)
 silent n (Check line) is = absurd (cc)
 silent n (Present line) is = absurd (cc)
@@ -85,6 +87,7 @@ line_is (Retire target r given) line is = ap (λ (l : List ℕ). l ∷ []) (sym 
 line_is (Absorb from r given) line is = ap (λ (l : List ℕ). l ∷ []) (sym is)
 line_is Work line is = absurd is
 line_is (Send m) line is = absurd is
+line_is (Again from sent m) line is = absurd is
 line_is (Receive from m) line is = absurd is
 line_is (Begin from s) line is = absurd is
 line_is (Return now) line is = absurd is
@@ -116,6 +119,7 @@ epoch_told (Absorb from q given) old new line does is =
     (r, subst (λ (l : List ℕ). Spells (calls.Report (record { epoch = old.epoch; report = r })) l) (sym is) does.reported)
 epoch_told Work old new line does is = absurd is
 epoch_told (Send m) old new line does is = absurd is
+epoch_told (Again from sent m) old new line does is = absurd is
 epoch_told (Receive from m) old new line does is = absurd is
 epoch_told (Begin from s) old new line does is = absurd is
 epoch_told (Return now) old new line does is = absurd is

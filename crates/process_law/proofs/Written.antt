@@ -1,5 +1,5 @@
 -- The account of every kind of call but a return, step by step.
-use Rattle.std.proofs.Common.{◌≡◌, ◌≢◌, ℕ, ◌+◌, ◌≤◌, ◌<◌, min, max, true, false, Some, List, [], ◌∷◌, inl, inr, refl, sym, subst, arith}
+use Rattle.std.proofs.Common.{◌≡◌, ◌≢◌, ℕ, ◌+◌, ◌≤◌, ◌<◌, min, max, true, false, Some, List, [], ◌∷◌, inl, inr, refl, sym, ◌∙◌, ap, subst, arith}
 use Rattle.std.specs.Prelude.{Contains, IsTrue, ◌==◌, ◌^◌, ⊤}
 use Rattle.id_tree.specs.IdTree.{IdTree, Zero, One}
 use Rattle.id_tree.specs.NormalForm.{IsId}
@@ -17,19 +17,21 @@ use Rattle.report_line.specs.declared.report.Action.{Action}
 use Rattle.report_line.specs.declared.report.Action.TheVariants as reported
 use Rattle.report_line.specs.Names.{is_letter, is_name_byte, is_name}
 use Rattle.report_line.specs.Spelling.{IsCount, IsAction}
-use Rattle.report_line.specs.History.{Name}
+use Rattle.report_line.specs.declared.step.Deed.TheVariants as deeds
+use Rattle.report_line.specs.History.{Name, History, event_of, sending}
 use Rattle.report_line.specs.Reading.{Spells}
-use Rattle.histories.specs.Example.{a, b, left, right, halves}
+use Rattle.histories.specs.Example.{a, b, left, right, halves, act}
 use Rattle.histories.proofs.Example.{apart, both, some_left, some_right, above, below}
 use Rattle.history_law.specs.Example.{told, forked}
-use Rattle.history_law.proofs.Listed.{in_cases, none_in}
-use Rattle.settled_lists.specs.Runs.{Run}
+use Rattle.history_law.proofs.Listed.{first_in, in_cases, none_in}
+use Rattle.settled_lists.specs.Runs.{Run, Made, epoch, current}
 use Rattle.process.specs.declared.handed.Start.{Start}
 use Rattle.process.specs.declared.handed.Retirement.{Retirement}
-use Rattle.process.specs.Steps.{Counts, Works, Sends, Tells, Receives, Forks, Retires, Absorbs}
-use Rattle.process_law.specs.Accounts.{Act, Work, Send, Receive, Check, Present, Fork, Begin, Retire, Absorb, Doing, Did}
-use Rattle.process_law.specs.Handing.{Past, newest, IsNewName, IsUnbegun, IsUnabsorbed, AreHandedOver}
-use Rattle.process_law.specs.Example.{line_of, made, a0, a1, a2, a3, a4, a5, b0, b1, b2, b3, start_of_b, message, end_of_b, AFamilyIsPossible}
+use Rattle.process.specs.Steps.{Counts, Works, Sends, HandsOver, Tells, Receives, Forks, Retires, Absorbs}
+use Rattle.process_law.specs.Accounts.{Act, Work, Send, Again, Receive, Check, Present, Fork, Begin, Retire, Absorb, Doing, Did, made}
+use Rattle.process_law.specs.Handing.{Past, newest, IsNewName, IsUnbegun, IsUnabsorbed, WasSent, AreHandedOver}
+use Rattle.process_law.proofs.Standing.{sends_now}
+use Rattle.process_law.specs.Example.{line_of, a0, a1, a2, a3, a4, a5, b0, b1, b2, b3, start_of_b, message, end_of_b, AFamilyIsPossible}
 
 -- ---- lines
 
@@ -72,7 +74,7 @@ grows i e f same is = record { filled = λ differs. absurd (differs same); grown
 pub fills : (i : IdTree) (e f : EventTree) → fill i e ≢ e → f ≡ fill i e → IsEventStep i e f
 fills i e f differs is = record { filled = λ again. is; grown = λ same. absurd (differs same) }
 
-left_some : left ≢ Zero
+pub left_some : left ≢ Zero
 left_some is = cc
 
 pub right_some : right ≢ Zero
@@ -93,10 +95,10 @@ halves_it = record { left = some_left; right = some_right; disjoint = apart; tog
 fork_step : IsEventStep One (Leaf 0) (Leaf 1)
 fork_step = grows One (Leaf 0) (Leaf 1) refl refl
 
-work_step : IsEventStep left (Leaf 1) (halves 1 1 0)
+pub work_step : IsEventStep left (Leaf 1) (halves 1 1 0)
 work_step = grows left (Leaf 1) (halves 1 1 0) refl refl
 
-send_step : IsEventStep left (halves 1 1 0) (halves 1 2 0)
+pub send_step : IsEventStep left (halves 1 1 0) (halves 1 2 0)
 unfolding normal_node
 send_step = grows left (halves 1 1 0) (halves 1 2 0) refl refl
 
@@ -122,7 +124,7 @@ retire_step : IsEventStep right (halves 3 0 1) (halves 3 0 2)
 unfolding normal_node
 retire_step = grows right (halves 3 0 1) (halves 3 0 2) refl refl
 
-normal : (n x y : ℕ) → min x y ≡ 0 → (x == y) ≡ false → IsNormal (halves n x y)
+pub normal : (n x y : ℕ) → min x y ≡ 0 → (x == y) ≡ false → IsNormal (halves n x y)
 normal n x y least differs = (tt, tt, least, differs)
 
 received_join : IsJoin (Leaf 1) (halves 1 2 0) (halves 1 2 0)
@@ -137,7 +139,7 @@ absorbed_join (true ∷ p) = refl
 
 -- ---- the calls do what they are said to do
 
-forks_b : Forks a0 a1 start_of_b (line_of 0 (told a 1 One (Leaf 1) (forked b)))
+pub forks_b : Forks a0 a1 start_of_b (line_of 0 (told a 1 One (Leaf 1) (forked b)))
 forks_b = record {
   goes = record { name = refl; epoch = refl; reports = refl };
   step = fork_step;
@@ -249,16 +251,19 @@ abbrev p4 : Past
 p4 = made (Send message) a2 a3 ∷ p3
 
 abbrev p5 : Past
-p5 = made (Receive 3 message) b0 b1 ∷ p4
+p5 = made (Again 3 message message) a3 a3 ∷ p4
 
 abbrev p6 : Past
-p6 = made (Check (line_of 0 (told b 1 right (halves 3 0 1) reported.Check))) b1 b2 ∷ p5
+p6 = made (Receive 3 message) b0 b1 ∷ p5
 
 abbrev p7 : Past
-p7 = made (Present (line_of 0 (told a 2 left (halves 1 3 0) reported.Present))) a3 a4 ∷ p6
+p7 = made (Check (line_of 0 (told b 1 right (halves 3 0 1) reported.Check))) b1 b2 ∷ p6
 
 abbrev p8 : Past
-p8 = made (Retire a end_of_b (line_of 0 (told b 2 right (halves 3 0 2) (reported.Retire a)))) b2 b3 ∷ p7
+p8 = made (Present (line_of 0 (told a 2 left (halves 1 3 0) reported.Present))) a3 a4 ∷ p7
+
+abbrev p9 : Past
+p9 = made (Retire a end_of_b (line_of 0 (told b 2 right (halves 3 0 2) (reported.Retire a)))) b2 b3 ∷ p8
 
 from0 : newest a [] a ≡ Some a0
 unfolding newest
@@ -272,44 +277,75 @@ from3 : newest a p3 a ≡ Some a2
 unfolding newest
 from3 = refl
 
-from4 : newest a p4 b ≡ Some b0
+from4 : newest a p4 a ≡ Some a3
 unfolding newest
 from4 = refl
 
-from5 : newest a p5 b ≡ Some b1
+from5 : newest a p5 b ≡ Some b0
 unfolding newest
 from5 = refl
 
-from6 : newest a p6 a ≡ Some a3
+from6 : newest a p6 b ≡ Some b1
 unfolding newest
 from6 = refl
 
-from7 : newest a p7 b ≡ Some b2
+from7 : newest a p7 a ≡ Some a3
 unfolding newest
 from7 = refl
 
-from8 : newest a p8 a ≡ Some a4
+from8 : newest a p8 b ≡ Some b2
 unfolding newest
 from8 = refl
 
-b_is_new : IsNewName a [] b
+from9 : newest a p9 a ≡ Some a4
+unfolding newest
+from9 = refl
+
+pub b_is_new : IsNewName a [] b
 b_is_new = (above 98 97 (omega arith), λ d s line at. absurd (none_in d at))
 
 unbegun_1 : IsUnbegun p1 0
 unbegun_1 = unbegun p1 0 (λ s is. cc, tt)
 
-unabsorbed_8 : IsUnabsorbed p8 7
-unabsorbed_8 = unabsorbed p8 7 (λ r l is. cc, (λ r l is. cc, (λ r l is. cc, (λ r l is. cc, (λ r l is. cc, (λ r l is. cc, (λ r l is. cc, (λ r l is. cc, tt))))))))
+unabsorbed_9 : IsUnabsorbed p9 8
+unabsorbed_9 =
+    unabsorbed p9 8 (λ r l is. cc, (λ r l is. cc, (λ r l is. cc, (λ r l is. cc, (λ r l is. cc, (λ r l is. cc, (λ r l is. cc, (λ r l is. cc, (λ r l is. cc, tt)))))))))
+
+-- the steps of the calls up to the sending
+abbrev steps_so_far : Run
+steps_so_far =
+    Made 0 (act a (deeds.Send (3 ∷ [])) left (halves 1 2 0))
+    ∷ Made 0 (act a deeds.Work left (halves 1 1 0))
+    ∷ Made 0 (act a (deeds.Fork b right) left (Leaf 1))
+    ∷ []
+
+abbrev before_sending : History
+before_sending = act a deeds.Work left (halves 1 1 0) ∷ act a (deeds.Fork b right) left (Leaf 1) ∷ []
+
+history_so_far : current steps_so_far ≡ act a (deeds.Send (3 ∷ [])) left (halves 1 2 0) ∷ before_sending
+unfolding epoch current
+history_so_far = refl
+
+was_sent : WasSent steps_so_far 3 (halves 1 2 0)
+was_sent = (
+  event_of before_sending (act a (deeds.Send (3 ∷ [])) left (halves 1 2 0)),
+  ap (λ (h : History). sending h (3 ∷ [])) history_so_far
+      ∙ sends_now before_sending (act a (deeds.Send (3 ∷ [])) left (halves 1 2 0)) (3 ∷ []) refl,
+  refl,
+)
+
+hands_over : HandsOver a3 message message
+hands_over = record { not_newer = omega arith; known = λ p. omega arith; epoch = refl; events = refl }
 
 -- ---- all of it, from the last call back
 
-rest8 : (run : Run) → AreHandedOver a run p8 (Did (made (Absorb 7 end_of_b (line_of 0 (told a 3 One (Leaf 5) (reported.Absorb b)))) a4 a5) ∷ [])
-rest8 run = (
+rest9 : (run : Run) → AreHandedOver a run p9 (Did (made (Absorb 8 end_of_b (line_of 0 (told a 3 One (Leaf 5) (reported.Absorb b)))) a4 a5) ∷ [])
+rest9 run = (
   absorbs_a,
   (
-    from8,
-    (made (Retire a end_of_b (line_of 0 (told b 2 right (halves 3 0 2) (reported.Retire a)))) b2 b3, a, line_of 0 (told b 2 right (halves 3 0 2) (reported.Retire a)), record { later = []; earlier = p7; past_is = refl; number = refl }, refl),
-    inl (refl, unabsorbed_8),
+    from9,
+    (made (Retire a end_of_b (line_of 0 (told b 2 right (halves 3 0 2) (reported.Retire a)))) b2 b3, a, line_of 0 (told b 2 right (halves 3 0 2) (reported.Retire a)), record { later = []; earlier = p8; past_is = refl; number = refl }, refl),
+    inl (refl, unabsorbed_9),
   ),
   tt,
 )
@@ -328,9 +364,13 @@ a_family_is_possible = (
         sends_a,
         from3,
         (
-          receives_b,
-          (from4, inl (made (Send message) a2 a3, record { later = []; earlier = p3; past_is = refl; number = refl }, refl)),
-          (checks_b, from5, (presents_a, from6, ((retires_b, refl), from7, rest8 _))),
+          (hands_over, refl),
+          (from4, λ now. was_sent),
+          (
+            receives_b,
+            (from5, inr (inl (made (Again 3 message message) a3 a3, message, first_in (made (Again 3 message message) a3 a3) p4, refl))),
+            (checks_b, from6, (presents_a, from7, ((retires_b, refl), from8, rest9 _))),
+          ),
         ),
       ),
     ),

@@ -11,13 +11,14 @@ use Rattle.process.specs.declared.process.Process.{Process}
 use Rattle.process.specs.declared.handed.Message.{Message}
 use Rattle.process.specs.declared.handed.Start.{Start}
 use Rattle.process.specs.declared.handed.Retirement.{Retirement}
-use Rattle.process.specs.Steps.{Works, Sends, Tells, Receives, Forks, Retires, Absorbs, Returns}
+use Rattle.process.specs.Steps.{Works, Sends, HandsOver, Tells, Receives, Forks, Retires, Absorbs, Returns}
 
 -- Which call was made: with what was handed in, and what it gave out. What is handed in names the call that gave it out, by how many
--- calls there were before that one.
+-- calls there were before that one; a message, also one that was handed over once more, the call that sent it.
 pub data Act : Type 0 where
   Work : Act
   Send : (message : Message) → Act
+  Again : (from : ℕ) → (message again : Message) → Act
   Receive : (from : ℕ) → (message : Message) → Act
   Check : (line : List ℕ) → Act
   Present : (line : List ℕ) → Act
@@ -33,6 +34,9 @@ pub record Doing : Type 0 where
   pub old : Process
   pub new : Process
 
+abbrev pub made : Act → Process → Process → Doing
+made act old new = record { act = act; old = old; new = new }
+
 -- the process that began with what is handed over, or that ended with this
 abbrev pub begun_by : Start → Process
 begun_by start = record { name = start.child; epoch = start.epoch; reports = 0; stamp = start.stamp }
@@ -44,6 +48,7 @@ ended_with old retirement = record { name = old.name; epoch = old.epoch; reports
 abbrev pub DoesSo : Act → Process → Process → Type 0
 DoesSo Work old new = Works old new
 DoesSo (Send message) old new = Sends old new message
+DoesSo (Again from message again) old new = HandsOver old message again × (new ≡ old)
 DoesSo (Receive from message) old new = Receives old message new
 DoesSo (Check line) old new = Tells old new actions.Check line
 DoesSo (Present line) old new = Tells old new actions.Present line
@@ -60,6 +65,7 @@ IsDone d = DoesSo d.act d.old d.new
 abbrev pub deed_of : ℕ → Act → Option Deed
 deed_of n Work = Some deeds.Work
 deed_of n (Send message) = Some (deeds.Send (n ∷ []))
+deed_of n (Again from message again) = None
 deed_of n (Receive from message) = Some (deeds.Receive (from ∷ []))
 deed_of n (Check line) = Some deeds.Check
 deed_of n (Present line) = Some deeds.Present

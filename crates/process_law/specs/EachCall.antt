@@ -11,6 +11,7 @@ use Rattle.report_line.specs.StepReports.{report_of, reporting_steps}
 use Rattle.process.specs.declared.process.Process.{Process}
 use Rattle.process.specs.declared.handed.Message.{Message}
 use Rattle.process.specs.declared.handed.Retirement.{Retirement}
+use Rattle.process.specs.Steps.{HandsOver}
 use Rattle.process_law.specs.Accounts.{Act, Send, Receive, Fork, Retire, Absorb, Doing, IsDone, deed_of, begun_by}
 use Rattle.process_law.specs.Handing.{stamp_of, goes_on}
 use Rattle.process_law.specs.Obeying.{line_given}
@@ -68,3 +69,7 @@ abbrev pub EachCallIsAllowed : Type 0
 EachCallIsAllowed =
     (root : Name) (h : History) (n : ℕ) (d : Doing) (deed : Deed) (w : LivesAs root h d.old) → IsDone d → deed_of n d.act ≡ Some deed → IsFrom root h n d.act d.old
     → IsAllowedCall root h n d deed w.event
+
+-- A message that is handed over once more is sent where the one that was handed in is: it may be received over the same histories.
+abbrev pub HandedOverIsSent : Type 0
+HandedOverIsSent = (h : History) (n : ℕ) (p : Process) (sent again : Message) → HandsOver p sent again → IsSent h n sent → IsSent h n again

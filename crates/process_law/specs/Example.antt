@@ -1,5 +1,5 @@
 -- Accounts that are written out: so the laws of calls speak of something.
-use Rattle.std.specs.Prelude.{ℕ, List, [], ◌∷◌, Some}
+use Rattle.std.specs.Prelude.{ℕ, false, List, [], ◌∷◌, Some}
 use Rattle.std.specs.Fmt.{decimal}
 use Rattle.id_tree.specs.IdTree.{IdTree, One}
 use Rattle.event_tree.specs.EventTree.{EventTree, Leaf}
@@ -11,7 +11,7 @@ use Rattle.report_line.specs.declared.report.Report.TheVariants as reports
 use Rattle.report_line.specs.declared.report.Report.{Report}
 use Rattle.report_line.specs.History.{Name}
 use Rattle.report_line.specs.Spelling.{spelling}
-use Rattle.chains.specs.Held.{counting}
+use Rattle.chains.specs.Held.{Held, counting}
 use Rattle.histories.specs.Example.{a, b, left, right, halves}
 use Rattle.history_law.specs.Example.{told, forked}
 use Rattle.settled_turns.specs.Traces.{AreTurns}
@@ -20,7 +20,7 @@ use Rattle.process.specs.declared.process.Process.{Process}
 use Rattle.process.specs.declared.handed.Message.{Message}
 use Rattle.process.specs.declared.handed.Start.{Start}
 use Rattle.process.specs.declared.handed.Retirement.{Retirement}
-use Rattle.process_law.specs.Accounts.{Act, Work, Send, Receive, Check, Present, Fork, Begin, Retire, Absorb, Return, Doing, Did, Took, Account, traced}
+use Rattle.process_law.specs.Accounts.{Work, Send, Again, Receive, Check, Present, Fork, Begin, Retire, Absorb, Return, made, Did, Took, Account, traced}
 use Rattle.process_law.specs.Handing.{AreHandedOver}
 
 -- a process that returned so far and made so many reports, with its stamp
@@ -30,9 +30,6 @@ state name epoch reports id values = record { name = name; epoch = epoch; report
 -- the line of a report of this epoch
 abbrev pub line_of : ℕ → Report → List ℕ
 line_of epoch report = spelling (calls.Report (record { epoch = epoch; report = report }))
-
-abbrev pub made : Act → Process → Process → Doing
-made act old new = record { act = act; old = old; new = new }
 
 -- ---- every kind of call but a return
 
@@ -77,18 +74,19 @@ message = record { epoch = 0; events = halves 1 2 0 }
 abbrev pub end_of_b : Retirement
 end_of_b = record { process = b; epoch = 0; target = a; stamp = record { id = right; events = halves 3 0 2 } }
 
--- a forks b, works and sends a message; b receives it, makes a checkpoint and retires into a, which shows its present state and absorbs it.
+-- a forks b, works, sends a message and hands it over once more; b receives it, makes a checkpoint and retires into a, which shows its present state and absorbs it.
 abbrev pub family : Account
 family =
     Did (made (Fork start_of_b (line_of 0 (told a 1 One (Leaf 1) (forked b)))) a0 a1)
     ∷ Did (made (Begin 0 start_of_b) b0 b0)
     ∷ Did (made Work a1 a2)
     ∷ Did (made (Send message) a2 a3)
+    ∷ Did (made (Again 3 message message) a3 a3)
     ∷ Did (made (Receive 3 message) b0 b1)
     ∷ Did (made (Check (line_of 0 (told b 1 right (halves 3 0 1) reported.Check))) b1 b2)
     ∷ Did (made (Present (line_of 0 (told a 2 left (halves 1 3 0) reported.Present))) a3 a4)
     ∷ Did (made (Retire a end_of_b (line_of 0 (told b 2 right (halves 3 0 2) (reported.Retire a)))) b2 b3)
-    ∷ Did (made (Absorb 7 end_of_b (line_of 0 (told a 3 One (Leaf 5) (reported.Absorb b)))) a4 a5)
+    ∷ Did (made (Absorb 8 end_of_b (line_of 0 (told a 3 One (Leaf 5) (reported.Absorb b)))) a4 a5)
     ∷ []
 
 abbrev pub AFamilyIsPossible : Type 0
@@ -143,3 +141,54 @@ returned =
 
 abbrev pub AReturnIsPossible : Type 0
 AReturnIsPossible = AreTurns (counting []) (traced 0 returned) held_then × AreHandedOver a [] [] returned
+
+-- ---- a retirement that a settlement keeps
+
+-- what a is: at its checkpoint, there again, and behind its absorption; and what b ended as
+abbrev pub e2 : Process
+e2 = state a 0 2 left (halves 1 1 0)
+
+abbrev pub e3 : Process
+e3 = state a 1 2 left (halves 1 1 0)
+
+abbrev pub e4 : Process
+e4 = state a 1 3 One (halves 2 1 0)
+
+abbrev pub f1 : Process
+f1 = state b 0 1 right (halves 1 0 1)
+
+abbrev pub early_end_of_b : Retirement
+early_end_of_b = record { process = b; epoch = 0; target = a; stamp = record { id = right; events = halves 1 0 1 } }
+
+-- a forks b and makes a checkpoint; b retires into a. A settlement keeps all of that. a returns to its checkpoint, and absorbs b's retirement,
+-- which is of the epoch before.
+abbrev pub kept : Account
+kept =
+    Took (marked 0 (reports.Begin a)) (Accepted 1)
+    ∷ Did (made (Fork start_of_b (line_of 0 (told a 1 One (Leaf 1) (forked b)))) a0 a1)
+    ∷ Took (marked 0 (told a 1 One (Leaf 1) (forked b))) (Accepted 2)
+    ∷ Did (made (Check (line_of 0 (told a 2 left (halves 1 1 0) reported.Check))) a1 e2)
+    ∷ Took (marked 0 (told a 2 left (halves 1 1 0) reported.Check)) (Accepted 3)
+    ∷ Did (made (Begin 0 start_of_b) b0 b0)
+    ∷ Did (made (Retire a early_end_of_b (line_of 0 (told b 1 right (halves 1 0 1) (reported.Retire a)))) b0 f1)
+    ∷ Took (marked 0 (told b 1 right (halves 1 0 1) (reported.Retire a))) (Accepted 4)
+    ∷ Took (calls.Settle 4 []) (Settled 1 5)
+    ∷ Did (made (Return 1) e2 e3)
+    ∷ Did (made (Absorb 3 early_end_of_b (line_of 1 (told a 3 One (halves 2 1 0) (reported.Absorb b)))) e3 e4)
+    ∷ Took (marked 1 (told a 3 One (halves 2 1 0) (reported.Absorb b))) (Accepted 6)
+    ∷ []
+
+-- what is held then: all reports, of which the last one is of epoch 1
+abbrev pub held_behind : Held
+held_behind = record {
+  accepted =
+      reports.Begin a ∷ told a 1 One (Leaf 1) (forked b) ∷ told a 2 left (halves 1 1 0) reported.Check ∷ told b 1 right (halves 1 0 1) (reported.Retire a)
+      ∷ told a 3 One (halves 2 1 0) (reported.Absorb b) ∷ [];
+  epochs = 0 ∷ 0 ∷ 0 ∷ 0 ∷ 1 ∷ [];
+  front = 6;
+  epoch = 1;
+  stopped = false;
+}
+
+abbrev pub AKeptRetirementIsPossible : Type 0
+AKeptRetirementIsPossible = AreTurns (counting []) (traced 0 kept) held_behind × AreHandedOver a [] [] kept

@@ -21,7 +21,7 @@ use Rattle.process.specs.declared.process.Process.{Process}
 use Rattle.process.specs.declared.handed.Message.{Message}
 use Rattle.process.specs.declared.handed.Start.{Start}
 use Rattle.process.specs.declared.handed.Retirement.{Retirement}
-use Rattle.process_law.specs.Accounts.{Act, Work, Send, Receive, Check, Present, Fork, Begin, Retire, Absorb, Return, Doing, IsDone, Did, Took, Account, deed_of}
+use Rattle.process_law.specs.Accounts.{Act, Work, Send, Again, Receive, Check, Present, Fork, Begin, Retire, Absorb, Return, Doing, IsDone, Did, Took, Account, deed_of}
 
 -- calls that were made, the newest first
 abbrev pub Past : Type 0
@@ -93,18 +93,24 @@ abbrev pub MayAbsorb : Name → Run → Past → Process → ℕ → Retirement 
 MayAbsorb root run past old from retirement =
     ((retirement.epoch ≡ old.epoch) × IsUnabsorbed past from) ⊎ (old.epoch ≡ epoch run → IsKept root run past retirement)
 
--- What is received is what a call gave out; or, where the receiver has returned, it has the values of that call's event, which is one of the
--- current history: who has it by its position hands it over once more, with the epoch that it has by then.
+-- A process that has returned hands over once more, with the epoch that it has by then, what was sent at an event of the current history: its
+-- own sending, or that of a process that it absorbed.
 abbrev pub WasSent : Run → ℕ → EventTree → Type 0
 WasSent run n values = (x : Event) × (sending (current run) (n ∷ []) ≡ Some x) × (x.values ≡ values)
 
+-- What is received is what a call gave out that sent it, or that handed it over once more; or, where the receiver has returned, it has the
+-- values of that call's event, which is one of the current history.
 abbrev pub MayReceive : Run → Past → Process → ℕ → Message → Type 0
-MayReceive run past old from message = ((d : Doing) × IsCall past from d × (d.act ≡ Send message)) ⊎ (old.epoch ≡ epoch run → WasSent run from message.events)
+MayReceive run past old from message =
+    ((d : Doing) × IsCall past from d × (d.act ≡ Send message))
+    ⊎ ((d : Doing) × (sent : Message) × Contains past d × (d.act ≡ Again from sent message))
+    ⊎ (old.epoch ≡ epoch run → WasSent run from message.events)
 
 -- what is asked of a call
 abbrev pub MayDo : Name → Run → Past → Act → Process → Type 0
 MayDo root run past Work old = GoesFromNewest root past old
 MayDo root run past (Send message) old = GoesFromNewest root past old
+MayDo root run past (Again from message again) old = GoesFromNewest root past old × (old.epoch ≡ epoch run → WasSent run from message.events)
 MayDo root run past (Receive from message) old = GoesFromNewest root past old × MayReceive run past old from message
 MayDo root run past (Check line) old = GoesFromNewest root past old
 MayDo root run past (Present line) old = GoesFromNewest root past old

@@ -3,12 +3,19 @@
 //! An account tells which calls processes made and which turns the coordinator took, in order. What goes from one process to another is
 //! handed over as it was given out, each start and each retirement once, or, behind a settlement, a message of the current history once more; and a
 //! process goes on from its newest state, or, where it returns, from what it was at its position. Then the steps obey the rules. These are laws of
-//! definitions.
+//! definitions. That each call does what an account says of it is proved of the calls themselves (`accounted`).
 #![tactic(auto)]
 
 ghost use Rattle.process_law.specs.Obeying.{StepsOfCallsObey, StepsOfCallsAreLawful};
-ghost use Rattle.process_law.specs.EachCall.{EachCallIsAllowed};
-ghost use Rattle.process_law.specs.Example.{AFamilyIsPossible, AReturnIsPossible};
+ghost use Rattle.process_law.specs.EachCall.{EachCallIsAllowed, HandedOverIsSent};
+ghost use Rattle.process_law.specs.Example.{AFamilyIsPossible, AReturnIsPossible, AKeptRetirementIsPossible};
+
+mod accounted;
+
+pub use accounted::{
+    absorb, absorb_kept, again, begin, check, fork, fork_small, present, receive, retire,
+    return_to, returned, send, work,
+};
 
 /// The steps of processes that call, with the turns between them, are those of processes that obey.
 pub fn steps_of_calls_obey()
@@ -21,13 +28,16 @@ pub fn steps_of_calls_are_lawful()
 {}
 
 /// The step of each call is allowed over any history in which its process lives, and that has what the call takes and names; its line is
-/// that of the report, and the process lives on as the call left it.
+/// that of the report, and the process lives on as the call left it. What is handed over once more was sent as before.
 pub fn each_call_is_allowed()
-    ensures { EachCallIsAllowed }
+    ensures allowed { EachCallIsAllowed }
+    ensures again { HandedOverIsSent }
 {}
 
-/// There is an account with every kind of call but a return, and one with turns, a settlement and a return.
+/// There is an account with every kind of call but a return, one with turns, a settlement and a return, and one with a retirement that a
+/// settlement kept, and that is absorbed then.
 pub fn a_family_is_possible()
     ensures family { AFamilyIsPossible }
     ensures returned { AReturnIsPossible }
+    ensures kept { AKeptRetirementIsPossible }
 {}

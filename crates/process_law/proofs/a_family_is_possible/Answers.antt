@@ -1,6 +1,7 @@
--- The accounts are gone through in `Written` and `Returned`.
+-- The accounts are gone through in `Written`, `GoneBack` and `Waiting`.
 use Rattle.process_law.proofs.Written.{a_family_is_possible}
-use Rattle.process_law.proofs.Returned.{a_return_is_possible}
+use Rattle.process_law.proofs.GoneBack.{a_return_is_possible}
+use Rattle.process_law.proofs.Waiting.{a_kept_retirement_is_possible}
 use Rattle.process_law.proofs.a_family_is_possible.Goals as goal
 
 pub returns-clause-family : goal.returns-clause-family
@@ -8,3 +9,6 @@ returns-clause-family c = a_family_is_possible
 
 pub returns-clause-returned : goal.returns-clause-returned
 returns-clause-returned c = a_return_is_possible
+
+pub returns-clause-kept : goal.returns-clause-kept
+returns-clause-kept c = a_kept_retirement_is_possible

@@ -1,6 +1,6 @@
 -- Each part stands in a file of its own: `Letting`, `Telling` and `Stepping`.
 use Rattle.std.specs.Prelude.{◌≡◌, ◌∷◌, ℕ, Some}
-use Rattle.std.proofs.Common.{subst, sym}
+use Rattle.std.proofs.Common.{◌∙◌, subst, sym}
 use Rattle.report_line.specs.declared.step.Deed.{Deed}
 use Rattle.report_line.specs.History.{Name, History}
 use Rattle.report_line.specs.Lawful.{IsAllowed}
@@ -34,5 +34,8 @@ each root h n d deed w does is from =
       others = λ s differs there. lives_on root h w.event (step_of d.old deed d.new) s w.lives ok differs there;
     }
 
-pub returns : goal.returns
-returns c = each
+pub returns-clause-allowed : goal.returns-clause-allowed
+returns-clause-allowed c = each
+
+pub returns-clause-again : goal.returns-clause-again
+returns-clause-again c = λ h n p sent again hands was. (was.0, was.1, was.2 ∙ sym hands.events)

@@ -26,9 +26,9 @@ use Rattle.settled_turns.proofs.Following.{one_settlement}
 use Rattle.settled_turns.proofs.Written.{run1, run2, run3, run4, run5, run6, run7, run8, run9, run10, by_line, settled_once_is_taken}
 use Rattle.process.specs.declared.handed.Start.{Start}
 use Rattle.process.specs.Steps.{Works, Tells, Forks}
-use Rattle.process_law.specs.Accounts.{Work, Check, Present, Fork, Begin, Return, Doing, Took, Account}
+use Rattle.process_law.specs.Accounts.{Work, Check, Present, Fork, Begin, Return, Doing, Took, Account, made}
 use Rattle.process_law.specs.Handing.{Past, newest, WasOnce, IsNewName, IsUnbegun, IsAtPosition, IsHandedIn, AreHandedOver}
-use Rattle.process_law.specs.Example.{line_of, made, a0, c1, c2, c3, c4, c5, d0, d1, start_again, returned, AReturnIsPossible}
+use Rattle.process_law.specs.Example.{line_of, a0, c1, c2, c3, c4, c5, d0, d1, start_again, returned, AReturnIsPossible}
 use Rattle.process_law.proofs.Written.{name_a, name_b, on_one, on_left, on_right, flat, halved, spells, grows, grown_of, counts, one_some, right_some, halves_it, each_is, unbegun}
 
 -- ---- what the calls do
@@ -188,7 +188,7 @@ unbegun_5 = unbegun q5 4 (λ s is. cc, (λ s is. cc, (λ s is. cc, (λ s is. cc,
 
 -- ---- a turn
 
-told_on : (run : Run) (past : Past) (m : MarkedReport) (front : ℕ) (account : Account) → IsHandedIn a past (calls.Report m) (Accepted front)
+pub told_on : (run : Run) (past : Past) (m : MarkedReport) (front : ℕ) (account : Account) → IsHandedIn a past (calls.Report m) (Accepted front)
     → AreHandedOver a (Accepts m.epoch m.report ∷ run) past account → AreHandedOver a run past (Took (calls.Report m) (Accepted front) ∷ account)
 told_on run past m front account handed rest = (handed, λ between adds. subst (λ (r : Run). AreHandedOver a r past account) (sym adds) rest)
 

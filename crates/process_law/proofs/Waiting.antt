@@ -1,0 +1,682 @@
+-- The account with a retirement that a settlement keeps, step by step.
+use Rattle.std.proofs.Common.{◌≡◌, ◌≢◌, ◌⊎◌, ℕ, zero, suc, ◌+◌, ◌≤◌, ◌<◌, Bool, true, false, Some, List, [], ◌∷◌, length, inl, inr, refl, sym, ◌∙◌, ap, subst, arith}
+use Rattle.std.specs.Prelude.{Contains, IsTrue, nat_le, ◌||◌, ◌&&◌, drop}
+use Rattle.std.specs.Str.{bytes_eq}
+use Rattle.std.proofs.lemmas.List.Elements.{All-from_recursion}
+use Rattle.id_tree.specs.IdTree.{One}
+use Rattle.id_tree.specs.Points.{Point, owns}
+use Rattle.event_tree.specs.EventTree.{EventTree, Leaf}
+use Rattle.event_tree.specs.Event.{IsEventStep}
+use Rattle.event_tree.specs.Join.{IsJoin}
+use Rattle.event_tree.specs.Values.{IsAtOrBelow, value_at, ExceedsOn}
+use Rattle.stamp.specs.declared.stamp.Stamp.{Stamp}
+use Rattle.report_line.specs.declared.call.Call.TheVariants as calls
+use Rattle.report_line.specs.declared.reply.Reply.{Reply}
+use Rattle.report_line.specs.declared.reply.Reply.TheVariants.{Accepted, Settled}
+use Rattle.report_line.specs.declared.report.Action.TheVariants as reported
+use Rattle.report_line.specs.declared.report.NumberedReport.{NumberedReport}
+use Rattle.report_line.specs.declared.report.Report.{Report}
+use Rattle.report_line.specs.declared.report.Report.TheVariants.{Begin, Numbered}
+use Rattle.report_line.specs.declared.step.Deed.TheVariants as deeds
+use Rattle.report_line.specs.declared.step.Step.{Step}
+use Rattle.report_line.specs.History.{Name, History, Event, event_of, Living, Retired, status}
+use Rattle.report_line.specs.Lawful.{IsLawful, start, next}
+use Rattle.report_line.specs.Events.{step, earlier}
+use Rattle.report_line.specs.StepReports.{reporting_steps}
+use Rattle.histories.specs.Example.{a, b, left, right, halves, act}
+use Rattle.histories.specs.Rules.{IsNewest, IsWaiting}
+use Rattle.histories.proofs.Bytes.{bytes_same, bytes_are}
+use Rattle.histories.proofs.Example.{leaf, has, apart, both, some_left, some_right, above, below}
+use Rattle.histories.proofs.Rules.{living_is_newest, waiting}
+use Rattle.histories.proofs.Status.{root_holds}
+use Rattle.chains.specs.declared.position.Position.{Position}
+use Rattle.chains.specs.declared.position.Position.TheVariants as positions
+use Rattle.chains.specs.Processes.{known, IsKnown, target_of}
+use Rattle.chains.specs.Elements.{name_of, element}
+use Rattle.chains.specs.Positions.{rank, position_in, IsChosen, IsCut}
+use Rattle.chains.specs.Knowledge.{Knows, KnowsAfter}
+use Rattle.chains.specs.Held.{Held, counting, with_report, with_settlement}
+use Rattle.chains.specs.Admission.{report_limit, process_limit, FitsOrNot, IsRepeated, IsActionReply, IsStampReply, IsWaitingReply, IsStandingReply, IsReportReply}
+use Rattle.chains.specs.Failures.{IsFailedSet}
+use Rattle.chains.specs.Folded.{IsFitReport, IsFolded, nothing_folded, one_folded, IsReached}
+use Rattle.chains.specs.Greatest.{IsGreatestCut}
+use Rattle.chains.specs.Settled.{kept_at, IsSettled}
+use Rattle.chains.specs.Turns.{fine, IsTurn}
+use Rattle.history_law.specs.Example.{told, forked}
+use Rattle.history_law.specs.Places.{IsEventAt, place, IsUpTo, IsInCut}
+use Rattle.history_law.proofs.Accepted.{more_left, more_right, halved as parts_of_one}
+use Rattle.history_law.proofs.Listed.{first_in, later_in, in_cases, none_in}
+use Rattle.history_law.proofs.Ordered.{one_event}
+use Rattle.settled_histories.specs.Kept.{Cut, kept as kept_of}
+use Rattle.settled_lists.specs.Agreeing.{HasEventsOf}
+use Rattle.settled_lists.specs.Runs.{Run, Made, Accepts, Settles, epoch, current, accepted}
+use Rattle.settled_lists.proofs.Folding.{within, is_within}
+use Rattle.settled_turns.specs.Traces.{IsSettledBy}
+use Rattle.settled_turns.specs.Example.{marked}
+use Rattle.settled_turns.proofs.Following.{one_settlement}
+use Rattle.process.specs.declared.handed.Retirement.{Retirement}
+use Rattle.process.specs.Steps.{Tells, Retires, Absorbs}
+use Rattle.process_law.specs.Accounts.{Check, Fork, Begin as Begins, Retire, Absorb, Return, Doing, Account, made}
+use Rattle.process_law.specs.Handing.{Past, newest, WasOnce, IsUnbegun, IsAtPosition, IsKept, AreHandedOver}
+use Rattle.process_law.specs.Example.{line_of, a0, a1, b0, start_of_b, e2, e3, e4, f1, early_end_of_b, kept, AKeptRetirementIsPossible}
+use Rattle.process_law.proofs.GoneBack.{told_on}
+use Rattle.process_law.proofs.Written.{name_a, name_b, on_one, on_left, on_right, halved, spells, grows, grown_of, counts, left_some, right_some, one_some, normal, work_step, send_step, forks_b, b_is_new, each_is, unbegun}
+
+-- ---- what the calls do
+
+checks_a : Tells a1 e2 reported.Check (line_of 0 (told a 2 left (halves 1 1 0) reported.Check))
+checks_a = record {
+  goes = record { name = refl; epoch = refl; reports = refl };
+  stamped = counts left (Leaf 1) (halves 1 1 0) on_left left_some tt work_step;
+  reported = spells 0 a 2 left (halves 1 1 0) reported.Check (omega arith) name_a (omega arith, omega arith) on_left (halved 1 1 0 refl refl (omega arith)) tt;
+}
+
+end_step : IsEventStep right (Leaf 1) (halves 1 0 1)
+end_step = grows right (Leaf 1) (halves 1 0 1) refl refl
+
+retires_b : Retires b0 a early_end_of_b (line_of 0 (told b 1 right (halves 1 0 1) (reported.Retire a)))
+retires_b = record {
+  other = below 97 98 (omega arith);
+  process = refl;
+  epoch = refl;
+  target_is = refl;
+  stamped = counts right (Leaf 1) (halves 1 0 1) on_right right_some tt end_step;
+  reported = spells 0 b 1 right (halves 1 0 1) (reported.Retire a) (omega arith) name_b (omega arith, omega arith) on_right (halved 1 0 1 refl refl (omega arith)) name_a;
+}
+
+absorbed_join : IsJoin (halves 1 2 0) (halves 1 0 1) (halves 2 1 0)
+absorbed_join [] = refl
+absorbed_join (false ∷ p) = refl
+absorbed_join (true ∷ p) = refl
+
+absorbs_b : Absorbs e3 early_end_of_b e4 (line_of 1 (told a 3 One (halves 2 1 0) (reported.Absorb b)))
+absorbs_b = record {
+  into_this = refl;
+  other = above 98 97 (omega arith);
+  goes = record { name = refl; epoch = refl; reports = refl };
+  stamped = record {
+    after = halves 1 2 0;
+    step = send_step;
+    grown = grown_of left (halves 1 1 0) (halves 1 2 0) on_left left_some (normal 1 1 0 refl refl) send_step;
+    join = absorbed_join;
+    disjoint = apart;
+    together = both;
+  };
+  reported = spells 1 a 3 One (halves 2 1 0) (reported.Absorb b) (omega arith) name_a (omega arith, omega arith) on_one (halved 2 1 0 refl refl (omega arith)) name_b;
+}
+
+-- ---- what is accepted, and the line of the settlement
+
+abbrev fork_report : NumberedReport
+fork_report = record { process = a; number = 1; stamp = record { id = One; events = Leaf 1 }; action = forked b }
+
+abbrev check_report : NumberedReport
+check_report = record { process = a; number = 2; stamp = record { id = left; events = halves 1 1 0 }; action = reported.Check }
+
+abbrev end_report : NumberedReport
+end_report = record { process = b; number = 1; stamp = record { id = right; events = halves 1 0 1 }; action = reported.Retire a }
+
+abbrev absorb_report : NumberedReport
+absorb_report = record { process = a; number = 3; stamp = record { id = One; events = halves 2 1 0 }; action = reported.Absorb b }
+
+abbrev l1 : List Report
+l1 = Begin a ∷ []
+
+abbrev l2 : List Report
+l2 = Begin a ∷ Numbered fork_report ∷ []
+
+abbrev l3 : List Report
+l3 = Begin a ∷ Numbered fork_report ∷ Numbered check_report ∷ []
+
+abbrev l4 : List Report
+l4 = Begin a ∷ Numbered fork_report ∷ Numbered check_report ∷ Numbered end_report ∷ []
+
+filled : (x : Report) (xs : List Report) → x ∷ xs ≢ []
+filled x xs e = cc
+
+unknown_b : ¬ IsKnown l1 b
+unknown_b there = elim (in_cases a b [] there) [ inl same ↦ below 97 98 (omega arith) same | inr none ↦ none_in b none ]
+
+fork_fit : IsFitReport l1 fork_report
+fork_fit = record {
+  begun = filled _ _;
+  is_known = (0, omega arith, refl);
+  living = refl;
+  number = refl;
+  id = refl;
+  grown = more_left One (Leaf 0) (Leaf 1) 0 0 1 1 refl (leaf 0) (leaf 1) (omega arith) (omega arith);
+  fit = (unknown_b, parts_of_one);
+}
+
+check_fit : IsFitReport l2 check_report
+check_fit = record {
+  begun = filled _ _;
+  is_known = (0, omega arith, refl);
+  living = refl;
+  number = refl;
+  id = refl;
+  grown = more_left left (Leaf 1) (halves 1 1 0) 1 1 2 1 refl (leaf 1) (has 1 1 0) (omega arith) (omega arith);
+  fit = tt;
+}
+
+end_fit : IsFitReport l3 end_report
+end_fit = record {
+  begun = filled _ _;
+  is_known = (1, omega arith, refl);
+  living = refl;
+  number = refl;
+  id = refl;
+  grown = more_right right (Leaf 1) (halves 1 0 1) 1 1 1 2 refl (leaf 1) (has 1 0 1) (omega arith) (omega arith);
+  fit = tt;
+}
+
+end_below : IsAtOrBelow (halves 1 0 1) (halves 2 1 0)
+end_below [] = omega arith
+end_below (false ∷ p) = omega arith
+end_below (true ∷ p) = omega arith
+
+absorb_fit : IsFitReport l4 absorb_report
+absorb_fit = record {
+  begun = filled _ _;
+  is_known = (0, omega arith, refl);
+  living = refl;
+  number = refl;
+  id = refl;
+  grown = more_left left (halves 1 1 0) (halves 2 1 0) 2 1 3 2 refl (has 1 1 0) (has 2 1 0) (omega arith) (omega arith);
+  fit = ((refl, refl), end_below);
+}
+
+folded_4 : IsFolded l4
+folded_4 =
+    one_folded l3 (Numbered end_report)
+    (one_folded l2 (Numbered check_report) (one_folded l1 (Numbered fork_report) (one_folded [] (Begin a) nothing_folded refl) fork_fit) check_fit) end_fit
+
+failed_set : IsFailedSet l4 [] []
+failed_set = record {
+  all_known = All-from_recursion (IsKnown l4) [] tt;
+  in_order = λ k less. absurd (omega arith);
+  within = λ p at. absurd (none_in p at);
+  just_named = λ p name is. (λ at. absurd (none_in p at), λ at. absurd (none_in name at));
+}
+
+abbrev the_line : List Position
+the_line = positions.At 2 ∷ positions.Retired ∷ []
+
+line_is_cut : IsCut l4 [] the_line
+line_is_cut = record { complete = refl; chosen = λ p lt. by p lt }
+  where
+    by : (p : ℕ) → p < 2 → IsChosen l4 [] p (position_in the_line p)
+    by zero lt = inr (omega arith, omega arith, λ failed. omega arith)
+    by (suc zero) lt = inr refl
+    by (suc (suc p)) lt = absurd (omega arith)
+
+same_values_of : (e f : EventTree) → Some e ≡ Some f → e ≡ f
+same_values_of e f is = cc
+
+same_stamp_of : (x y : Stamp) → Some x ≡ Some y → x ≡ y
+same_stamp_of x y is = cc
+
+-- the end of b knows nothing of a behind its checkpoint
+not_beyond : ExceedsOn left (halves 1 0 1) (halves 1 1 0) → ⊥
+not_beyond w = by w.0 w.1 w.2
+  where
+    by : (t : Point) → IsTrue (owns left t) → value_at (halves 1 1 0) t < value_at (halves 1 0 1) t → ⊥
+    by [] owned less = absurd (omega arith)
+    by (false ∷ t) owned less = absurd (omega arith)
+    by (true ∷ t) owned less = absurd (cc)
+
+knows_nothing : KnowsAfter l4 (place 1 positions.Retired) 0 2 → ⊥
+knows_nothing w = by w.later w.from w.is_element
+  where
+    values : halves 1 0 1 ≡ w.beyond.events
+    values = same_values_of (halves 1 0 1) w.beyond.events w.beyond.there
+
+    by : (j : ℕ) → 2 ≤ j → element l4 0 j ≡ Some w.stamp → ⊥
+    by zero from is = absurd (omega arith)
+    by (suc zero) from is = absurd (omega arith)
+    by (suc (suc zero)) from is =
+        not_beyond
+        (subst (λ (x : Stamp). ExceedsOn x.id (halves 1 0 1) x.events) (sym (same_stamp_of (record { id = left; events = halves 1 1 0 }) w.stamp is))
+        (subst (λ (e : EventTree). ExceedsOn w.stamp.id e w.stamp.events) (sym values) w.beyond.exceeds))
+    by (suc (suc (suc j))) from is = absurd (cc)
+
+line_is_greatest : IsGreatestCut l4 [] the_line
+line_is_greatest = record {
+  is_one = record { is_cut = line_is_cut; consistent = λ p q lt lt' knows. none p q lt lt' knows };
+  greatest = λ d one p lt. up (position_in d p) p lt (one.is_cut.chosen p lt);
+}
+  where
+    none : (p q : ℕ) → p < 2 → q < 2 → ¬ Knows l4 (record { process = p; position = position_in the_line p }) q (position_in the_line q)
+    none zero zero lt lt' knows = knows.0 refl
+    none zero (suc zero) lt lt' knows = knows
+    none (suc zero) zero lt lt' knows = knows_nothing knows.1
+    none (suc zero) (suc zero) lt lt' knows = knows
+    none (suc (suc p)) q lt lt' knows = absurd (omega arith)
+    none zero (suc (suc q)) lt lt' knows = absurd (omega arith)
+    none (suc zero) (suc (suc q)) lt lt' knows = absurd (omega arith)
+
+    up : (k : Position) (p : ℕ) → p < 2 → IsChosen l4 [] p k → rank l4 p k ≤ rank l4 p (position_in the_line p)
+    up k zero lt (inl unborn) = (let same : rank l4 0 k ≡ 0 = ap (rank l4 0) unborn in omega arith)
+    up (positions.At k) zero lt (inr w) = (let few : k ≤ 2 = w.1 in omega arith)
+    up positions.Retired zero lt (inr w) = absurd (cc)
+    up k (suc zero) lt (inl unborn) = (let same : rank l4 1 k ≡ 0 = ap (rank l4 1) unborn in omega arith)
+    up (positions.At k) (suc zero) lt (inr w) = (let few : k ≤ 1 = w.1 in omega arith)
+    up positions.Retired (suc zero) lt (inr w) = omega arith
+    up k (suc (suc p)) lt chosen = absurd (omega arith)
+
+-- ---- the history, of which all is kept
+
+abbrev fork_step : Step
+fork_step = act a (deeds.Fork b right) left (Leaf 1)
+
+abbrev check_step : Step
+check_step = act a deeds.Check left (halves 1 1 0)
+
+abbrev retire_step : Step
+retire_step = act b (deeds.Retire a) right (halves 1 0 1)
+
+abbrev whole : History
+whole = retire_step ∷ check_step ∷ fork_step ∷ []
+
+abbrev checkpoint : Event
+checkpoint = event_of (fork_step ∷ []) check_step
+
+abbrev ending : Event
+ending = event_of (check_step ∷ fork_step ∷ []) retire_step
+
+whole_is_lawful : IsLawful a whole
+unfolding status
+whole_is_lawful =
+    next
+    (next
+    (next start (root_holds a)
+    (record {
+      grown = grown_of One (Leaf 0) (Leaf 1) on_one one_some tt forks_b.step;
+      new_name = refl;
+      not_root = above 98 97 (omega arith);
+      disjoint = apart;
+      not_empty = some_left;
+      child_not_empty = some_right;
+      together = both;
+    })) refl (record { same_id = λ t. refl; grown = grown_of left (Leaf 1) (halves 1 1 0) on_left left_some tt work_step })) refl
+    (record { same_id = λ t. refl; grown = grown_of right (Leaf 1) (halves 1 0 1) on_right right_some tt end_step }, below 97 98 (omega arith))
+
+-- all events of b, and those of a up to its checkpoint
+abbrev all_of_both : Cut
+all_of_both e = bytes_eq e.process b || (bytes_eq e.process a && nat_le e.number 2)
+
+either_true : (x y : Bool) → (x || y) ≡ true → (x ≡ true) ⊎ (y ≡ true)
+either_true true y is = inl refl
+either_true false y is = inr is
+
+both_true : (x y : Bool) → (x && y) ≡ true → (x ≡ true) × (y ≡ true)
+both_true true y is = (refl, is)
+both_true false y is = absurd (cc)
+
+one_true : (x y : Bool) → x ≡ true → (x || y) ≡ true
+one_true x y is = ap (λ (z : Bool). z || y) is
+
+other_true : (x y : Bool) → y ≡ true → (x || y) ≡ true
+other_true true y is = refl
+other_true false y is = is
+
+two_true : (x y : Bool) → x ≡ true → y ≡ true → (x && y) ≡ true
+two_true x y first second = ap (λ (z : Bool). z && y) first ∙ second
+
+checkpoint_at : IsEventAt a whole l4 (place 0 (positions.At 2)) checkpoint
+checkpoint_at = record { occurs = earlier step; of_process = refl; values = refl }
+
+in_line : (e : Event) → all_of_both e ≡ true → IsInCut a whole l4 the_line e
+in_line e is =
+    elim (either_true (bytes_eq e.process b) (bytes_eq e.process a && nat_le e.number 2) is) [
+      | inl of_b ↦ record { process = 1; is_known = omega arith; of_process = ap (λ (p : Name). Some p) (sym (bytes_are e.process b of_b)); up_to = tt }
+      | inr of_a ↦
+          (let w = both_true (bytes_eq e.process a) (nat_le e.number 2) of_a in
+          record {
+            process = 0;
+            is_known = omega arith;
+            of_process = ap (λ (p : Name). Some p) (sym (bytes_are e.process a w.0));
+            up_to = (checkpoint, checkpoint_at, within e.number 2 w.1);
+          })
+    ]
+
+same_name : (p q : Name) → Some p ≡ Some q → p ≡ q
+same_name p q is = cc
+
+in_cut : (e : Event) (i : ℕ) → name_of l4 i ≡ Some e.process → IsUpTo a whole l4 i (position_in the_line i) e → all_of_both e ≡ true
+in_cut e zero is up =
+    let one : up.0 ≡ checkpoint = one_event a whole l4 whole_is_lawful (place 0 (positions.At 2)) up.0 checkpoint up.1 checkpoint_at in
+    let number : up.0.number ≡ 2 = ap (λ (x : Event). x.number) one in
+    let few : e.number ≤ up.0.number = up.2 in
+    other_true (bytes_eq e.process b) (bytes_eq e.process a && nat_le e.number 2)
+    (two_true (bytes_eq e.process a) (nat_le e.number 2) (bytes_same e.process a (sym (same_name a e.process is))) (is_within e.number 2 (omega arith)))
+in_cut e (suc zero) is up = one_true (bytes_eq e.process b) (bytes_eq e.process a && nat_le e.number 2) (bytes_same e.process b (sym (same_name b e.process is)))
+in_cut e (suc (suc i)) is up = absurd (cc)
+
+whole_has_events : HasEventsOf a whole l4 the_line all_of_both
+whole_has_events e = (in_line e, λ w. in_cut e w.process w.of_process w.up_to)
+
+-- ---- the run
+
+abbrev run1 : Run
+run1 = Accepts 0 (Begin a) ∷ []
+
+abbrev run2 : Run
+run2 = Made 0 fork_step ∷ run1
+
+abbrev run3 : Run
+run3 = Accepts 0 (Numbered fork_report) ∷ run2
+
+abbrev run4 : Run
+run4 = Made 0 check_step ∷ run3
+
+abbrev run5 : Run
+run5 = Accepts 0 (Numbered check_report) ∷ run4
+
+abbrev run6 : Run
+run6 = Made 0 retire_step ∷ run5
+
+abbrev run7 : Run
+run7 = Accepts 0 (Numbered end_report) ∷ run6
+
+abbrev run8 : Run
+run8 = Settles [] the_line all_of_both ∷ run7
+
+history_7 : current run7 ≡ whole
+unfolding epoch current
+history_7 = refl
+
+list_7 : accepted run7 ≡ l4
+unfolding accepted
+list_7 = refl
+
+history_8 : current run8 ≡ whole
+unfolding epoch current kept_of
+history_8 = refl
+
+epoch_8 : epoch run8 ≡ 1
+unfolding epoch
+epoch_8 = refl
+
+settles_7 : IsSettledBy a run7 [] run8
+settles_7 = record {
+  failed = [];
+  just_named = subst (λ (l : List Report). IsFailedSet l [] []) (sym list_7) failed_set;
+  line = the_line;
+  greatest = subst (λ (l : List Report). IsGreatestCut l [] the_line) (sym list_7) line_is_greatest;
+  cut = all_of_both;
+  events =
+      subst (λ (h : History). HasEventsOf a h (accepted run7) the_line all_of_both) (sym history_7)
+      (subst (λ (l : List Report). HasEventsOf a whole l the_line all_of_both) (sym list_7) whole_has_events);
+  settles = refl;
+}
+
+-- ---- the turns: the tests let each report pass
+
+room : (held : Held) (r : Report) → held.front < report_limit → length (known held.accepted) < process_limit → FitsOrNot held r (Accepted (held.front + 1))
+room held r few less = inr (λ full. omega arith, inr (λ full. (let over = full.1 in omega arith), refl))
+
+stamp_passes : (held : Held) (r : NumberedReport) (answer : Reply) → IsFitReport held.accepted r → IsActionReply held r r.action answer → IsStampReply held r r.action answer
+stamp_passes held r answer fit later = inr (λ other. other fit.id, inr (λ low. low fit.grown, later))
+
+report_passes : (held : Held) (mark : ℕ) (r : NumberedReport) (answer : Reply) → IsFitReport held.accepted r → mark ≡ held.epoch → ¬ IsRepeated held mark r
+    → IsWaitingReply held r r.action answer → IsReportReply held mark (Numbered r) answer
+report_passes held mark r answer fit same fresh later =
+    inr (fit.begun, inr (λ unknown. unknown fit.is_known, inr (fresh, inr (λ other. other same, standing))))
+  where
+    standing : IsStandingReply (target_of r.process held.accepted) held r answer
+    standing = subst (λ o. IsStandingReply o held r answer) (sym fit.living) (inr (λ other. other fit.number, later))
+
+number_same : (x y : NumberedReport) → Some (Numbered x) ≡ Some (Numbered y) → x.number ≡ y.number
+number_same x y is = cc
+
+abbrev h0 : Held
+h0 = counting []
+
+abbrev h1 : Held
+h1 = with_report h0 (record { epoch = 0; report = Begin a })
+
+abbrev h2 : Held
+h2 = with_report h1 (record { epoch = 0; report = Numbered fork_report })
+
+abbrev h3 : Held
+h3 = with_report h2 (record { epoch = 0; report = Numbered check_report })
+
+abbrev h4 : Held
+h4 = with_report h3 (record { epoch = 0; report = Numbered end_report })
+
+abbrev h5 : Held
+h5 = with_settlement (kept_at h4 the_line)
+
+abbrev h6 : Held
+h6 = with_report h5 (record { epoch = 1; report = Numbered absorb_report })
+
+begins_turn : IsTurn h0 (marked 0 (Begin a)) (Accepted 1) h1
+begins_turn = (fine, (inr (λ other. other refl, room h0 (Begin a) (omega arith) (omega arith)), refl))
+
+fork_turn : IsTurn h1 (marked 0 (Numbered fork_report)) (Accepted 2) h2
+fork_turn = (
+  fine,
+  (
+    report_passes h1 0 fork_report (Accepted 2) fork_fit refl (λ again. let e = again.0 in cc) (stamp_passes h1 fork_report (Accepted 2) fork_fit
+        (inr (fork_fit.fit.0, inr (λ other. other fork_fit.fit.1, room h1 (Numbered fork_report) (omega arith) (omega arith))))),
+    refl,
+  ),
+)
+
+check_turn : IsTurn h2 (marked 0 (Numbered check_report)) (Accepted 3) h3
+check_turn = (
+  fine,
+  (
+    report_passes h2 0 check_report (Accepted 3) check_fit refl (λ again. let e = number_same fork_report check_report again.0 in absurd (omega arith))
+        (stamp_passes h2 check_report (Accepted 3) check_fit (room h2 (Numbered check_report) (omega arith) (omega arith))),
+    refl,
+  ),
+)
+
+end_turn : IsTurn h3 (marked 0 (Numbered end_report)) (Accepted 4) h4
+end_turn = (
+  fine,
+  (
+    report_passes h3 0 end_report (Accepted 4) end_fit refl (λ again. let e = again.0 in cc) (stamp_passes h3 end_report (Accepted 4) end_fit
+        (inr (λ bad. elim bad [ inl same ↦ below 97 98 (omega arith) same | inr unknown ↦ unknown (0, omega arith, refl) ], room h3 (Numbered end_report) (omega arith) (omega arith)))),
+    refl,
+  ),
+)
+
+reached_5 : IsReached h5
+reached_5 = record { folded = folded_4; marked = refl; past = All-from_recursion (λ (e : ℕ). e ≤ 1) (0 ∷ 0 ∷ 0 ∷ 0 ∷ []) (omega arith, (omega arith, (omega arith, (omega arith, tt)))); counted = omega arith }
+
+returned_5 : IsSettled h4 [] h5
+returned_5 = ([], failed_set, record { line = the_line; greatest = line_is_greatest; is_kept = refl; reached = reached_5 })
+
+settle_turn : IsTurn h4 (calls.Settle 4 []) (Settled 1 5) h5
+settle_turn = (fine, (inr (filled _ _, inr (failed_set.all_known, inr (λ other. other refl, inr (λ full. omega arith, refl)))), returned_5))
+
+absorb_turn : IsTurn h5 (marked 1 (Numbered absorb_report)) (Accepted 6) h6
+absorb_turn = (
+  fine,
+  (
+    report_passes h5 1 absorb_report (Accepted 6) absorb_fit refl (λ again. let e = number_same check_report absorb_report again.0 in absurd (omega arith))
+        (inr (λ other. other absorb_fit.fit.0, stamp_passes h5 absorb_report (Accepted 6) absorb_fit (inr (λ other. other end_below, room h5 (Numbered absorb_report) (omega arith) (omega arith))))),
+    refl,
+  ),
+)
+
+-- ---- the calls
+
+abbrev fork : Doing
+fork = made (Fork start_of_b (line_of 0 (told a 1 One (Leaf 1) (forked b)))) a0 a1
+
+abbrev check : Doing
+check = made (Check (line_of 0 (told a 2 left (halves 1 1 0) reported.Check))) a1 e2
+
+abbrev begin : Doing
+begin = made (Begins 0 start_of_b) b0 b0
+
+abbrev retire : Doing
+retire = made (Retire a early_end_of_b (line_of 0 (told b 1 right (halves 1 0 1) (reported.Retire a)))) b0 f1
+
+abbrev goes_back : Doing
+goes_back = made (Return 1) e2 e3
+
+abbrev absorb : Doing
+absorb = made (Absorb 3 early_end_of_b (line_of 1 (told a 3 One (halves 2 1 0) (reported.Absorb b)))) e3 e4
+
+abbrev q1 : Past
+q1 = fork ∷ []
+
+abbrev q2 : Past
+q2 = check ∷ q1
+
+abbrev q3 : Past
+q3 = begin ∷ q2
+
+abbrev q4 : Past
+q4 = retire ∷ q3
+
+abbrev q5 : Past
+q5 = goes_back ∷ q4
+
+abbrev q6 : Past
+q6 = absorb ∷ q5
+
+from0 : newest a [] a ≡ Some a0
+unfolding newest
+from0 = refl
+
+from1 : newest a q1 a ≡ Some a1
+unfolding newest
+from1 = refl
+
+from3 : newest a q3 b ≡ Some b0
+unfolding newest
+from3 = refl
+
+from5 : newest a q5 a ≡ Some e3
+unfolding newest
+from5 = refl
+
+unbegun_2 : IsUnbegun q2 0
+unbegun_2 = unbegun q2 0 (λ s is. cc, (λ s is. cc, tt))
+
+lives_8 : status a whole a ≡ Living checkpoint
+unfolding status
+lives_8 = refl
+
+waits_8 : status a whole b ≡ Retired ending a
+unfolding status
+waits_8 = refl
+
+position_8 : IsAtPosition a run8 e2
+position_8 = record {
+  event = checkpoint;
+  newest_event = subst (λ (h : History). IsNewest a h a checkpoint) (sym history_8) (living_is_newest whole_is_lawful a checkpoint lives_8);
+  stamp = refl;
+  reports = ap (λ (h : History). reporting_steps a h) (sym history_8);
+}
+
+once_4 : WasOnce a q4 e2
+once_4 = inr (check, later_in retire check q3 (later_in begin check q2 (first_in check q1)), refl)
+
+within_8 : 1 ≤ epoch run8
+within_8 = (let same = epoch_8 in omega arith)
+
+-- who retired did so in the epoch before
+same_end : (t u : Name) (r q : Retirement) (l m : List ℕ) → Retire t r l ≡ Retire u q m → r ≡ q
+same_end t u r q l m is = cc
+
+retired_before : (d : Doing) (target : Name) (other : Retirement) (line : List ℕ) → Contains q5 d → d.act ≡ Retire target other line → other.epoch ≡ 0
+retired_before d target other line at =
+    each_is (λ act. (t : Name) (r : Retirement) (l : List ℕ) → act ≡ Retire t r l → r.epoch ≡ 0) q5 (
+      λ t r l is. absurd (cc),
+      (
+        λ t r l is. ap (λ (q : Retirement). q.epoch) (sym (same_end a t early_end_of_b r (line_of 0 (told b 1 right (halves 1 0 1) (reported.Retire a))) l is)),
+        (λ t r l is. absurd (cc), (λ t r l is. absurd (cc), (λ t r l is. absurd (cc), tt))),
+      ),
+    ) d at target other line
+
+kept_8 : IsKept a run8 q5 early_end_of_b
+kept_8 = record {
+  event = ending;
+  waits = subst (λ (h : History). IsWaiting a h b a ending) (sym history_8) (waiting whole_is_lawful b a ending waits_8);
+  stamp = refl;
+  not_anew = λ d target other line at is same now. (let before = retired_before d target other line at is in let present = epoch_8 in omega arith);
+}
+
+-- ---- all of it, from the last call back
+
+abbrev absorb_report_left : Account
+absorb_report_left = drop 11 kept
+
+abbrev return_left : Account
+return_left = drop 9 kept
+
+abbrev settlement_left : Account
+settlement_left = drop 8 kept
+
+abbrev begin_left : Account
+begin_left = drop 5 kept
+
+abbrev check_left : Account
+check_left = drop 3 kept
+
+abbrev fork_left : Account
+fork_left = drop 1 kept
+
+absorb_report_rest : (run : Run) → AreHandedOver a run q6 absorb_report_left
+absorb_report_rest run =
+    told_on run q6 (record { epoch = 1; report = Numbered absorb_report }) 6 []
+    (inr (absorb, line_of 1 (told a 3 One (halves 2 1 0) (reported.Absorb b)), first_in absorb q5, refl, absorbs_b.reported)) tt
+
+return_rest : AreHandedOver a run8 q4 return_left
+return_rest = (
+  record { later = omega arith; new_is = refl },
+  (once_4, within_8, λ now. position_8),
+  (
+    absorbs_b,
+    (
+      from5,
+      (retire, a, line_of 0 (told b 1 right (halves 1 0 1) (reported.Retire a)), record { later = goes_back ∷ []; earlier = q3; past_is = refl; number = refl }, refl),
+      inr (λ now. kept_8),
+    ),
+    absorb_report_rest _,
+  ),
+)
+
+settlement_rest : AreHandedOver a run7 q4 settlement_left
+settlement_rest = (tt, λ between adds. subst (λ (r : Run). AreHandedOver a r q4 return_left) (one_settlement a run7 [] run8 between settles_7 adds) return_rest)
+
+begin_rest : AreHandedOver a run5 q2 begin_left
+begin_rest = (
+  refl,
+  ((fork, line_of 0 (told a 1 One (Leaf 1) (forked b)), record { later = check ∷ []; earlier = []; past_is = refl; number = refl }, refl), unbegun_2),
+  (
+    (retires_b, refl),
+    from3,
+    told_on run6 q4 (record { epoch = 0; report = Numbered end_report }) 4 settlement_left
+        (inr (retire, line_of 0 (told b 1 right (halves 1 0 1) (reported.Retire a)), first_in retire q3, refl, retires_b.reported)) settlement_rest,
+  ),
+)
+
+check_rest : AreHandedOver a run3 q1 check_left
+check_rest = (
+  checks_a,
+  from1,
+  told_on run4 q2 (record { epoch = 0; report = Numbered check_report }) 3 begin_left
+      (inr (check, line_of 0 (told a 2 left (halves 1 1 0) reported.Check), first_in check q1, refl, checks_a.reported)) begin_rest,
+)
+
+fork_rest : AreHandedOver a run1 [] fork_left
+fork_rest = (
+  forks_b,
+  (from0, b_is_new),
+  told_on run2 q1 (record { epoch = 0; report = Numbered fork_report }) 2 check_left
+      (inr (fork, line_of 0 (told a 1 One (Leaf 1) (forked b)), first_in fork [], refl, forks_b.reported)) check_rest,
+)
+
+pub a_kept_retirement_is_possible : AKeptRetirementIsPossible
+a_kept_retirement_is_possible = (
+  (h1, begins_turn, (h2, fork_turn, (h3, check_turn, (h4, end_turn, (h5, settle_turn, (h6, absorb_turn, refl)))))),
+  told_on [] [] (record { epoch = 0; report = Begin a }) 1 fork_left (inl refl) fork_rest,
+)

@@ -1,0 +1,5 @@
+pub mod Absorbing
+pub mod Widths
+pub mod Counting
+pub mod Sequences
+pub mod Listed

@@ -3,3 +3,4 @@ pub mod Widths
 pub mod Counting
 pub mod Sequences
 pub mod Listed
+pub mod Unescaped

@@ -8,6 +8,7 @@ mod columns;
 mod depth;
 mod gathering;
 mod json;
+mod laws;
 mod lines;
 mod pushing;
 mod showing;
@@ -15,6 +16,7 @@ mod shown;
 mod table;
 
 pub use gathering::{shown_file, shown_processes};
+pub use laws::names_need_no_escapes;
 pub use lines::to_lines;
 pub use showing::{to_json, to_table};
 pub use shown::{ShownFile, ShownProcess, ShownState};

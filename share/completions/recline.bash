@@ -9,6 +9,7 @@ _recline_take() {
     check) options=(--at -h --help) arguments=(path path) ;;
     line) options=(--at -h --help) arguments=(path nothing) ;;
     garbage) options=(--at -h --help) arguments=(path) ;;
+    show) options=(--at --reports --json -h --help) arguments=(path) ;;
     explain) options=(-h --help) arguments=(nothing) ;;
     drive) options=(-h --help) arguments=(path) ;;
     draw) options=(--failed -h --help) arguments=(path) ;;
@@ -76,7 +77,7 @@ _recline() {
     elif [[ "$place" = word && -z "$ended" && ("$word" = -* || ${#arguments[@]} = 0) ]]; then
         _recline_options
     elif [[ "$place" = word && "${arguments[0]:-}" = command ]]; then
-        mapfile -t COMPREPLY < <(compgen -W "run serve check line garbage explain drive draw help" -- "$word")
+        mapfile -t COMPREPLY < <(compgen -W "run serve check line garbage show explain drive draw help" -- "$word")
     elif [[ "$place" = file || "${arguments[0]:-}" = path ]]; then
         # Where this finds nothing bash completes the path by itself.
         compopt -o filenames -o default 2>/dev/null

@@ -46,6 +46,7 @@ complete -c recline -n '__recline_stands "" 0' -a serve -d 'Answers the lines of
 complete -c recline -n '__recline_stands "" 0' -a check -d 'Checks a certificate over the accepted reports, and prints YES or NO with the cause'
 complete -c recline -n '__recline_stands "" 0' -a line -d 'Prints on standard output what \'LINE NAMES\' is answered over the records'
 complete -c recline -n '__recline_stands "" 0' -a garbage -d 'Prints on standard output what \'GARBAGE\' is answered over the records'
+complete -c recline -n '__recline_stands "" 0' -a show -d 'Tells on standard output what a record file has'
 complete -c recline -n '__recline_stands "" 0' -a explain -d 'Says on standard output which call a line is, or why it is none'
 complete -c recline -n '__recline_stands "" 0' -a drive -d 'Stamps the steps of a script and prints the lines that report them'
 complete -c recline -n '__recline_stands "" 0' -a draw -d 'Draws the history of a script with its recovery line as SVG'
@@ -70,6 +71,11 @@ complete -c recline -n '__recline_stands "line" 0' -F
 complete -c recline -n '__recline_takes "garbage" --at' -l at -x -d 'How many of the first records count, 0 to 16384; without it all'
 complete -c recline -n '__recline_takes "garbage" -h --help' -s h -l help -d 'Print help'
 complete -c recline -n '__recline_stands "garbage" 0' -F
+complete -c recline -n '__recline_takes "show" --at' -l at -x -d 'How many of the first records count, 0 to 16384; without it all'
+complete -c recline -n '__recline_takes "show" --reports' -l reports -d 'Tells each accepted report, too'
+complete -c recline -n '__recline_takes "show" --json' -l json -d 'Writes JSON'
+complete -c recline -n '__recline_takes "show" -h --help' -s h -l help -d 'Print help'
+complete -c recline -n '__recline_stands "show" 0' -F
 complete -c recline -n '__recline_takes "explain" -h --help' -s h -l help -d 'Print help'
 complete -c recline -n '__recline_takes "drive" -h --help' -s h -l help -d 'Print help'
 complete -c recline -n '__recline_stands "drive" 0' -F
@@ -81,6 +87,7 @@ complete -c recline -n '__recline_stands "help" 0' -a serve -d 'Answers the line
 complete -c recline -n '__recline_stands "help" 0' -a check -d 'Checks a certificate over the accepted reports, and prints YES or NO with the cause'
 complete -c recline -n '__recline_stands "help" 0' -a line -d 'Prints on standard output what \'LINE NAMES\' is answered over the records'
 complete -c recline -n '__recline_stands "help" 0' -a garbage -d 'Prints on standard output what \'GARBAGE\' is answered over the records'
+complete -c recline -n '__recline_stands "help" 0' -a show -d 'Tells on standard output what a record file has'
 complete -c recline -n '__recline_stands "help" 0' -a explain -d 'Says on standard output which call a line is, or why it is none'
 complete -c recline -n '__recline_stands "help" 0' -a drive -d 'Stamps the steps of a script and prints the lines that report them'
 complete -c recline -n '__recline_stands "help" 0' -a draw -d 'Draws the history of a script with its recovery line as SVG'

@@ -8,6 +8,7 @@ use Rattle.std.specs.Str.Parse.{digits_value, without_leading_plus}
 use Rattle.clap.specs.Words.{App, IsUnsignedIn, Kinds, Row, Rule, Text, fault_of, first_of, new_app, new_rule, subcommand_of, with_rule, with_subcommand}
 use Rattle.clap.specs.Kinds.{or_else}
 use Rattle.clap.specs.ValueTests.{is_unsigned_in}
+use Rattle.clap.specs.declared.builder.action.ArgAction.TheVariants.{SetTrue}
 use Rattle.clap.specs.declared.error.kind.ErrorKind.TheVariants as kinds
 use Rattle.clap.specs.Simple.{on_top}
 use Rattle.command_line.specs.declared.args.Command.{Command}
@@ -24,6 +25,10 @@ option_rule key = record (new_rule key) { long = Some key; value_names = 1 }
 -- the same, where it is wanted
 abbrev pub wanted_option : Text → Rule
 wanted_option key = record (new_rule key) { long = Some key; value_names = 1; required = true }
+
+-- a flag of this name, which takes no value
+abbrev pub flag_rule : Text → Rule
+flag_rule key = record (new_rule key) { long = Some key; action = Some SetTrue }
 
 -- how many of the first records count
 abbrev pub front_rule : Rule
@@ -58,6 +63,10 @@ line = command_with (codes "line") (wanted_rule (codes "FILE") ∷ wanted_rule (
 abbrev pub garbage : App
 garbage = command_with (codes "garbage") (wanted_rule (codes "FILE") ∷ front_rule ∷ [])
 
+-- the command `show`, which takes the path of a record file, and may be given a front and two flags
+abbrev pub show : App
+show = command_with (codes "show") (wanted_rule (codes "FILE") ∷ front_rule ∷ flag_rule (codes "reports") ∷ flag_rule (codes "json") ∷ [])
+
 -- the command `explain`, which may be given a line
 abbrev pub explain : App
 explain = command_with (codes "explain") (new_rule (codes "LINE") ∷ [])
@@ -80,7 +89,7 @@ with_commands above more = fold (λ a c. with_subcommand a c.top) above more
 
 -- the commands, as the help has them
 abbrev pub each_command : List App
-each_command = run ∷ serve ∷ check ∷ line ∷ garbage ∷ explain ∷ drive ∷ draw ∷ []
+each_command = run ∷ serve ∷ check ∷ line ∷ garbage ∷ show ∷ explain ∷ drive ∷ draw ∷ []
 
 -- the program with its commands
 abbrev pub program : App
@@ -106,7 +115,7 @@ has_numbers_of_serve rows =
 
 -- the commands that may be asked over the first records alone
 abbrev pub takes_front : Text → Bool
-takes_front name = list_any (bytes_eq name) (codes "check" ∷ codes "line" ∷ codes "garbage" ∷ [])
+takes_front name = list_any (bytes_eq name) (codes "check" ∷ codes "line" ∷ codes "garbage" ∷ codes "show" ∷ [])
 
 -- how many records that is lies within its limits, if it is given
 abbrev pub has_front : List Row → Bool
@@ -143,6 +152,10 @@ MayBeNumber least most None value = value ≡ None
 abbrev pub IsFront : List Row → Option ℕ → Type 0
 IsFront rows at = MayBeNumber 0 16384 at (first_of (codes "at") rows)
 
+-- a flag that is given has the value `true`
+abbrev pub is_set : Option Text → Bool
+is_set value = option_map_or (λ text. bytes_eq text (codes "true")) value false
+
 -- the name of a command
 abbrev pub name_of : Command → Text
 name_of (commands.Run file) = codes "run"
@@ -150,6 +163,7 @@ name_of (commands.Serve file port sessions workers idle) = codes "serve"
 name_of (commands.Check file certificate at) = codes "check"
 name_of (commands.Line file failed at) = codes "line"
 name_of (commands.Garbage file at) = codes "garbage"
+name_of (commands.Show file at reports json) = codes "show"
 name_of (commands.Explain given) = codes "explain"
 name_of (commands.Drive script) = codes "drive"
 name_of (commands.Draw script failed) = codes "draw"
@@ -165,6 +179,8 @@ HasValues rows (commands.Check file certificate at) =
 HasValues rows (commands.Line file failed at) =
     (first_of (codes "FILE") rows ≡ Some file.now) × (first_of (codes "NAMES") rows ≡ Some failed.now) × IsFront rows at
 HasValues rows (commands.Garbage file at) = (first_of (codes "FILE") rows ≡ Some file.now) × IsFront rows at
+HasValues rows (commands.Show file at reports json) =
+    (first_of (codes "FILE") rows ≡ Some file.now) × IsFront rows at × (is_set (first_of (codes "reports") rows) ≡ reports) × (is_set (first_of (codes "json") rows) ≡ json)
 HasValues rows (commands.Explain given) = first_of (codes "LINE") rows ≡ option_map (λ s. s.now) given
 HasValues rows (commands.Drive script) = first_of (codes "SCRIPT") rows ≡ Some script.now
 HasValues rows (commands.Draw script failed) =

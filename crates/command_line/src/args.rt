@@ -3,11 +3,11 @@
 ghost use Rattle.std.specs.Prelude.{◌≡◌, ◌≤◌, [], ◌∷◌, IfNone, IfOk, IfSome, Some, codes, false, is_some, map, option_map, true};
 ghost use Rattle.clap.specs.Words.{FailsBy, HasKind, IsUnsignedIn, app_of, first_of, new_rule, rule_of};
 ghost use Rattle.clap.specs.declared.error.kind.ErrorKind.TheVariants as kinds;
-ghost use Rattle.command_line.specs.Arguments.{AsksFor, IsFront, IsNumber, MayBeNumber, alone, check, draw, drive, explain, front_rule, garbage, has_front, has_number, line, may_have_number, option_rule, program, refusals, run, serve, serve_wants, wanted_option, wanted_rule};
+ghost use Rattle.command_line.specs.Arguments.{AsksFor, IsFront, IsNumber, MayBeNumber, alone, check, draw, drive, explain, flag_rule, front_rule, garbage, has_front, has_number, is_set, line, may_have_number, option_rule, program, refusals, run, serve, serve_wants, show, wanted_option, wanted_rule};
 ghost use Rattle.command_line.specs.Parts.{HasWanted, IsAnswer, IsLocal, is_command, values_of};
 
 use clap::error::ErrorKind;
-use clap::{Arg, ArgMatches, Command as Program, Error};
+use clap::{Arg, ArgAction, ArgMatches, Command as Program, Error};
 use std::alloc::{AllocError, Global};
 use std::convert::AsStr;
 
@@ -43,6 +43,13 @@ pub enum Command<'a> {
     Garbage {
         file: &'a str,
         at: Option<u32>,
+    },
+    /// Tells what the record file of this path has, or so many of its first records: each report, too, and as JSON, where that is asked for.
+    Show {
+        file: &'a str,
+        at: Option<u32>,
+        reports: bool,
+        json: bool,
     },
     /// Says of this line, or of each line of standard input, which call it is, or why it is none.
     Explain {
@@ -98,6 +105,17 @@ fn wanted_argument<'a>(alloc: Global, name: &'a str, value: &'a str, help: &'a s
         .help(help)
 }
 
+/// A flag.
+fn flag_argument<'a>(alloc: Global, name: &'a str, help: &'a str) -> Arg<'a>
+    ensures rule { rule_of result ≡ flag_rule name.now }
+    ensures local { result.global ≡ false }
+{
+    Arg::new(alloc, name)
+        .long(name)
+        .action(ArgAction::SetTrue)
+        .help(help)
+}
+
 /// The argument that is the path of a script.
 fn script_argument<'a>(alloc: Global) -> Arg<'a>
     ensures rule { rule_of result ≡ wanted_rule (codes "SCRIPT") }
@@ -122,6 +140,9 @@ fn run_command<'a>(alloc: Global) -> Result<Program<'a>, AllocError>
     );
     Program::new(alloc, "run")
         .about("Answers each line of standard input on standard output")
+        .after_help(
+            "Status: 0 the input ended; 2 wrong words; 3 a file, a stream or memory failed; 5 too many lines",
+        )
         .arg(file)
 }
 
@@ -155,6 +176,9 @@ fn serve_wanted<'a>(alloc: Global) -> Result<Program<'a>, AllocError>
     );
     Program::new(alloc, "serve")
         .about("Answers the lines of clients that connect, and ends after the last session")
+        .after_help(
+            "Status: 0 all sessions ended; 2 wrong words; 3 a file, the port, a stream or memory failed",
+        )
         .arg(file)?
         .arg(port)?
         .arg(sessions)?
@@ -203,10 +227,17 @@ fn check_command<'a>(alloc: Global) -> Result<Program<'a>, AllocError>
         .about(
             "Checks a certificate over the accepted reports, and prints YES or NO with the cause",
         )
+        .after_help(
+            "Status: 0 YES; 2 no certificate, or wrong words; 3 a file, a stream or memory failed; 4 NO",
+        )
         .arg(file)?
         .arg(certificate)?
         .arg(front_argument(alloc))
 }
+
+/// The statuses of a command that asks one question.
+const QUESTION_STATUSES: &str =
+    "Status: 0 answered; 2 wrong words; 3 a file, a stream or memory failed";
 
 /// The command `line`.
 fn line_command<'a>(alloc: Global) -> Result<Program<'a>, AllocError>
@@ -221,6 +252,7 @@ fn line_command<'a>(alloc: Global) -> Result<Program<'a>, AllocError>
     );
     Program::new(alloc, "line")
         .about("Prints on standard output what 'LINE NAMES' is answered over the records")
+        .after_help(QUESTION_STATUSES)
         .arg(file)?
         .arg(names)?
         .arg(front_argument(alloc))
@@ -234,8 +266,26 @@ fn garbage_command<'a>(alloc: Global) -> Result<Program<'a>, AllocError>
     let file = word_argument(alloc, "FILE", "The file that keeps the accepted reports");
     Program::new(alloc, "garbage")
         .about("Prints on standard output what 'GARBAGE' is answered over the records")
+        .after_help(QUESTION_STATUSES)
         .arg(file)?
         .arg(front_argument(alloc))
+}
+
+/// The command `show`.
+fn show_command<'a>(alloc: Global) -> Result<Program<'a>, AllocError>
+    ensures app { IfOk result (λ made. app_of made ≡ show) }
+    ensures local { IfOk result (λ made. IsLocal made) }
+{
+    let file = word_argument(alloc, "FILE", "The file that keeps the accepted reports");
+    let reports = flag_argument(alloc, "reports", "Tells each accepted report, too");
+    let json = flag_argument(alloc, "json", "Writes JSON");
+    Program::new(alloc, "show")
+        .about("Tells on standard output what a record file has")
+        .after_help("Status: 0 all was told; 2 wrong words; 3 a file, a stream or memory failed")
+        .arg(file)?
+        .arg(front_argument(alloc))?
+        .arg(reports)?
+        .arg(json)
 }
 
 /// The command `explain`.
@@ -250,6 +300,9 @@ fn explain_command<'a>(alloc: Global) -> Result<Program<'a>, AllocError>
     );
     Program::new(alloc, "explain")
         .about("Says on standard output which call a line is, or why it is none")
+        .after_help(
+            "Status: 0 each is a call; 2 wrong words; 3 a stream or memory failed; 4 a line is none",
+        )
         .arg(line)
 }
 
@@ -260,6 +313,9 @@ fn drive_command<'a>(alloc: Global) -> Result<Program<'a>, AllocError>
 {
     Program::new(alloc, "drive")
         .about("Stamps the steps of a script and prints the lines that report them")
+        .after_help(
+            "Status: 0 each step was taken; 2 one was refused, or wrong words; 3 a file, a stream or memory failed",
+        )
         .arg(script_argument(alloc))
 }
 
@@ -276,6 +332,9 @@ fn draw_command<'a>(alloc: Global) -> Result<Program<'a>, AllocError>
     );
     Program::new(alloc, "draw")
         .about("Draws the history of a script with its recovery line as SVG")
+        .after_help(
+            "Status: 0 all is drawn; 2 a step or a name was refused, or wrong words; 3 a file, a stream or memory failed",
+        )
         .arg(script_argument(alloc))?
         .arg(failed)
 }
@@ -303,6 +362,7 @@ fn command_line<'a>(alloc: Global) -> Result<Program<'a>, AllocError>
         .subcommand(check_command(alloc)?)?
         .subcommand(line_command(alloc)?)?
         .subcommand(garbage_command(alloc)?)?
+        .subcommand(show_command(alloc)?)?
         .subcommand(explain_command(alloc)?)?
         .subcommand(drive_command(alloc)?)?
         .subcommand(draw_command(alloc)?)
@@ -386,6 +446,16 @@ fn number_refused(alloc: Global, limits: &str) -> Error
             }
         }
         Err(error) => Error::from(error),
+    }
+}
+
+/// Whether a flag is given.
+fn flag_in(matches: &ArgMatches<'_>, key: &str) -> bool
+    ensures { is_set (first_of key.now (values_of matches.now)) ≡ result }
+{
+    match value_in(matches, key) {
+        Some(text) => text == "true",
+        None => false,
     }
 }
 
@@ -482,6 +552,25 @@ fn garbage_asked<'a>(alloc: Global, asking: &ArgMatches<'a>) -> Result<Command<'
     Ok(Command::Garbage { file, at })
 }
 
+/// The command `show`, by the values of its arguments.
+fn show_asked<'a>(alloc: Global, showing: &ArgMatches<'a>) -> Result<Command<'a>, Error>
+    requires { is_some (first_of (codes "FILE") (values_of showing.now)) ≡ true }
+    ensures { IsAnswer (codes "show") (values_of showing.now) result }
+{
+    let file = wanted_in(showing, "FILE");
+    let reports = flag_in(showing, "reports");
+    let json = flag_in(showing, "json");
+    let Some(at) = front_in(showing) else {
+        return Err(front_refused(alloc));
+    };
+    Ok(Command::Show {
+        file,
+        at,
+        reports,
+        json,
+    })
+}
+
 /// The command `draw`, by the values of its arguments.
 fn draw_asked<'a>(drawing: &ArgMatches<'a>) -> Result<Command<'a>, Error>
     requires { is_some (first_of (codes "SCRIPT") (values_of drawing.now)) ≡ true }
@@ -517,6 +606,9 @@ fn command_asked<'a>(
     }
     if name == "garbage" {
         return garbage_asked(alloc, matches);
+    }
+    if name == "show" {
+        return show_asked(alloc, matches);
     }
     if name == "explain" {
         let line = value_in(matches, "LINE");

@@ -1,18 +1,22 @@
 //! The command `run`, which is one session with a client over a record file, the command `serve`, which serves many over one, the command
-//! `check`, which checks a certificate over one, the commands `line` and `garbage`, which ask one question over the bytes of one, the commands
-//! `drive` and `draw`, which stamp the steps of a script and draw them, and the command `explain`, which says of lines what they are.
+//! `check`, which checks a certificate over one, the commands `line` and `garbage`, which ask one question over the bytes of one, the command
+//! `show`, which tells what these bytes are, the commands `drive` and `draw`, which stamp the steps of a script and draw them,
+//! and the command `explain`, which says of lines what they are.
 #![tactic(auto)]
 
 mod asked;
 mod asking;
 mod checking;
+mod copied;
 mod drawing;
 mod driving;
 mod earlier;
 mod explaining;
 mod running;
 mod serving;
+mod showing;
 mod telling;
+mod waiting;
 
 pub use asking::{Question, ask_on};
 pub use checking::check_on;
@@ -23,3 +27,4 @@ pub use explaining::explain_on;
 pub use running::{run_handing_on, run_on, run_over};
 pub use serving::{Service, serve_on};
 pub use session::HandOn;
+pub use showing::{Form, show_on};

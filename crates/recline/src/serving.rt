@@ -7,9 +7,10 @@ ghost use Rattle.recline.specs.Driving.{Writes};
 ghost use Rattle.recline.specs.Serving.{AreLimited, AreServed, EndsNot, EndsShort, EndsWith, IsService, IsServed, IsStopped, PrintsPort, ServesOn, Stops, StopsBehind, TellsDropped, WritesPort, dropped_in, drops, end_line, port_line, stop_line, stopped_by};
 
 use crate::telling::{tell, tell_all, tell_unopened, write_pieces};
+use crate::waiting::watch;
 use client_link::{ClientConnection, Link, LinkFault};
 use coordinator::{CloseFault, Coordinator, Ended, OpenGate, Pass, Refused, Unclosed};
-use crossbeam_channel::{Sender, bounded};
+use crossbeam_channel::{Receiver, Sender, bounded};
 use desk::Desk;
 use itoa::Buffer;
 use line_disk::Disk;
@@ -19,6 +20,7 @@ use std::io::{self, ErrorKind};
 use std::marker::Brand;
 use std::net::{OpenListener, TcpStream};
 use std::sync::Wait;
+use std::sync::atomic::{AtomicU64, Ordering};
 use std::sync::ledger::{Blank, Ledger};
 use std::thread::{Threads, scope, scope_env};
 use std::time::{Clock, Duration};
@@ -150,12 +152,13 @@ fn next_client<T: OpenListener<Stream = TcpStream>, R: Wait>(
     Err(Stop::Device)
 }
 
-/// Takes clients, and hands them to the workers, until there were so many. Each client that is taken is a session.
+/// Takes clients, counts them, and hands them to the workers, until there were so many. Each client that is taken is a session.
 fn take_clients<T: OpenListener<Stream = TcpStream>, R: Wait + Clock + Clone + Drop>(
     rt: &R,
     alloc: Global,
     listener: &T,
     service: Service,
+    taken: &AtomicU64,
     links: Sender<ClientConnection<R>>,
 ) -> Result<(), Stop> {
     let idle = match service.idle {
@@ -174,6 +177,7 @@ fn take_clients<T: OpenListener<Stream = TcpStream>, R: Wait + Clock + Clone + D
         let Ok(link) = ClientConnection::of_client(alloc, clock, client, idle) else {
             return Err(Stop::Memory);
         };
+        taken.fetch_add(1, Ordering::SeqCst);
         let Ok(()) = links.send(rt, link) else {
             return Err(Stop::Memory);
         };
@@ -209,12 +213,14 @@ struct Sessions<L: Ledger> {
     stop: Option<Stop>,
 }
 
-/// Serves so many sessions over a coordinator by so many workers, while a thread of its own takes the clients: where there is none, nobody is
-/// served. Answers for each worker its sessions, and why there are no more, if the service stops.
+/// Serves so many sessions over a coordinator by so many workers, while a thread of its own takes the clients, and another one tells of those
+/// that wait for a worker: where there is none of these, nobody is served. Answers for each worker its sessions, and why there are no more, if
+/// the service stops.
 fn serve_sessions<
     L: Ledger + Send + Sync,
     D: Disk + Send + Drop,
     T: OpenListener<Stream = TcpStream> + Sync,
+    W: Link + Send + Drop,
     R: Threads + Wait + Clock + Clone + Drop + Send + Sync,
 >(
     rt: &R,
@@ -222,6 +228,7 @@ fn serve_sessions<
     listener: &T,
     coordinator: &Coordinator<L, D>,
     service: Service,
+    warnings: W,
 ) -> (Vec<Vec<Served<L, ClientConnection<R>>>>, Option<Stop>)
     requires { IsService service }
 {
@@ -231,22 +238,42 @@ fn serve_sessions<
     ) else {
         return (Vec::new(alloc), Some(Stop::Memory));
     };
+    let watched: Result<Receiver<ClientConnection<R>>, AllocError> = clients.clone();
+    let (Ok((goes_on, going)), Ok(watched)) = (bounded::<(), _>(alloc, 1), watched) else {
+        return (Vec::new(alloc), Some(Stop::Memory));
+    };
     let n = service.workers as usize;
+    let counter = AtomicU64::new(0);
+    let taken = &counter;
     scope(
         scope_env(),
         rt,
         move |scope| -> (Vec<Vec<Served<L, ClientConnection<R>>>>, Option<Stop>)
-            requires { IsSync R.row × IsSend L.row × IsSync L.row × IsSend R.row × IsSend D.row × (0 < n) × (n ≤ 64) }
+            requires { IsSync R.row × IsSend L.row × IsSync L.row × IsSend R.row × IsSend D.row × IsSend W.row × (0 < n) × (n ≤ 64) }
         {
+            let watcher = scope.spawn(
+                move ||
+                    requires { IsSync R.row × IsSend R.row × IsSend W.row }
+                {
+                    let mut warnings = warnings;
+                    watch(rt, &going, &watched, taken, &mut warnings)
+                },
+            );
+            let Ok(watcher) = watcher else {
+                return (Vec::new(alloc), Some(Stop::Memory));
+            };
             let taker = scope.spawn(
                 move || -> Result<(), Stop>
                     requires { IsSync R.row × IsSend R.row }
-                { take_clients(rt, alloc, listener, service, links) },
+                { take_clients(rt, alloc, listener, service, taken, links) },
             );
             let Ok(taker) = taker else {
                 return (Vec::new(alloc), Some(Stop::Memory));
             };
             let served = workers(rt, alloc, coordinator, &OpenGate, n, clients);
+            // Behind this no worker takes a client, and while another receiver is there the taker would wait for one.
+            drop(goes_on);
+            watcher.join(rt);
             let taken = taker.join(rt);
             match served {
                 Ok(lists) => (lists, taken.err()),
@@ -319,6 +346,7 @@ fn serve_clients<
     D: Disk + Send + Drop,
     T: OpenListener<Stream = TcpStream> + Sync,
     O: Link,
+    W: Link + Send + Drop,
     R: Threads + Wait + Clock + Clone + Drop + Send + Sync,
 >(
     rt: &R,
@@ -329,6 +357,7 @@ fn serve_clients<
     port: u16,
     service: Service,
     output: &mut O,
+    warnings: W,
 ) -> Result<Sessions<L>, AllocError>
     requires service { IsService service }
     requires none { passes.items ≡ [] }
@@ -343,7 +372,7 @@ fn serve_clients<
             stop: Some(Stop::Device),
         });
     };
-    let (lists, stop) = serve_sessions(rt, alloc, listener, coordinator, service);
+    let (lists, stop) = serve_sessions(rt, alloc, listener, coordinator, service, warnings);
     match passes_of(passes, lists) {
         Ok((passes, dropped)) => Ok(Sessions {
             passes,
@@ -408,6 +437,7 @@ fn serve_over<
     D: Disk + Send + Drop,
     T: OpenListener<Stream = TcpStream> + Sync,
     O: Link,
+    W: Link + Send + Drop,
     R: Threads + Wait + Clock + Clone + Drop + Send + Sync,
 >(
     rt: &R,
@@ -418,6 +448,7 @@ fn serve_over<
     port: u16,
     service: Service,
     output: &mut O,
+    warnings: W,
 ) -> Result<(D, u64), Stopped<D>>
     requires service { IsService service }
     requires none { passes.items ≡ [] }
@@ -433,6 +464,7 @@ fn serve_over<
         port,
         service,
         output,
+        warnings,
     );
     let Ok(sessions) = clients else {
         return Err(Stopped {
@@ -455,6 +487,7 @@ fn serve_desk<
     D: Disk + Send + Drop,
     T: OpenListener<Stream = TcpStream> + Sync,
     O: Link,
+    W: Link + Send + Drop,
     R: Threads + Wait + Clock + Clone + Drop + Send + Sync,
 >(
     rt: &R,
@@ -464,6 +497,7 @@ fn serve_desk<
     desk: Desk<D>,
     service: Service,
     output: &mut O,
+    warnings: W,
 ) -> Result<(D, u64), Stopped<D>>
     requires name { blank.name ≡ L.name }
     requires parts { (blank.parts ≡ L.parts) × (blank.parts ≡ 8193) }
@@ -489,6 +523,7 @@ fn serve_desk<
             address.port(),
             service,
             output,
+            warnings,
         ),
         Err(Refused { blank: _, desk }) => Err(unserved(Stop::Memory, desk)),
     }
@@ -514,13 +549,15 @@ fn tell_dropped<F: Link>(faults: &mut F, dropped: u64)
 
 /// The command `serve`: opens the record file on a disk, tells the port of the listener, serves so many sessions over one desk by
 /// so many workers, of which each computes lines by as many threads at most, holds what the clients were shown against the turns,
-/// and tells how many reports were accepted, and how many clients were dropped for want of memory, if some were. Answers the status of the process, and the disk, which is lost only where memory was
+/// and tells how many reports were accepted, and how many clients were dropped for want of memory, if some were. While clients wait for a
+/// worker for five seconds and more, lines on a link of their own tell how many. Answers the status of the process, and the disk, which is lost only where memory was
 /// wanting at the end, or where what the clients were shown is not what the desk answered.
 pub fn serve_on<
     D: Disk + Send + Drop,
     T: OpenListener<Stream = TcpStream> + Sync,
     O: Link,
     F: Link,
+    W: Link + Send + Drop,
     R: Threads + Wait + Clock + Clone + Drop + Send + Sync,
 >(
     rt: &R,
@@ -530,6 +567,7 @@ pub fn serve_on<
     service: Service,
     output: &mut O,
     faults: &mut F,
+    warnings: W,
 ) -> (u8, Option<D>)
     requires { IsService service }
     ensures { ServesOn D.keeps D.view D.failed O.told F.told service.sessions disk result.1 output.old output.new faults.old faults.new result.0 }
@@ -537,8 +575,8 @@ pub fn serve_on<
     match Desk::open(alloc, disk) {
         Ok(desk) => {
             let blank = Blank::new(8193);
-            match serve_desk::<Brand, _, _, _, _>(
-                rt, alloc, blank, listener, desk, service, output,
+            match serve_desk::<Brand, _, _, _, _, _>(
+                rt, alloc, blank, listener, desk, service, output, warnings,
             ) {
                 Ok((disk, dropped)) => {
                     tell_dropped(faults, dropped);

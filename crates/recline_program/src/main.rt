@@ -9,8 +9,8 @@ use client_link::{Link, Streams};
 use command_line::{Command, read_args};
 use line_disk::{DiskFault, FileDisk, MemoryDisk, Modelled, NullDisk};
 use recline::{
-    HandOn, Question, Service, ask_on, at_front, check_on, draw_on, drive_on, explain_on,
-    run_handing_on, run_on, serve_on,
+    Form, HandOn, Question, Service, ask_on, at_front, check_on, draw_on, drive_on, explain_on,
+    run_handing_on, run_on, serve_on, show_on,
 };
 use record_file::RecordReach;
 use std::env;
@@ -190,6 +190,11 @@ fn serve_over_file<T: Threads + Wait + Clock + Clone + Drop + Send + Sync, O: Li
     faults: &mut F,
 ) -> u8 {
     let (sessions, workers, idle) = numbers;
+    // Lines of clients that wait are told while others may be served, so they take a way of their own.
+    let Ok(errors) = BufWriter::with_capacity(rt.alloc(), 0, rt.stderr()) else {
+        return fault(rt, "memory");
+    };
+    let warnings = Streams::new(io::empty(), errors);
     // Numbers out of their limits are refused with the words.
     let Some(service) = Service::new(sessions, workers, idle) else {
         return 2;
@@ -206,6 +211,7 @@ fn serve_over_file<T: Threads + Wait + Clock + Clone + Drop + Send + Sync, O: Li
                     service,
                     output,
                     faults,
+                    warnings,
                 );
                 status
             }
@@ -313,6 +319,21 @@ fn ask_line<K: Link, F: Link>(
     }
 }
 
+/// Shows what the record file of this path has, or its first records.
+fn show_file<K: Link, F: Link>(
+    rt: &HostRuntime,
+    path: &str,
+    at: Option<u32>,
+    form: Form,
+    client: &mut K,
+    faults: &mut F,
+) -> u8 {
+    match records_of(rt, path, at, faults) {
+        Ok(bytes) => show_on(rt.alloc(), &bytes, form, client, faults),
+        Err(status) => status,
+    }
+}
+
 /// Does the command over this input and standard output, with threads where it serves clients. Fault lines are written through at once.
 fn act<T: Threads + Wait + Clock + Clone + Drop + Send + Sync, R: Read + Drop>(
     rt: &HostRuntime,
@@ -358,6 +379,22 @@ fn act<T: Threads + Wait + Clock + Clone + Drop + Send + Sync, R: Read + Drop>(
         }
         Command::Explain { .. } => (explain_on(rt.alloc(), &mut client, &mut faults), client),
         Command::Drive { .. } => (drive_on(rt.alloc(), &mut client, &mut faults), client),
+        Command::Show {
+            file,
+            at,
+            reports,
+            json,
+        } => (
+            show_file(
+                rt,
+                file,
+                at,
+                Form { reports, json },
+                &mut client,
+                &mut faults,
+            ),
+            client,
+        ),
         Command::Draw { failed, .. } => (
             draw_on(rt.alloc(), &mut client, &mut faults, failed),
             client,
@@ -377,9 +414,10 @@ fn input_of<'a, S: Read + Drop>(
 ) -> Input<'a, S> {
     let path = match command {
         Command::Run { .. } | Command::Explain { line: None } => return Input::Standard(standard),
-        Command::Serve { .. } | Command::Line { .. } | Command::Garbage { .. } => {
-            return Input::Nothing;
-        }
+        Command::Serve { .. }
+        | Command::Line { .. }
+        | Command::Garbage { .. }
+        | Command::Show { .. } => return Input::Nothing,
         Command::Explain { line: Some(line) } => {
             return Input::Line(line.as_bytes().chain(b"\n".as_slice()));
         }

@@ -9,6 +9,7 @@ returns c =
     let checks = joined c.in_ok-subcommand-3.ensures c.in_ok-check_command.ensures.local serves c.in_ok-check_command.ensures.app in
     let lines = joined c.in_ok-subcommand-4.ensures c.in_ok-line_command.ensures.local checks c.in_ok-line_command.ensures.app in
     let garbages = joined c.in_ok-subcommand-5.ensures c.in_ok-garbage_command.ensures.local lines c.in_ok-garbage_command.ensures.app in
-    let explains = joined c.in_ok-subcommand-6.ensures c.in_ok-explain_command.ensures.local garbages c.in_ok-explain_command.ensures.app in
-    let drives = joined c.in_ok-subcommand-7.ensures c.in_ok-drive_command.ensures.local explains c.in_ok-drive_command.ensures.app in
-    IfOk-weaker c.subcommand-8.result _ _ (λ made h. joined h c.in_ok-draw_command.ensures.local drives c.in_ok-draw_command.ensures.app) c.subcommand-8.ensures
+    let shows = joined c.in_ok-subcommand-6.ensures c.in_ok-show_command.ensures.local garbages c.in_ok-show_command.ensures.app in
+    let explains = joined c.in_ok-subcommand-7.ensures c.in_ok-explain_command.ensures.local shows c.in_ok-explain_command.ensures.app in
+    let drives = joined c.in_ok-subcommand-8.ensures c.in_ok-drive_command.ensures.local explains c.in_ok-drive_command.ensures.app in
+    IfOk-weaker c.subcommand-9.result _ _ (λ made h. joined h c.in_ok-draw_command.ensures.local drives c.in_ok-draw_command.ensures.app) c.subcommand-9.ensures

@@ -1,0 +1,5 @@
+use Rattle.std.proofs.Common.{refl}
+use Rattle.recline.proofs.showing.show_part.Goals as goal
+
+pub returns : goal.returns
+returns g c = (refl, c.args.fault, c.tell_unopened.ensures)

@@ -1,0 +1,59 @@
+-- What the command `show` tells of a record file.
+use Rattle.std.specs.Prelude.{◌≡◌, ◌⊎◌, ℕ, List, [], ◌++◌, Bool, Option, Some, None, if◌then◌else◌}
+use Rattle.std.specs.Io.KnownBytes.{Appends}
+use Rattle.record_file.specs.File.{Said, Stands}
+use Rattle.earlier_file.specs.Facts.{AreFacts}
+use Rattle.earlier_file.specs.declared.found.FileFacts.{FileFacts}
+use Rattle.chains.specs.Held.{Held}
+use Rattle.desk.specs.Records.{Opens}
+use Rattle.desk.specs.Desks.{DeskState}
+use Rattle.desk.specs.declared.fault.DeskFault.{DeskFault}
+use Rattle.line_disk.specs.declared.memory.MemoryDisk.{MemoryDisk}
+use Rattle.client_link.specs.Links.{LinkState}
+use Rattle.inspection.specs.Processes.{shown_file, shown_processes}
+use Rattle.inspection.specs.Tables.{table_text}
+use Rattle.inspection.specs.Lines.{lines_text}
+use Rattle.inspection.specs.Json.{json_text}
+use Rattle.recline.specs.declared.showing.Form.{Form}
+use Rattle.recline.specs.Outcome.{Tells, open_fault_line}
+
+-- the records, where they are asked for
+abbrev pub asked_records : Bool → List Said → Option (List Said)
+asked_records reports said = if reports then Some said else None
+
+-- the text of a file: an object of JSON, or a table, and behind it the records where they are asked for
+abbrev pub shown_text : Form → FileFacts → Held → List Said → List ℕ
+shown_text form facts held said =
+    if form.json then json_text (shown_file held facts) (shown_processes held.accepted) (asked_records form.reports said)
+    else table_text (shown_file held facts) (shown_processes held.accepted) ++ (if form.reports then lines_text said else [])
+
+-- The bytes are a file of records that are admitted, and it was shown with what its bytes tell of it.
+pub record IsShown (bytes : List ℕ) (form : Form) (old new : LinkState) : Type 0 where
+  pub said : List Said
+  pub held : Held
+  pub facts : FileFacts
+  pub stands : Stands said bytes
+  pub opened : Opens said held
+  pub told : AreFacts bytes facts
+  pub written : Appends old.held new.held (shown_text form facts held said)
+  pub nothing_waits : new.waiting ≡ []
+
+-- a fault was told, as of a record file that is opened
+abbrev pub ShowsPart : {F : Type 0} → (F → LinkState) → F → F → ℕ → Type 0
+ShowsPart faults_told faults faults_after status =
+    (status ≡ 3) × (fault : DeskFault) × Tells (faults_told faults) (faults_told faults_after) (open_fault_line fault)
+
+-- All of it was shown, and nothing told; or a fault was told.
+abbrev pub Shows : {K F : Type 0} → (K → LinkState) → (F → LinkState) → List ℕ → Form → K → K → F → F → ℕ → Type 0
+Shows client_told faults_told bytes form client client_after faults faults_after status =
+    ((status ≡ 0) × (faults_after ≡ faults) × IsShown bytes form (client_told client) (client_told client_after))
+    ⊎ ShowsPart faults_told faults faults_after status
+
+-- Working definitions from here on: the parts of it.
+
+-- the desk was opened over a file of these bytes
+abbrev pub IsDeskOf : List ℕ → DeskState MemoryDisk → Type 0
+IsDeskOf bytes desk = Stands desk.found bytes × Opens desk.found desk.held
+
+abbrev pub IsTextOf : List ℕ → FileFacts → DeskState MemoryDisk → Form → List ℕ → Type 0
+IsTextOf bytes facts desk form text = text ≡ shown_text form facts desk.held desk.found

@@ -1,0 +1,200 @@
+//! What a record file has.
+
+ghost use Rattle.std.specs.Prelude.{◌≡◌, IfOk, false, true};
+ghost use Rattle.earlier_file.specs.Facts.{AreFacts};
+ghost use Rattle.recline.specs.Outcome.{Tells, open_fault_line};
+ghost use Rattle.recline.specs.Showing.{IsDeskOf, IsTextOf, Shows, ShowsPart};
+
+use crate::copied::{desk_of, store_of};
+use crate::telling::{tell_unopened, write_all};
+use client_link::Link;
+use desk::{Desk, DeskFault};
+use earlier_file::{FileFacts, FileFault, facts, first_records};
+use inspection::{to_json, to_lines, to_table};
+use line_disk::MemoryDisk;
+use record_file::files_are_of_one_kind;
+use std::alloc::{AllocError, Global};
+
+/// How a record file is shown.
+#[derive(Clone, Copy)]
+pub struct Form {
+    /// With each of its records.
+    pub reports: bool,
+    /// As one object of JSON.
+    pub json: bool,
+}
+
+/// The table, and behind it the records, where they are asked for.
+fn table_of(
+    alloc: Global,
+    bytes: &[u8],
+    facts: FileFacts,
+    desk: &Desk<MemoryDisk>,
+    reports: bool,
+) -> Result<Vec<u8>, AllocError>
+    requires { IsDeskOf bytes.now desk.now }
+    ensures { IfOk result (λ text. IsTextOf bytes.now facts desk.now (record { reports = reports; json = false }) text.items) }
+{
+    let mut text = to_table(desk.chains(), facts)?;
+    if !reports {
+        return Ok(text);
+    }
+    files_are_of_one_kind();
+    let store = store_of(alloc, bytes)?;
+    let lines = to_lines(alloc, store.records())?;
+    text.extend_from_slice(&lines)?;
+    Ok(text)
+}
+
+/// The object of JSON, with the records, where they are asked for.
+fn object_of(
+    alloc: Global,
+    bytes: &[u8],
+    facts: FileFacts,
+    desk: &Desk<MemoryDisk>,
+    reports: bool,
+) -> Result<Vec<u8>, AllocError>
+    requires { IsDeskOf bytes.now desk.now }
+    ensures { IfOk result (λ text. IsTextOf bytes.now facts desk.now (record { reports = reports; json = true }) text.items) }
+{
+    if !reports {
+        return to_json(desk.chains(), facts, None);
+    }
+    files_are_of_one_kind();
+    let store = store_of(alloc, bytes)?;
+    to_json(desk.chains(), facts, Some(store.records()))
+}
+
+/// What is shown of a record file that has these bytes, over which this desk was opened.
+fn text_of(
+    alloc: Global,
+    bytes: &[u8],
+    facts: FileFacts,
+    desk: &Desk<MemoryDisk>,
+    form: Form,
+) -> Result<Vec<u8>, AllocError>
+    requires { IsDeskOf bytes.now desk.now }
+    ensures { IfOk result (λ text. IsTextOf bytes.now facts desk.now form text.items) }
+{
+    if form.json {
+        object_of(alloc, bytes, facts, desk, form.reports)
+    } else {
+        table_of(alloc, bytes, facts, desk, form.reports)
+    }
+}
+
+/// Shows all of a record file, or tells that it could not be done; answers the status.
+fn show_all<K: Link, F: Link>(
+    alloc: Global,
+    bytes: &[u8],
+    facts: FileFacts,
+    desk: &Desk<MemoryDisk>,
+    form: Form,
+    client: &mut K,
+    faults: &mut F,
+) -> u8
+    requires facts { AreFacts bytes.now facts }
+    requires desk { IsDeskOf bytes.now desk.now }
+    ensures { Shows K.told F.told bytes.now form client.old client.new faults.old faults.new result }
+{
+    let Ok(text) = text_of(alloc, bytes, facts, desk, form) else {
+        tell_unopened(faults, DeskFault::Memory);
+        return 3;
+    };
+    match write_all(client, &text) {
+        Ok(()) => 0,
+        Err(_) => {
+            tell_unopened(faults, DeskFault::Device);
+            3
+        }
+    }
+}
+
+/// How many records stand in front of what a file is refused for, where it is refused for one of them.
+fn records_before(fault: DeskFault) -> Option<usize> {
+    match fault {
+        DeskFault::Damaged(number) | DeskFault::Line(number) | DeskFault::Refused(number, _) =>
+            number.checked_sub(1),
+        DeskFault::Foreign | DeskFault::Device | DeskFault::Memory => None,
+    }
+}
+
+/// The first records of a file, so many, as they are shown: what stands behind them is its tail.
+fn first_text(alloc: Global, bytes: &[u8], count: usize, form: Form) -> Option<Vec<u8>> {
+    let Ok(copy) = first_records(alloc, bytes, count) else {
+        return None;
+    };
+    let earlier: &[u8] = &copy;
+    let Ok(told) = facts(earlier) else {
+        return None;
+    };
+    let Ok(desk) = desk_of(alloc, earlier) else {
+        return None;
+    };
+    let facts = FileFacts {
+        version: told.version,
+        records: told.records,
+        tail: bytes.len().saturating_sub(earlier.len()),
+    };
+    match text_of(alloc, earlier, facts, &desk, form) {
+        Ok(text) => Some(text),
+        Err(_) => None,
+    }
+}
+
+/// Shows what stands in front of the fault for which a record file is refused, as far as that can be done.
+fn show_before<K: Link>(alloc: Global, bytes: &[u8], form: Form, fault: DeskFault, client: &mut K) {
+    let Some(count) = records_before(fault) else {
+        return;
+    };
+    let Some(text) = first_text(alloc, bytes, count, form) else {
+        return;
+    };
+    // Whether it was written or not, what is told is the fault of the file.
+    let _written = write_all(client, &text);
+}
+
+/// The same, and tells the fault; answers the status.
+fn show_part<K: Link, F: Link>(
+    alloc: Global,
+    bytes: &[u8],
+    form: Form,
+    fault: DeskFault,
+    client: &mut K,
+    faults: &mut F,
+) -> u8
+    ensures { ShowsPart F.told faults.old faults.new result }
+{
+    show_before(alloc, bytes, form, fault, client);
+    tell_unopened(faults, fault);
+    3
+}
+
+/// Why the bytes of a record file cannot be read, as it is told of a file that is opened.
+fn fault_of(fault: FileFault) -> DeskFault {
+    match fault {
+        FileFault::Foreign => DeskFault::Foreign,
+        FileFault::Damaged(number) => DeskFault::Damaged(number),
+    }
+}
+
+/// The command `show`: shows the client what a record file of these bytes has; where it is refused what stands in front of the fault, which it
+/// tells. Answers the status of the process. The bytes are only read.
+pub fn show_on<K: Link, F: Link>(
+    alloc: Global,
+    bytes: &[u8],
+    form: Form,
+    client: &mut K,
+    faults: &mut F,
+) -> u8
+    ensures { Shows K.told F.told bytes.now form client.old client.new faults.old faults.new result }
+{
+    let told = match facts(bytes) {
+        Ok(told) => told,
+        Err(fault) => return show_part(alloc, bytes, form, fault_of(fault), client, faults),
+    };
+    match desk_of(alloc, bytes) {
+        Ok(desk) => show_all(alloc, bytes, told, &desk, form, client, faults),
+        Err(fault) => show_part(alloc, bytes, form, fault, client, faults),
+    }
+}

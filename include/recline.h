@@ -66,10 +66,10 @@ int64_t recline_present(const char *state, size_t state_len, char *out, size_t o
 /* A message is sent. Gives: the new state, and the text that goes with the message. */
 int64_t recline_send(const char *state, size_t state_len, char *out, size_t out_len);
 
-/* A message that the process sent, or one that it absorbed, is handed over once more, by the text that went with it: behind a settlement, where it
- * was sent by the sender's position and not received by that of the receiver. Gives: the state, which stays as it is, and the text that goes with
- * the message now, of the epoch of the process. RECLINE_NEWER: it is of a newer epoch than the process. RECLINE_NOT_SENT: its sending is undone,
- * or it is another one's; where the process went on and knows as much by now, that does not show. */
+/* A message that the process sent, or that one sent which it absorbed, is handed over once more, by the text that went with it: behind a settlement,
+ * where it was sent by the sender's position and not received by that of the receiver. Gives: the state, which stays as it is, and the text that goes
+ * with the message now, of the epoch of the process. RECLINE_NEWER: it is of a newer epoch than the process. RECLINE_NOT_SENT: it tells what the
+ * process does not know, as where its sending is undone; where the process went on, or received it, and so knows as much, that does not show. */
 int64_t recline_again(const char *state, size_t state_len, const char *message, size_t message_len, char *out, size_t out_len);
 
 /* A message of this epoch is received, by the text that came with it. Gives: the new state. RECLINE_OLDER: drop it; where it is not undone it is

@@ -1,0 +1,1 @@
+$records 'BEGIN worker-1' 'FORK worker-1 1 1;1 (1,0) b (0,1)' 'FORK b 1 (0,1);(1,0,1) (0,(1,0)) c (0,(0,1))' 'CHECK c 1 (0,(0,1));(1,0,(1,0,1))' 'RETIRE c 2 (0,(0,1));(1,0,(1,0,2)) worker-1' 'RETIRE b 2 (0,(1,0));(1,0,(1,1,0)) worker-1' 'ABSORB worker-1 2 (1,(0,1));(2,0,(0,0,2)) c' >"$file"

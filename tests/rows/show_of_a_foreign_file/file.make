@@ -1,0 +1,1 @@
+printf 'a file of words' >"$file"

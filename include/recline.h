@@ -42,7 +42,7 @@ enum recline_fault {
     RECLINE_TOO_DEEP = -13,     /* an id would be deeper than 40, or there is no leaf of the depth that is asked for */
     RECLINE_OVERLAP = -14,      /* the process and the retired one own a point in common: one of them is not what it was */
     RECLINE_OTHER_PROCESS = -15, /* the state that was kept is another process's */
-    RECLINE_NOT_SENT = -16      /* the message tells what the process does not know: it did not send it, or that is undone */
+    RECLINE_NOT_KNOWN = -16     /* the message tells what the process does not know: it did not send it, or that is undone */
 };
 
 /* Room that is enough as long as no line is longer than the 8,192 bytes that recline takes. */
@@ -68,7 +68,7 @@ int64_t recline_send(const char *state, size_t state_len, char *out, size_t out_
 
 /* A message that the process sent, or that one sent which it absorbed, is handed over once more, by the text that went with it: behind a settlement,
  * where it was sent by the sender's position and not received by that of the receiver. Gives: the state, which stays as it is, and the text that goes
- * with the message now, of the epoch of the process. RECLINE_NEWER: it is of a newer epoch than the process. RECLINE_NOT_SENT: it tells what the
+ * with the message now, of the epoch of the process. RECLINE_NEWER: it is of a newer epoch than the process. RECLINE_NOT_KNOWN: it tells what the
  * process does not know, as where its sending is undone; where the process went on, or received it, and so knows as much, that does not show. */
 int64_t recline_again(const char *state, size_t state_len, const char *message, size_t message_len, char *out, size_t out_len);
 

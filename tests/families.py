@@ -25,7 +25,7 @@ recline, client, families, seed, *makers = sys.argv[1:]
 sys.path.insert(0, client)
 from stamps import Stamp, join, leaves, text
 
-OLDER, NEWER, NOT_WAITING, SELF_TARGET, NAME_TAKEN, OVERLAP, OTHER_PROCESS, NOT_SENT = -8, -9, -7, -5, -6, -14, -15, -16
+OLDER, NEWER, NOT_WAITING, SELF_TARGET, NAME_TAKEN, OVERLAP, OTHER_PROCESS, NOT_KNOWN = -8, -9, -7, -5, -6, -14, -15, -16
 LARGEST = 64
 
 
@@ -197,7 +197,7 @@ class Family:
             self.return_to(name, line[name], name in alive)
             for message, sender in undone:
                 if sender == name and self.chance.random() < 0.3:
-                    self.refused("again %s %s" % (name, message), NOT_SENT)
+                    self.refused("again %s %s" % (name, message), NOT_KNOWN)
             late = [other for other in late if other not in self.stamps]
             if late and self.chance.random() < 0.3:
                 # One that has not returned yet lets wait what another one hands over.
@@ -214,7 +214,7 @@ class Family:
         knows = [name for name in self.live() if join(events, self.stamps[name].events) == self.stamps[name].events]
         others = [name for name in self.live() if name not in knows and name != sender]
         if others and self.chance.random() < 0.2:
-            self.refused("again %s %s" % (self.chance.choice(others), message), NOT_SENT)
+            self.refused("again %s %s" % (self.chance.choice(others), message), NOT_KNOWN)
         if sender not in self.stamps and not knows:
             return False
         self.step("again %s %s" % (sender if sender in self.stamps else self.chance.choice(knows), message), False)

@@ -147,7 +147,7 @@ static const Call calls[] = {
     {TWO(recline_again), .a = LATER, .b = "message 2 " OTHER_EVENTS, .texts = LATER "\nmessage 4 " OTHER_EVENTS "\n"},
     {TWO(recline_again), .a = LATER, .b = "message 2 " OTHER_EVENTS ")", .fault = RECLINE_NO_TEXT},
     {TWO(recline_again), .a = LATER, .b = "message 5 " OTHER_EVENTS, .fault = RECLINE_NEWER},
-    {TWO(recline_again), .a = MIDDLE, .b = "message 2 " OTHER_EVENTS, .fault = RECLINE_NOT_SENT},
+    {TWO(recline_again), .a = MIDDLE, .b = "message 2 " OTHER_EVENTS, .fault = RECLINE_NOT_KNOWN},
     {TWO(recline_receive), .a = SMALL, .b = "message 0 4", .texts = "process a 0 0 1;5\n"},
     {TWO(recline_receive), .a = MIDDLE, .b = "message 3 " OTHER_EVENTS, .texts = "process a 3 41 " ID ";" RECEIVED "\n"},
     {TWO(recline_receive), .a = MIDDLE, .b = "message 3 " OTHER_EVENTS ")", .fault = RECLINE_NO_TEXT},

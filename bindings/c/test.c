@@ -65,7 +65,7 @@ static void try_example(void) {
     expect("a hands over once more what it sent before its position", !process_again(&a, "message 0 (1,1,0)"));
     expect_text("the message of the new epoch", a.handed, "message 1 (1,1,0)");
     expect_text("a hand-over is no step", a.state, "process a 1 2 (1,0);(1,1,0)");
-    expect("a message that it sent behind its position", process_again(&a, "message 0 (2,3,0)") == RECLINE_NOT_SENT);
+    expect("a message that it sent behind its position", process_again(&a, "message 0 (2,3,0)") == RECLINE_NOT_KNOWN);
     expect_text("what is refused hands over nothing else", a.handed, "message 1 (1,1,0)");
     expect("a checks behind the settlement", !process_check(&a));
     expect_text("CHECK with a mark", a.line, "CHECK@1 a 3 (1,0);(1,2,0)");
@@ -138,7 +138,7 @@ static void try_faults(void) {
     expect("a message once more", call(recline_again, a, "message 0 1") == 22 + 12);
     expect("one of this epoch", call(recline_again, a, "message 1 0") == 22 + 12);
     expect("one of a newer epoch", call(recline_again, a, "message 2 1") == RECLINE_NEWER);
-    expect("one that it does not know", call(recline_again, a, "message 0 (1,0,1)") == RECLINE_NOT_SENT);
+    expect("one that it does not know", call(recline_again, a, "message 0 (1,0,1)") == RECLINE_NOT_KNOWN);
     expect("one of a newer epoch that it does not know", call(recline_again, a, "message 2 9") == RECLINE_NEWER);
     expect("what is no message", call(recline_again, a, "message 0 ") == RECLINE_NO_TEXT);
     expect("of no process", call(recline_again, "", "message 0 1") == RECLINE_NO_STATE);

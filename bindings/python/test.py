@@ -56,7 +56,7 @@ def example():
     expect("a process that crashed returns to the same", crashed.state, a.state)
     expect("a return once more", fault_of(a.return_to, kept, 1), recline.OLDER)
     expect("a message once more", a.again("message 0 (1,1,0)"), "message 1 (1,1,0)")
-    expect("a message that is undone", fault_of(a.again, sent), recline.NOT_SENT)
+    expect("a message that is undone", fault_of(a.again, sent), recline.NOT_KNOWN)
     expect("a hand-over is no step", a.state, crashed.state)
     a.work()
     expect("PRESENT with a mark", a.present(), "PRESENT@1 a 3 (1,0);(1,3,0)")

@@ -54,7 +54,7 @@ pub enum Fault {
     /// The state that was kept is another process's.
     OtherProcess = -15,
     /// The message tells what the process does not know: it did not send it, or that is undone.
-    NotSent = -16,
+    NotKnown = -16,
 }
 
 const FAULTS: [Fault; 16] = [
@@ -73,7 +73,7 @@ const FAULTS: [Fault; 16] = [
     Fault::TooDeep,
     Fault::Overlap,
     Fault::OtherProcess,
-    Fault::NotSent,
+    Fault::NotKnown,
 ];
 
 impl fmt::Display for Fault {

@@ -33,7 +33,7 @@ fn example() -> Result<(), Fault> {
     crashed.returned(1)?;
     assert_eq!(crashed, a);
     assert_eq!(a.again("message 0 (1,1,0)")?, "message 1 (1,1,0)");
-    assert_eq!(a.again(&sent), Err(Fault::NotSent));
+    assert_eq!(a.again(&sent), Err(Fault::NotKnown));
     assert_eq!(crashed, a);
     a.work()?;
     assert_eq!(a.present()?, "PRESENT@1 a 3 (1,0);(1,3,0)");

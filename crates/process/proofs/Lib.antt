@@ -4,3 +4,4 @@ pub mod Numbers
 pub mod OneText
 pub mod LeafWays
 pub mod LeafParts
+pub mod Depths

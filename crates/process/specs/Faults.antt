@@ -44,7 +44,7 @@ RefusesReceipt _ epoch s m = ⊥
 -- a message is not handed over once more: it is of a newer epoch, or tells what the process does not know
 abbrev pub RefusesAgain : ProcessFault → Process → Message → Type 0
 RefusesAgain faults.Newer p m = p.epoch < m.epoch
-RefusesAgain faults.NotSent p m = (¬ (p.epoch < m.epoch)) × ¬ IsAtOrBelow m.events p.stamp.events
+RefusesAgain faults.NotKnown p m = (¬ (p.epoch < m.epoch)) × ¬ IsAtOrBelow m.events p.stamp.events
 RefusesAgain faults.Memory p m = ⊤
 RefusesAgain _ p m = ⊥
 

@@ -54,8 +54,8 @@ pub record Sends (old new : Process) (message : Message) : Type 0 where
   pub epoch : message.epoch ≡ old.epoch
   pub events : message.events ≡ new.stamp.events
 
--- A message is handed over once more, with the epoch that the process has by now. It tells nothing that the process does not know, as it does
--- where the process sent it and that is not undone. The process makes no step.
+-- A message is handed over once more: the same events, with the epoch of the process. The message is of no newer epoch, and the process knows
+-- what it tells; who sent it is not asked. The process makes no step.
 pub record HandsOver (p : Process) (message again : Message) : Type 0 where
   pub not_newer : message.epoch ≤ p.epoch
   pub known : IsAtOrBelow message.events p.stamp.events

@@ -23,7 +23,8 @@ pub enum ProcessFault {
     /// process, or what was kept of it, has the epoch that it is to return to, or a later one.
     #[error("older epoch")]
     Older,
-    /// What came is of a newer epoch: it waits until this process has returned, too. Or the message that is to be handed over once more is.
+    /// What came is of a newer epoch: it waits until this process has returned, too. A message of a newer epoch than the process is not handed
+    /// over once more, either.
     #[error("newer epoch")]
     Newer,
     /// The process made 4,294,967,295 reports.
@@ -45,8 +46,8 @@ pub enum ProcessFault {
     #[error("other process")]
     OtherProcess,
     /// The message that is to be handed over once more tells what the process does not know: it did not send it, or that is undone.
-    #[error("not sent")]
-    NotSent,
+    #[error("not known")]
+    NotKnown,
     /// A growth was refused.
     #[error("memory")]
     Memory,

@@ -10,9 +10,9 @@ use std::alloc::{AllocError, Global};
 /// What goes with a message.
 #[derive(Drop)]
 pub struct Message {
-    /// The epoch of the sender.
+    /// The epoch of the process that handed it over, first or once more.
     pub epoch: u32,
-    /// What the sender knew.
+    /// What its sender knew behind the sending.
     pub events: Events,
 }
 

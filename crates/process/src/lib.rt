@@ -12,6 +12,7 @@ ghost use Rattle.process.specs.declared.process.Process.{Process as AnyProcess};
 ghost use Rattle.process.specs.declared.handed.Message.{Message as AnyMessage};
 ghost use Rattle.process.specs.declared.handed.Start.{Start as AnyStart};
 ghost use Rattle.process.specs.declared.handed.Retirement.{Retirement as AnyRetirement};
+ghost use Rattle.process.specs.Shallow.{LeafIsAsDeep, StaysBehindAFork, StaysBehindAnAbsorption};
 ghost use Rattle.process.specs.Texts.{IsProcess, IsMessage, IsStart, IsRetirement, process_text, message_text, start_text, retirement_text};
 
 mod carving;
@@ -42,4 +43,11 @@ pub fn texts_are_lines()
     ensures message { (m : AnyMessage) → IsMessage m → Lacks 10 (message_text m) }
     ensures start { (s : AnyStart) → IsStart s → Lacks 10 (start_text s) }
     ensures retirement { (r : AnyRetirement) → IsRetirement r → Lacks 10 (retirement_text r) }
+{}
+
+/// A process whose id is no deeper than the leaves that it gives to its children (`fork_small`) keeps it so, also where it absorbs such leaves.
+pub fn ids_get_no_deeper()
+    ensures leaf { LeafIsAsDeep }
+    ensures fork { StaysBehindAFork }
+    ensures absorption { StaysBehindAnAbsorption }
 {}

@@ -114,7 +114,7 @@ impl Process {
     }
 
     /// Hands a message over once more that it sent before, or that a process sent which it absorbed: the same message, marked with the epoch
-    /// that this process has by now. That is no step. `Newer` where the message is of a newer epoch, and `NotSent` where it tells what this
+    /// that this process has by now. That is no step. `Newer` where the message is of a newer epoch, and `NotKnown` where it tells what this
     /// process does not know: it sent none such, or has returned to before that.
     pub fn again(&self, alloc: Global, message: &Message) -> Result<Message, ProcessFault>
         ensures ok { IfOk result (λ again. HandsOver self.now message.now again) }
@@ -124,7 +124,7 @@ impl Process {
             return Err(ProcessFault::Newer);
         }
         if !message.events.leq(&self.stamp.events) {
-            return Err(ProcessFault::NotSent);
+            return Err(ProcessFault::NotKnown);
         }
         let events = message.events.copy(alloc)?;
         Ok(Message {

@@ -19,7 +19,7 @@ number_of_refusal refusals.ClockFull = negsuc 11
 number_of_refusal refusals.TooDeep = negsuc 12
 number_of_refusal refusals.Overlap = negsuc 13
 number_of_refusal refusals.OtherProcess = negsuc 14
-number_of_refusal refusals.NotSent = negsuc 15
+number_of_refusal refusals.NotKnown = negsuc 15
 
 abbrev pub number_of : Fault → ℤ
 number_of faults.State = negsuc 1

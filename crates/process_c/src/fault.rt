@@ -51,7 +51,7 @@ fn number_of_refusal(fault: ProcessFault) -> i64
         ProcessFault::TooDeep => -13,
         ProcessFault::Overlap => -14,
         ProcessFault::OtherProcess => -15,
-        ProcessFault::NotSent => -16,
+        ProcessFault::NotKnown => -16,
     }
 }
 

@@ -73,8 +73,8 @@ pub extern "C" fn recline_send(alloc: Global, state: &[u8], out: &mut [u8]) -> i
     answer(calls::send(alloc, state), out)
 }
 
-/// A message is handed over once more, behind a settlement that has its sending: the state, which stays as it is, and what goes with the message
-/// now.
+/// A message that the process knows is handed over once more, with the epoch of the process: the state, which stays as it is, and what goes with
+/// the message now.
 #[unsafe(no_mangle)]
 pub extern "C" fn recline_again(alloc: Global, state: &[u8], message: &[u8], out: &mut [u8]) -> i64
     ensures { IsAnswer (Gives (Handed IsMessageOf IsHandingOver message.now) state.now) (Refuses (ByText IsMessageOf (λ m fault p. RefusesAgain fault p m) message.now) state.now) result out.old out.new }

@@ -13,7 +13,7 @@ use Rattle.process.specs.declared.handed.Message.{Message}
 use Rattle.process.specs.declared.handed.Start.{Start}
 use Rattle.process.specs.declared.handed.Retirement.{Retirement}
 use Rattle.process_law.specs.Accounts.{Act, Work, Send, Again, Receive, Check, Present, Fork, Begin, Retire, Absorb, Return, Doing}
-use Rattle.process_law.specs.Handing.{Past, first, goes_on, newest, WasOnce, IsCall, IsNewName, IsUnbegun, IsUnabsorbed}
+use Rattle.process_law.specs.Handing.{Past, first, goes_on, newest, GoesFromNewest, WasOnce, IsCall, IsNewName, IsUnbegun, IsUnabsorbed}
 
 -- ---- places
 
@@ -165,6 +165,12 @@ first_is root p s is =
       | inl same ↦ (same, sym (same_Some (first root) s (sym (cond-true (bytes_eq p root) (Some (first root)) None (bytes_same p root same)) ∙ is)))
       | inr other ↦ absurd (none-some s (sym (cond-false (bytes_eq p root) (Some (first root)) None (bytes_other p root other)) ∙ is))
     ]
+
+-- the root goes on from what it is as it begins
+pub first_is_newest : (root : Name) (s : Process) → s ≡ first root → GoesFromNewest root [] s
+unfolding newest
+first_is_newest root s is =
+    subst (λ (p : Process). GoesFromNewest root [] p) (sym is) (cond-true (bytes_eq root root) (Some (first root)) None (bytes_same root root refl))
 
 pub newest_is : (root : Name) (past : Past) (p : Name) (s : Process) → newest root past p ≡ Some s → (s.name ≡ p) × WasOnce root past s
 newest_is root [] p s is =

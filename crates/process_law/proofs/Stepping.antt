@@ -239,7 +239,7 @@ module _ (root : Name) (run : Run) (past : Past) (a : Act) (old new : Process) (
             v.2,
           )
 
-      -- nobody sends once more what was sent
+      -- what was handed over once more stays sent as it was: no step sends a message of that name again
       again_before : (n : ℕ) (m : Message) → GaveAgain past n m → m.epoch ≡ epoch run → IsSent (step_of old deed new ∷ current run) n m
       again_before n m gave now =
           let v = holds.again n m gave now in (

@@ -1,4 +1,4 @@
--- The account with a retirement that a settlement keeps, step by step.
+-- The account with a retirement and a message that a settlement keeps, step by step.
 use Rattle.std.proofs.Common.{◌≡◌, ◌≢◌, ◌⊎◌, ℕ, zero, suc, ◌+◌, ◌≤◌, ◌<◌, Bool, true, false, Some, List, [], ◌∷◌, length, inl, inr, refl, sym, ◌∙◌, ap, subst, arith}
 use Rattle.std.specs.Prelude.{Contains, IsTrue, nat_le, ◌||◌, ◌&&◌, drop}
 use Rattle.std.specs.Str.{bytes_eq}
@@ -7,6 +7,7 @@ use Rattle.id_tree.specs.IdTree.{One}
 use Rattle.id_tree.specs.Points.{Point, owns}
 use Rattle.event_tree.specs.EventTree.{EventTree, Leaf}
 use Rattle.event_tree.specs.Event.{IsEventStep}
+use Rattle.event_tree.specs.Norm.{normal_node}
 use Rattle.event_tree.specs.Join.{IsJoin}
 use Rattle.event_tree.specs.Values.{IsAtOrBelow, value_at, ExceedsOn}
 use Rattle.stamp.specs.declared.stamp.Stamp.{Stamp}
@@ -19,7 +20,7 @@ use Rattle.report_line.specs.declared.report.Report.{Report}
 use Rattle.report_line.specs.declared.report.Report.TheVariants.{Begin, Numbered}
 use Rattle.report_line.specs.declared.step.Deed.TheVariants as deeds
 use Rattle.report_line.specs.declared.step.Step.{Step}
-use Rattle.report_line.specs.History.{Name, History, Event, event_of, Living, Retired, status}
+use Rattle.report_line.specs.History.{Name, History, Event, event_of, Living, Retired, status, sending}
 use Rattle.report_line.specs.Lawful.{IsLawful, start, next}
 use Rattle.report_line.specs.Events.{step, earlier}
 use Rattle.report_line.specs.StepReports.{reporting_steps}
@@ -55,41 +56,56 @@ use Rattle.settled_turns.specs.Traces.{IsSettledBy}
 use Rattle.settled_turns.specs.Example.{marked}
 use Rattle.settled_turns.proofs.Following.{one_settlement}
 use Rattle.process.specs.declared.handed.Retirement.{Retirement}
-use Rattle.process.specs.Steps.{Tells, Retires, Absorbs}
-use Rattle.process_law.specs.Accounts.{Check, Fork, Begin as Begins, Retire, Absorb, Return, Doing, Account, made}
-use Rattle.process_law.specs.Handing.{Past, newest, WasOnce, IsUnbegun, IsAtPosition, IsKept, AreHandedOver}
-use Rattle.process_law.specs.Example.{line_of, a0, a1, b0, start_of_b, e2, e3, e4, f1, early_end_of_b, kept, AKeptRetirementIsPossible}
+use Rattle.process.specs.Steps.{Sends, HandsOver, Tells, Receives, Retires, Absorbs}
+use Rattle.process_law.specs.Accounts.{Send, Again, Check, Fork, Begin as Begins, Retire, Absorb, Return, Doing, Account, made}
+use Rattle.process_law.specs.Handing.{Past, newest, WasOnce, IsUnbegun, IsAtPosition, IsKept, WasSent, AreHandedOver}
+use Rattle.process_law.specs.Example.{line_of, a0, a1, b0, start_of_b, a_at_checkpoint, a_there_again, a_with_b, a_behind_receipt, b_behind_sending, b_ended, message_of_b, message_again, early_end_of_b, kept, AKeptRetirementIsPossible}
 use Rattle.process_law.proofs.GoneBack.{told_on}
-use Rattle.process_law.proofs.Written.{name_a, name_b, on_one, on_left, on_right, halved, spells, grows, grown_of, counts, left_some, right_some, one_some, normal, work_step, send_step, forks_b, b_is_new, each_is, unbegun}
+use Rattle.process_law.proofs.Standing.{sends_now, sent_stays}
+use Rattle.process_law.proofs.Written.{name_a, name_b, on_one, on_left, on_right, flat, halved, spells, grows, grown_of, counts, left_some, right_some, one_some, normal, work_step, send_step, forks_b, b_is_new, each_is, unbegun}
 
 -- ---- what the calls do
 
-checks_a : Tells a1 e2 reported.Check (line_of 0 (told a 2 left (halves 1 1 0) reported.Check))
+checks_a : Tells a1 a_at_checkpoint reported.Check (line_of 0 (told a 2 left (halves 1 1 0) reported.Check))
 checks_a = record {
   goes = record { name = refl; epoch = refl; reports = refl };
   stamped = counts left (Leaf 1) (halves 1 1 0) on_left left_some tt work_step;
   reported = spells 0 a 2 left (halves 1 1 0) reported.Check (omega arith) name_a (omega arith, omega arith) on_left (halved 1 1 0 refl refl (omega arith)) tt;
 }
 
-end_step : IsEventStep right (Leaf 1) (halves 1 0 1)
-end_step = grows right (Leaf 1) (halves 1 0 1) refl refl
+message_step : IsEventStep right (Leaf 1) (halves 1 0 1)
+message_step = grows right (Leaf 1) (halves 1 0 1) refl refl
 
-retires_b : Retires b0 a early_end_of_b (line_of 0 (told b 1 right (halves 1 0 1) (reported.Retire a)))
+sends_b : Sends b0 b_behind_sending message_of_b
+sends_b = record {
+  works = record {
+    goes = record { name = refl; epoch = refl; reports = refl };
+    stamped = counts right (Leaf 1) (halves 1 0 1) on_right right_some tt message_step;
+  };
+  epoch = refl;
+  events = refl;
+}
+
+end_step : IsEventStep right (halves 1 0 1) (halves 1 0 2)
+unfolding normal_node
+end_step = grows right (halves 1 0 1) (halves 1 0 2) refl refl
+
+retires_b : Retires b_behind_sending a early_end_of_b (line_of 0 (told b 1 right (halves 1 0 2) (reported.Retire a)))
 retires_b = record {
   other = below 97 98 (omega arith);
   process = refl;
   epoch = refl;
   target_is = refl;
-  stamped = counts right (Leaf 1) (halves 1 0 1) on_right right_some tt end_step;
-  reported = spells 0 b 1 right (halves 1 0 1) (reported.Retire a) (omega arith) name_b (omega arith, omega arith) on_right (halved 1 0 1 refl refl (omega arith)) name_a;
+  stamped = counts right (halves 1 0 1) (halves 1 0 2) on_right right_some (normal 1 0 1 refl refl) end_step;
+  reported = spells 0 b 1 right (halves 1 0 2) (reported.Retire a) (omega arith) name_b (omega arith, omega arith) on_right (halved 1 0 2 refl refl (omega arith)) name_a;
 }
 
-absorbed_join : IsJoin (halves 1 2 0) (halves 1 0 1) (halves 2 1 0)
+absorbed_join : IsJoin (halves 1 2 0) (halves 1 0 2) (Leaf 3)
 absorbed_join [] = refl
 absorbed_join (false ∷ p) = refl
 absorbed_join (true ∷ p) = refl
 
-absorbs_b : Absorbs e3 early_end_of_b e4 (line_of 1 (told a 3 One (halves 2 1 0) (reported.Absorb b)))
+absorbs_b : Absorbs a_there_again early_end_of_b a_with_b (line_of 1 (told a 3 One (Leaf 3) (reported.Absorb b)))
 absorbs_b = record {
   into_this = refl;
   other = above 98 97 (omega arith);
@@ -102,7 +118,36 @@ absorbs_b = record {
     disjoint = apart;
     together = both;
   };
-  reported = spells 1 a 3 One (halves 2 1 0) (reported.Absorb b) (omega arith) name_a (omega arith, omega arith) on_one (halved 2 1 0 refl refl (omega arith)) name_b;
+  reported = spells 1 a 3 One (Leaf 3) (reported.Absorb b) (omega arith) name_a (omega arith, omega arith) on_one (flat 3 (omega arith)) name_b;
+}
+
+message_below : IsAtOrBelow (halves 1 0 1) (Leaf 3)
+message_below [] = omega arith
+message_below (false ∷ p) = omega arith
+message_below (true ∷ p) = omega arith
+
+hands_over : HandsOver a_with_b message_of_b message_again
+hands_over = record { not_newer = omega arith; known = message_below; epoch = refl; events = refl }
+
+received_join : IsJoin (Leaf 3) (halves 1 0 1) (Leaf 3)
+received_join [] = refl
+received_join (false ∷ p) = refl
+received_join (true ∷ p) = refl
+
+receive_step : IsEventStep One (Leaf 3) (Leaf 4)
+receive_step = grows One (Leaf 3) (Leaf 4) refl refl
+
+receives_a : Receives a_with_b message_again a_behind_receipt
+receives_a = record {
+  epoch = refl;
+  goes = record { name = refl; epoch = refl; reports = refl };
+  stamped = record {
+    id = refl;
+    joined = Leaf 3;
+    is_join = record { join = received_join; normal = tt };
+    step = receive_step;
+    grown = grown_of One (Leaf 3) (Leaf 4) on_one one_some tt receive_step;
+  };
 }
 
 -- ---- what is accepted, and the line of the settlement
@@ -114,10 +159,10 @@ abbrev check_report : NumberedReport
 check_report = record { process = a; number = 2; stamp = record { id = left; events = halves 1 1 0 }; action = reported.Check }
 
 abbrev end_report : NumberedReport
-end_report = record { process = b; number = 1; stamp = record { id = right; events = halves 1 0 1 }; action = reported.Retire a }
+end_report = record { process = b; number = 1; stamp = record { id = right; events = halves 1 0 2 }; action = reported.Retire a }
 
 abbrev absorb_report : NumberedReport
-absorb_report = record { process = a; number = 3; stamp = record { id = One; events = halves 2 1 0 }; action = reported.Absorb b }
+absorb_report = record { process = a; number = 3; stamp = record { id = One; events = Leaf 3 }; action = reported.Absorb b }
 
 abbrev l1 : List Report
 l1 = Begin a ∷ []
@@ -166,11 +211,11 @@ end_fit = record {
   living = refl;
   number = refl;
   id = refl;
-  grown = more_right right (Leaf 1) (halves 1 0 1) 1 1 1 2 refl (leaf 1) (has 1 0 1) (omega arith) (omega arith);
+  grown = more_right right (Leaf 1) (halves 1 0 2) 1 1 1 3 refl (leaf 1) (has 1 0 2) (omega arith) (omega arith);
   fit = tt;
 }
 
-end_below : IsAtOrBelow (halves 1 0 1) (halves 2 1 0)
+end_below : IsAtOrBelow (halves 1 0 2) (Leaf 3)
 end_below [] = omega arith
 end_below (false ∷ p) = omega arith
 end_below (true ∷ p) = omega arith
@@ -182,7 +227,7 @@ absorb_fit = record {
   living = refl;
   number = refl;
   id = refl;
-  grown = more_left left (halves 1 1 0) (halves 2 1 0) 2 1 3 2 refl (has 1 1 0) (has 2 1 0) (omega arith) (omega arith);
+  grown = more_left left (halves 1 1 0) (Leaf 3) 2 1 3 3 refl (has 1 1 0) (leaf 3) (omega arith) (omega arith);
   fit = ((refl, refl), end_below);
 }
 
@@ -217,10 +262,10 @@ same_stamp_of : (x y : Stamp) → Some x ≡ Some y → x ≡ y
 same_stamp_of x y is = cc
 
 -- the end of b knows nothing of a behind its checkpoint
-not_beyond : ExceedsOn left (halves 1 0 1) (halves 1 1 0) → ⊥
+not_beyond : ExceedsOn left (halves 1 0 2) (halves 1 1 0) → ⊥
 not_beyond w = by w.0 w.1 w.2
   where
-    by : (t : Point) → IsTrue (owns left t) → value_at (halves 1 1 0) t < value_at (halves 1 0 1) t → ⊥
+    by : (t : Point) → IsTrue (owns left t) → value_at (halves 1 1 0) t < value_at (halves 1 0 2) t → ⊥
     by [] owned less = absurd (omega arith)
     by (false ∷ t) owned less = absurd (omega arith)
     by (true ∷ t) owned less = absurd (cc)
@@ -228,15 +273,15 @@ not_beyond w = by w.0 w.1 w.2
 knows_nothing : KnowsAfter l4 (place 1 positions.Retired) 0 2 → ⊥
 knows_nothing w = by w.later w.from w.is_element
   where
-    values : halves 1 0 1 ≡ w.beyond.events
-    values = same_values_of (halves 1 0 1) w.beyond.events w.beyond.there
+    values : halves 1 0 2 ≡ w.beyond.events
+    values = same_values_of (halves 1 0 2) w.beyond.events w.beyond.there
 
     by : (j : ℕ) → 2 ≤ j → element l4 0 j ≡ Some w.stamp → ⊥
     by zero from is = absurd (omega arith)
     by (suc zero) from is = absurd (omega arith)
     by (suc (suc zero)) from is =
         not_beyond
-        (subst (λ (x : Stamp). ExceedsOn x.id (halves 1 0 1) x.events) (sym (same_stamp_of (record { id = left; events = halves 1 1 0 }) w.stamp is))
+        (subst (λ (x : Stamp). ExceedsOn x.id (halves 1 0 2) x.events) (sym (same_stamp_of (record { id = left; events = halves 1 1 0 }) w.stamp is))
         (subst (λ (e : EventTree). ExceedsOn w.stamp.id e w.stamp.events) (sym values) w.beyond.exceeds))
     by (suc (suc (suc j))) from is = absurd (cc)
 
@@ -272,22 +317,32 @@ fork_step = act a (deeds.Fork b right) left (Leaf 1)
 abbrev check_step : Step
 check_step = act a deeds.Check left (halves 1 1 0)
 
+abbrev sending_step : Step
+sending_step = act b (deeds.Send (3 ∷ [])) right (halves 1 0 1)
+
 abbrev retire_step : Step
-retire_step = act b (deeds.Retire a) right (halves 1 0 1)
+retire_step = act b (deeds.Retire a) right (halves 1 0 2)
+
+abbrev absorb_step : Step
+absorb_step = act a (deeds.Absorb b) One (Leaf 3)
+
+abbrev before_sending : History
+before_sending = check_step ∷ fork_step ∷ []
 
 abbrev whole : History
-whole = retire_step ∷ check_step ∷ fork_step ∷ []
+whole = retire_step ∷ sending_step ∷ before_sending
 
 abbrev checkpoint : Event
 checkpoint = event_of (fork_step ∷ []) check_step
 
 abbrev ending : Event
-ending = event_of (check_step ∷ fork_step ∷ []) retire_step
+ending = event_of (sending_step ∷ before_sending) retire_step
 
 whole_is_lawful : IsLawful a whole
-unfolding status
+unfolding status sending
 whole_is_lawful =
     next
+    (next
     (next
     (next start (root_holds a)
     (record {
@@ -299,7 +354,8 @@ whole_is_lawful =
       child_not_empty = some_right;
       together = both;
     })) refl (record { same_id = λ t. refl; grown = grown_of left (Leaf 1) (halves 1 1 0) on_left left_some tt work_step })) refl
-    (record { same_id = λ t. refl; grown = grown_of right (Leaf 1) (halves 1 0 1) on_right right_some tt end_step }, below 97 98 (omega arith))
+    (record { same_id = λ t. refl; grown = grown_of right (Leaf 1) (halves 1 0 1) on_right right_some tt message_step }, refl)) refl
+    (record { same_id = λ t. refl; grown = grown_of right (halves 1 0 1) (halves 1 0 2) on_right right_some (normal 1 0 1 refl refl) end_step }, below 97 98 (omega arith))
 
 -- all events of b, and those of a up to its checkpoint
 abbrev all_of_both : Cut
@@ -324,7 +380,7 @@ two_true : (x y : Bool) → x ≡ true → y ≡ true → (x && y) ≡ true
 two_true x y first second = ap (λ (z : Bool). z && y) first ∙ second
 
 checkpoint_at : IsEventAt a whole l4 (place 0 (positions.At 2)) checkpoint
-checkpoint_at = record { occurs = earlier step; of_process = refl; values = refl }
+checkpoint_at = record { occurs = earlier (earlier step); of_process = refl; values = refl }
 
 in_line : (e : Event) → all_of_both e ≡ true → IsInCut a whole l4 the_line e
 in_line e is =
@@ -374,40 +430,53 @@ abbrev run5 : Run
 run5 = Accepts 0 (Numbered check_report) ∷ run4
 
 abbrev run6 : Run
-run6 = Made 0 retire_step ∷ run5
+run6 = Made 0 sending_step ∷ run5
 
 abbrev run7 : Run
-run7 = Accepts 0 (Numbered end_report) ∷ run6
+run7 = Made 0 retire_step ∷ run6
 
 abbrev run8 : Run
-run8 = Settles [] the_line all_of_both ∷ run7
+run8 = Accepts 0 (Numbered end_report) ∷ run7
 
-history_7 : current run7 ≡ whole
-unfolding epoch current
-history_7 = refl
+abbrev run9 : Run
+run9 = Settles [] the_line all_of_both ∷ run8
 
-list_7 : accepted run7 ≡ l4
-unfolding accepted
-list_7 = refl
+abbrev run10 : Run
+run10 = Made 1 absorb_step ∷ run9
+
+abbrev run11 : Run
+run11 = Accepts 1 (Numbered absorb_report) ∷ run10
 
 history_8 : current run8 ≡ whole
-unfolding epoch current kept_of
+unfolding epoch current
 history_8 = refl
 
-epoch_8 : epoch run8 ≡ 1
-unfolding epoch
-epoch_8 = refl
+list_8 : accepted run8 ≡ l4
+unfolding accepted
+list_8 = refl
 
-settles_7 : IsSettledBy a run7 [] run8
-settles_7 = record {
+history_9 : current run9 ≡ whole
+unfolding epoch current kept_of
+history_9 = refl
+
+epoch_9 : epoch run9 ≡ 1
+unfolding epoch
+epoch_9 = refl
+
+history_11 : current run11 ≡ absorb_step ∷ whole
+unfolding epoch current kept_of
+history_11 = refl
+
+settles_8 : IsSettledBy a run8 [] run9
+settles_8 = record {
   failed = [];
-  just_named = subst (λ (l : List Report). IsFailedSet l [] []) (sym list_7) failed_set;
+  just_named = subst (λ (l : List Report). IsFailedSet l [] []) (sym list_8) failed_set;
   line = the_line;
-  greatest = subst (λ (l : List Report). IsGreatestCut l [] the_line) (sym list_7) line_is_greatest;
+  greatest = subst (λ (l : List Report). IsGreatestCut l [] the_line) (sym list_8) line_is_greatest;
   cut = all_of_both;
   events =
-      subst (λ (h : History). HasEventsOf a h (accepted run7) the_line all_of_both) (sym history_7)
-      (subst (λ (l : List Report). HasEventsOf a whole l the_line all_of_both) (sym list_7) whole_has_events);
+      subst (λ (h : History). HasEventsOf a h (accepted run8) the_line all_of_both) (sym history_8)
+      (subst (λ (l : List Report). HasEventsOf a whole l the_line all_of_both) (sym list_8) whole_has_events);
   settles = refl;
 }
 
@@ -509,19 +578,25 @@ abbrev fork : Doing
 fork = made (Fork start_of_b (line_of 0 (told a 1 One (Leaf 1) (forked b)))) a0 a1
 
 abbrev check : Doing
-check = made (Check (line_of 0 (told a 2 left (halves 1 1 0) reported.Check))) a1 e2
+check = made (Check (line_of 0 (told a 2 left (halves 1 1 0) reported.Check))) a1 a_at_checkpoint
 
 abbrev begin : Doing
 begin = made (Begins 0 start_of_b) b0 b0
 
+abbrev send : Doing
+send = made (Send message_of_b) b0 b_behind_sending
+
 abbrev retire : Doing
-retire = made (Retire a early_end_of_b (line_of 0 (told b 1 right (halves 1 0 1) (reported.Retire a)))) b0 f1
+retire = made (Retire a early_end_of_b (line_of 0 (told b 1 right (halves 1 0 2) (reported.Retire a)))) b_behind_sending b_ended
 
 abbrev goes_back : Doing
-goes_back = made (Return 1) e2 e3
+goes_back = made (Return 1) a_at_checkpoint a_there_again
 
 abbrev absorb : Doing
-absorb = made (Absorb 3 early_end_of_b (line_of 1 (told a 3 One (halves 2 1 0) (reported.Absorb b)))) e3 e4
+absorb = made (Absorb 4 early_end_of_b (line_of 1 (told a 3 One (Leaf 3) (reported.Absorb b)))) a_there_again a_with_b
+
+abbrev again : Doing
+again = made (Again 3 message_of_b message_again) a_with_b a_with_b
 
 abbrev q1 : Past
 q1 = fork ∷ []
@@ -533,13 +608,19 @@ abbrev q3 : Past
 q3 = begin ∷ q2
 
 abbrev q4 : Past
-q4 = retire ∷ q3
+q4 = send ∷ q3
 
 abbrev q5 : Past
-q5 = goes_back ∷ q4
+q5 = retire ∷ q4
 
 abbrev q6 : Past
-q6 = absorb ∷ q5
+q6 = goes_back ∷ q5
+
+abbrev q7 : Past
+q7 = absorb ∷ q6
+
+abbrev q8 : Past
+q8 = again ∷ q7
 
 from0 : newest a [] a ≡ Some a0
 unfolding newest
@@ -553,67 +634,92 @@ from3 : newest a q3 b ≡ Some b0
 unfolding newest
 from3 = refl
 
-from5 : newest a q5 a ≡ Some e3
+from4 : newest a q4 b ≡ Some b_behind_sending
 unfolding newest
-from5 = refl
+from4 = refl
+
+from6 : newest a q6 a ≡ Some a_there_again
+unfolding newest
+from6 = refl
+
+from7 : newest a q7 a ≡ Some a_with_b
+unfolding newest
+from7 = refl
+
+from8 : newest a q8 a ≡ Some a_with_b
+unfolding newest
+from8 = refl
 
 unbegun_2 : IsUnbegun q2 0
 unbegun_2 = unbegun q2 0 (λ s is. cc, (λ s is. cc, tt))
 
-lives_8 : status a whole a ≡ Living checkpoint
+lives_9 : status a whole a ≡ Living checkpoint
 unfolding status
-lives_8 = refl
+lives_9 = refl
 
-waits_8 : status a whole b ≡ Retired ending a
+waits_9 : status a whole b ≡ Retired ending a
 unfolding status
-waits_8 = refl
+waits_9 = refl
 
-position_8 : IsAtPosition a run8 e2
-position_8 = record {
+position_9 : IsAtPosition a run9 a_at_checkpoint
+position_9 = record {
   event = checkpoint;
-  newest_event = subst (λ (h : History). IsNewest a h a checkpoint) (sym history_8) (living_is_newest whole_is_lawful a checkpoint lives_8);
+  newest_event = subst (λ (h : History). IsNewest a h a checkpoint) (sym history_9) (living_is_newest whole_is_lawful a checkpoint lives_9);
   stamp = refl;
-  reports = ap (λ (h : History). reporting_steps a h) (sym history_8);
+  reports = ap (λ (h : History). reporting_steps a h) (sym history_9);
 }
 
-once_4 : WasOnce a q4 e2
-once_4 = inr (check, later_in retire check q3 (later_in begin check q2 (first_in check q1)), refl)
+once_5 : WasOnce a q5 a_at_checkpoint
+once_5 = inr (check, later_in retire check q4 (later_in send check q3 (later_in begin check q2 (first_in check q1))), refl)
 
-within_8 : 1 ≤ epoch run8
-within_8 = (let same = epoch_8 in omega arith)
+within_9 : 1 ≤ epoch run9
+within_9 = (let same = epoch_9 in omega arith)
 
 -- who retired did so in the epoch before
 same_end : (t u : Name) (r q : Retirement) (l m : List ℕ) → Retire t r l ≡ Retire u q m → r ≡ q
 same_end t u r q l m is = cc
 
-retired_before : (d : Doing) (target : Name) (other : Retirement) (line : List ℕ) → Contains q5 d → d.act ≡ Retire target other line → other.epoch ≡ 0
+retired_before : (d : Doing) (target : Name) (other : Retirement) (line : List ℕ) → Contains q6 d → d.act ≡ Retire target other line → other.epoch ≡ 0
 retired_before d target other line at =
-    each_is (λ act. (t : Name) (r : Retirement) (l : List ℕ) → act ≡ Retire t r l → r.epoch ≡ 0) q5 (
+    each_is (λ act. (t : Name) (r : Retirement) (l : List ℕ) → act ≡ Retire t r l → r.epoch ≡ 0) q6 (
       λ t r l is. absurd (cc),
       (
-        λ t r l is. ap (λ (q : Retirement). q.epoch) (sym (same_end a t early_end_of_b r (line_of 0 (told b 1 right (halves 1 0 1) (reported.Retire a))) l is)),
-        (λ t r l is. absurd (cc), (λ t r l is. absurd (cc), (λ t r l is. absurd (cc), tt))),
+        λ t r l is. ap (λ (q : Retirement). q.epoch) (sym (same_end a t early_end_of_b r (line_of 0 (told b 1 right (halves 1 0 2) (reported.Retire a))) l is)),
+        (λ t r l is. absurd (cc), (λ t r l is. absurd (cc), (λ t r l is. absurd (cc), (λ t r l is. absurd (cc), tt)))),
       ),
     ) d at target other line
 
-kept_8 : IsKept a run8 q5 early_end_of_b
-kept_8 = record {
+kept_9 : IsKept a run9 q6 early_end_of_b
+kept_9 = record {
   event = ending;
-  waits = subst (λ (h : History). IsWaiting a h b a ending) (sym history_8) (waiting whole_is_lawful b a ending waits_8);
+  waits = subst (λ (h : History). IsWaiting a h b a ending) (sym history_9) (waiting whole_is_lawful b a ending waits_9);
   stamp = refl;
-  not_anew = λ d target other line at is same now. (let before = retired_before d target other line at is in let present = epoch_8 in omega arith);
+  not_anew = λ d target other line at is same now. (let before = retired_before d target other line at is in let present = epoch_9 in omega arith);
 }
+
+-- the sending is one of the current history, also behind the settlement
+was_sent : WasSent run11 3 (halves 1 0 1)
+was_sent = (
+  event_of before_sending sending_step,
+  ap (λ (h : History). sending h (3 ∷ [])) history_11
+      ∙ (sent_stays whole absorb_step (3 ∷ []) (λ is. cc)
+      ∙ (sent_stays (sending_step ∷ before_sending) retire_step (3 ∷ []) (λ is. cc) ∙ sends_now before_sending sending_step (3 ∷ []) refl)),
+  refl,
+)
 
 -- ---- all of it, from the last call back
 
+abbrev again_left : Account
+again_left = drop 13 kept
+
 abbrev absorb_report_left : Account
-absorb_report_left = drop 11 kept
+absorb_report_left = drop 12 kept
 
 abbrev return_left : Account
-return_left = drop 9 kept
+return_left = drop 10 kept
 
 abbrev settlement_left : Account
-settlement_left = drop 8 kept
+settlement_left = drop 9 kept
 
 abbrev begin_left : Account
 begin_left = drop 5 kept
@@ -624,38 +730,46 @@ check_left = drop 3 kept
 abbrev fork_left : Account
 fork_left = drop 1 kept
 
-absorb_report_rest : (run : Run) → AreHandedOver a run q6 absorb_report_left
-absorb_report_rest run =
-    told_on run q6 (record { epoch = 1; report = Numbered absorb_report }) 6 []
-    (inr (absorb, line_of 1 (told a 3 One (halves 2 1 0) (reported.Absorb b)), first_in absorb q5, refl, absorbs_b.reported)) tt
+again_rest : AreHandedOver a run11 q7 again_left
+again_rest =
+    ((hands_over, refl), (from7, λ now. was_sent), (receives_a, (from8, inr (inl (again, message_of_b, first_in again q7, refl))), tt))
 
-return_rest : AreHandedOver a run8 q4 return_left
+absorb_report_rest : AreHandedOver a run10 q7 absorb_report_left
+absorb_report_rest =
+    told_on run10 q7 (record { epoch = 1; report = Numbered absorb_report }) 6 again_left
+    (inr (absorb, line_of 1 (told a 3 One (Leaf 3) (reported.Absorb b)), first_in absorb q6, refl, absorbs_b.reported)) again_rest
+
+return_rest : AreHandedOver a run9 q5 return_left
 return_rest = (
   record { later = omega arith; new_is = refl },
-  (once_4, within_8, λ now. position_8),
+  (once_5, within_9, λ now. position_9),
   (
     absorbs_b,
     (
-      from5,
-      (retire, a, line_of 0 (told b 1 right (halves 1 0 1) (reported.Retire a)), record { later = goes_back ∷ []; earlier = q3; past_is = refl; number = refl }, refl),
-      inr (λ now. kept_8),
+      from6,
+      (retire, a, line_of 0 (told b 1 right (halves 1 0 2) (reported.Retire a)), record { later = goes_back ∷ []; earlier = q4; past_is = refl; number = refl }, refl),
+      inr (λ now. kept_9),
     ),
-    absorb_report_rest _,
+    absorb_report_rest,
   ),
 )
 
-settlement_rest : AreHandedOver a run7 q4 settlement_left
-settlement_rest = (tt, λ between adds. subst (λ (r : Run). AreHandedOver a r q4 return_left) (one_settlement a run7 [] run8 between settles_7 adds) return_rest)
+settlement_rest : AreHandedOver a run8 q5 settlement_left
+settlement_rest = (tt, λ between adds. subst (λ (r : Run). AreHandedOver a r q5 return_left) (one_settlement a run8 [] run9 between settles_8 adds) return_rest)
 
 begin_rest : AreHandedOver a run5 q2 begin_left
 begin_rest = (
   refl,
   ((fork, line_of 0 (told a 1 One (Leaf 1) (forked b)), record { later = check ∷ []; earlier = []; past_is = refl; number = refl }, refl), unbegun_2),
   (
-    (retires_b, refl),
+    sends_b,
     from3,
-    told_on run6 q4 (record { epoch = 0; report = Numbered end_report }) 4 settlement_left
-        (inr (retire, line_of 0 (told b 1 right (halves 1 0 1) (reported.Retire a)), first_in retire q3, refl, retires_b.reported)) settlement_rest,
+    (
+      (retires_b, refl),
+      from4,
+      told_on run7 q5 (record { epoch = 0; report = Numbered end_report }) 4 settlement_left
+          (inr (retire, line_of 0 (told b 1 right (halves 1 0 2) (reported.Retire a)), first_in retire q4, refl, retires_b.reported)) settlement_rest,
+    ),
   ),
 )
 

@@ -74,7 +74,7 @@ message = record { epoch = 0; events = halves 1 2 0 }
 abbrev pub end_of_b : Retirement
 end_of_b = record { process = b; epoch = 0; target = a; stamp = record { id = right; events = halves 3 0 2 } }
 
--- a forks b, works, sends a message and hands it over once more; b receives it, makes a checkpoint and retires into a, which shows its present state and absorbs it.
+-- a forks b, works, and hands one message over twice; b receives it, makes a checkpoint and retires; a shows its present state and absorbs b.
 abbrev pub family : Account
 family =
     Did (made (Fork start_of_b (line_of 0 (told a 1 One (Leaf 1) (forked b)))) a0 a1)
@@ -142,48 +142,64 @@ returned =
 abbrev pub AReturnIsPossible : Type 0
 AReturnIsPossible = AreTurns (counting []) (traced 0 returned) held_then × AreHandedOver a [] [] returned
 
--- ---- a retirement that a settlement keeps
+-- ---- a retirement and a message that a settlement keeps
 
--- what a is: at its checkpoint, there again, and behind its absorption; and what b ended as
-abbrev pub e2 : Process
-e2 = state a 0 2 left (halves 1 1 0)
+-- what a is: at its checkpoint, there again, behind its absorption, and behind its receipt; and what b is behind its sending, and ended as
+abbrev pub a_at_checkpoint : Process
+a_at_checkpoint = state a 0 2 left (halves 1 1 0)
 
-abbrev pub e3 : Process
-e3 = state a 1 2 left (halves 1 1 0)
+abbrev pub a_there_again : Process
+a_there_again = state a 1 2 left (halves 1 1 0)
 
-abbrev pub e4 : Process
-e4 = state a 1 3 One (halves 2 1 0)
+abbrev pub a_with_b : Process
+a_with_b = state a 1 3 One (Leaf 3)
 
-abbrev pub f1 : Process
-f1 = state b 0 1 right (halves 1 0 1)
+abbrev pub a_behind_receipt : Process
+a_behind_receipt = state a 1 3 One (Leaf 4)
+
+abbrev pub b_behind_sending : Process
+b_behind_sending = state b 0 0 right (halves 1 0 1)
+
+abbrev pub b_ended : Process
+b_ended = state b 0 1 right (halves 1 0 2)
+
+-- what they hand over: the message as b sends it, and with the new epoch
+abbrev pub message_of_b : Message
+message_of_b = record { epoch = 0; events = halves 1 0 1 }
+
+abbrev pub message_again : Message
+message_again = record { epoch = 1; events = halves 1 0 1 }
 
 abbrev pub early_end_of_b : Retirement
-early_end_of_b = record { process = b; epoch = 0; target = a; stamp = record { id = right; events = halves 1 0 1 } }
+early_end_of_b = record { process = b; epoch = 0; target = a; stamp = record { id = right; events = halves 1 0 2 } }
 
--- a forks b and makes a checkpoint; b retires into a. A settlement keeps all of that. a returns to its checkpoint, and absorbs b's retirement,
--- which is of the epoch before.
+-- a forks b and makes a checkpoint; b sends a message to a, and retires into it. A settlement keeps all of that. a returns to its checkpoint,
+-- and absorbs b's retirement, which is of the epoch before; and it hands over b's message once more, with the new epoch, and receives it.
 abbrev pub kept : Account
 kept =
     Took (marked 0 (reports.Begin a)) (Accepted 1)
     ∷ Did (made (Fork start_of_b (line_of 0 (told a 1 One (Leaf 1) (forked b)))) a0 a1)
     ∷ Took (marked 0 (told a 1 One (Leaf 1) (forked b))) (Accepted 2)
-    ∷ Did (made (Check (line_of 0 (told a 2 left (halves 1 1 0) reported.Check))) a1 e2)
+    ∷ Did (made (Check (line_of 0 (told a 2 left (halves 1 1 0) reported.Check))) a1 a_at_checkpoint)
     ∷ Took (marked 0 (told a 2 left (halves 1 1 0) reported.Check)) (Accepted 3)
     ∷ Did (made (Begin 0 start_of_b) b0 b0)
-    ∷ Did (made (Retire a early_end_of_b (line_of 0 (told b 1 right (halves 1 0 1) (reported.Retire a)))) b0 f1)
-    ∷ Took (marked 0 (told b 1 right (halves 1 0 1) (reported.Retire a))) (Accepted 4)
+    ∷ Did (made (Send message_of_b) b0 b_behind_sending)
+    ∷ Did (made (Retire a early_end_of_b (line_of 0 (told b 1 right (halves 1 0 2) (reported.Retire a)))) b_behind_sending b_ended)
+    ∷ Took (marked 0 (told b 1 right (halves 1 0 2) (reported.Retire a))) (Accepted 4)
     ∷ Took (calls.Settle 4 []) (Settled 1 5)
-    ∷ Did (made (Return 1) e2 e3)
-    ∷ Did (made (Absorb 3 early_end_of_b (line_of 1 (told a 3 One (halves 2 1 0) (reported.Absorb b)))) e3 e4)
-    ∷ Took (marked 1 (told a 3 One (halves 2 1 0) (reported.Absorb b))) (Accepted 6)
+    ∷ Did (made (Return 1) a_at_checkpoint a_there_again)
+    ∷ Did (made (Absorb 4 early_end_of_b (line_of 1 (told a 3 One (Leaf 3) (reported.Absorb b)))) a_there_again a_with_b)
+    ∷ Took (marked 1 (told a 3 One (Leaf 3) (reported.Absorb b))) (Accepted 6)
+    ∷ Did (made (Again 3 message_of_b message_again) a_with_b a_with_b)
+    ∷ Did (made (Receive 3 message_again) a_with_b a_behind_receipt)
     ∷ []
 
 -- what is held then: all reports, of which the last one is of epoch 1
 abbrev pub held_behind : Held
 held_behind = record {
   accepted =
-      reports.Begin a ∷ told a 1 One (Leaf 1) (forked b) ∷ told a 2 left (halves 1 1 0) reported.Check ∷ told b 1 right (halves 1 0 1) (reported.Retire a)
-      ∷ told a 3 One (halves 2 1 0) (reported.Absorb b) ∷ [];
+      reports.Begin a ∷ told a 1 One (Leaf 1) (forked b) ∷ told a 2 left (halves 1 1 0) reported.Check ∷ told b 1 right (halves 1 0 2) (reported.Retire a)
+      ∷ told a 3 One (Leaf 3) (reported.Absorb b) ∷ [];
   epochs = 0 ∷ 0 ∷ 0 ∷ 0 ∷ 1 ∷ [];
   front = 6;
   epoch = 1;

@@ -93,8 +93,7 @@ abbrev pub MayAbsorb : Name → Run → Past → Process → ℕ → Retirement 
 MayAbsorb root run past old from retirement =
     ((retirement.epoch ≡ old.epoch) × IsUnabsorbed past from) ⊎ (old.epoch ≡ epoch run → IsKept root run past retirement)
 
--- A process that has returned hands over once more, with the epoch that it has by then, what was sent at an event of the current history: its
--- own sending, or that of a process that it absorbed.
+-- The call of this number sent these values, at an event of the current history. Which process did, and who hands them over now, is not asked.
 abbrev pub WasSent : Run → ℕ → EventTree → Type 0
 WasSent run n values = (x : Event) × (sending (current run) (n ∷ []) ≡ Some x) × (x.values ≡ values)
 

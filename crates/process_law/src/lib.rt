@@ -14,7 +14,7 @@ mod accounted;
 
 pub use accounted::{
     absorb, absorb_kept, again, begin, check, fork, fork_small, present, receive, retire,
-    return_to, returned, send, work,
+    return_to, returned, root, send, work,
 };
 
 /// The steps of processes that call, with the turns between them, are those of processes that obey.
@@ -34,8 +34,8 @@ pub fn each_call_is_allowed()
     ensures again { HandedOverIsSent }
 {}
 
-/// There is an account with every kind of call but a return, one with turns, a settlement and a return, and one with a retirement that a
-/// settlement kept, and that is absorbed then.
+/// There is an account with every kind of call but a return; one with turns, a settlement and a return; and one with a retirement and a message
+/// that a settlement kept: the one is absorbed then, and the other is handed over once more, with the new epoch, and received.
 pub fn a_family_is_possible()
     ensures family { AFamilyIsPossible }
     ensures returned { AReturnIsPossible }

@@ -1,0 +1,3 @@
+module recline
+
+go 1.19

@@ -14,7 +14,7 @@ file_calls disk = calls_of disk.known
 
 -- how many calls of it failed
 abbrev pub file_failures : {P : Type 0} → FileDisk P → ℕ
-file_failures disk = disk.failures
+file_failures disk = disk.failures.count
 
 -- what it holds now
 abbrev pub file_holds : {P : Type 0} → Unread → FileDisk P → List ℕ

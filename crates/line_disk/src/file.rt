@@ -3,14 +3,15 @@
 //!
 //! That the calls noted here are the calls made is read in this file, and not proved.
 
-ghost use Rattle.std.specs.Prelude.{◌≡◌, ◌+◌, ◌^◌, ◌<◌, ◌≤◌, [], IfOk, OnOk, length, take, vec_len};
+ghost use Rattle.std.specs.Prelude.{◌≡◌, ◌+◌, ◌^◌, ◌<◌, ◌≤◌, [], IfOk, IsSome, OnOk, length, take, vec_len};
 ghost use Rattle.line_disk.specs.Device.{KeepsModel, view_by};
 
-use crate::fault::device_failed;
 use crate::known::Known;
-use crate::{Device, Disk, DiskFault, Reach};
+use crate::trouble::Failures;
+use crate::{Device, Disk, DiskFault, FileCall, FileTrouble, Reach, Unopened};
 use std::alloc::{AllocError, Global};
-use std::fs::{File, OpenOptions};
+use std::fs::{File, OpenOptions, TryLockError};
+use std::io;
 use std::marker::PhantomData;
 use std::os::unix::fs::FileExt;
 use std::path::Path;
@@ -28,7 +29,7 @@ const PIECE: usize = 65_536;
 pub struct FileDisk<P: Device> {
     file: File,
     known: Known,
-    failures: u64,
+    failures: Failures,
     device: PhantomData<P>,
 }
 
@@ -39,25 +40,25 @@ fn zeros(alloc: Global, n: usize) -> Result<Vec<u8>, AllocError>
 }
 
 /// The length of a file, in bytes.
-fn length_of(file: &File) -> Result<usize, DiskFault> {
+fn length_of(file: &File) -> io::Result<usize> {
     match file.metadata() {
         Ok(metadata) => Ok(metadata.len() as usize),
-        Err(_) => Err(DiskFault::Device),
+        Err(error) => Err(error),
     }
 }
 
 /// Reads the next bytes of a file, so many, behind its first ones, which were read before.
-fn read_piece(file: &File, bytes: &mut Vec<u8>, n: usize) -> Result<(), DiskFault>
+fn read_piece(file: &File, bytes: &mut Vec<u8>, n: usize) -> Result<(), Unopened>
     requires { vec_len bytes.old + n < 2 ^ 64 }
     ensures more { OnOk result (vec_len bytes.new ≡ vec_len bytes.old + n) }
     ensures before { OnOk result (take (vec_len bytes.old) bytes.new.items ≡ bytes.old.items) }
 {
     let at = bytes.len();
     bytes.resize(at + n, 0)?;
-    if file.read_exact_at(&mut bytes[at..], at as u64).is_err() {
-        return Err(DiskFault::Device);
+    match file.read_exact_at(&mut bytes[at..], at as u64) {
+        Ok(()) => Ok(()),
+        Err(error) => Err(FileCall::Read.failed_by(error)),
     }
-    Ok(())
 }
 
 /// The first bytes of a file of this length, as far as they are wanted.
@@ -66,7 +67,7 @@ fn read_front<W: Reach>(
     file: &File,
     len: usize,
     reach: &mut W,
-) -> Result<Vec<u8>, DiskFault>
+) -> Result<Vec<u8>, Unopened>
     ensures { IfOk result (λ bytes. length bytes.items ≤ len) }
 {
     let mut bytes = Vec::new(alloc);
@@ -78,18 +79,37 @@ fn read_front<W: Reach>(
 }
 
 /// Syncs the folder of a file, so that a crash does not take the name of the file if it is new.
-fn sync_folder<R: Files<File = File>>(rt: &R, path: &str) -> Result<(), DiskFault> {
+fn sync_folder<R: Files<File = File>>(rt: &R, path: &str) -> Result<(), Unopened> {
     let Some(parent) = Path::new(path).parent() else {
-        return Err(DiskFault::Device);
+        return Err(Unopened::Device(FileCall::SyncFolder.found_otherwise()));
     };
     let name = parent.as_os_str();
     let folder = if name.is_empty() { "." } else { name };
-    let Ok(opened) = OpenOptions::new().read(true).open(rt, folder) else {
-        return Err(DiskFault::Device);
+    let synced = match OpenOptions::new().read(true).open(rt, folder) {
+        Ok(opened) => opened.sync_all(),
+        Err(error) => Err(error),
     };
-    match opened.sync_all() {
+    match synced {
         Ok(()) => Ok(()),
-        Err(_) => Err(DiskFault::Device),
+        Err(error) => Err(FileCall::SyncFolder.failed_by(error)),
+    }
+}
+
+/// Opens a file that no other program has open so, and locks it.
+fn open_locked<R: Files<File = File>>(rt: &R, path: &str) -> Result<File, Unopened> {
+    let opened = OpenOptions::new()
+        .read(true)
+        .write(true)
+        .create(true)
+        .open(rt, path);
+    let file = match opened {
+        Ok(file) => file,
+        Err(error) => return Err(FileCall::Open.failed_by(error)),
+    };
+    match file.try_lock() {
+        Ok(()) => Ok(file),
+        Err(TryLockError::WouldBlock) => Err(Unopened::Device(FileCall::Lock.found_otherwise())),
+        Err(TryLockError::Error(error)) => Err(FileCall::Lock.failed_by(error)),
     }
 }
 
@@ -104,22 +124,15 @@ impl<P: Device> FileDisk<P> {
         alloc: Global,
         path: &str,
         reach: &mut W,
-    ) -> Result<FileDisk<P>, DiskFault>
+    ) -> Result<FileDisk<P>, Unopened>
         ensures fresh { IfOk result (λ disk. file_calls disk ≡ []) }
         ensures failures { IfOk result (λ disk. file_failures disk ≡ 0) }
     {
-        let opened = OpenOptions::new()
-            .read(true)
-            .write(true)
-            .create(true)
-            .open(rt, path);
-        let Ok(file) = opened else {
-            return Err(DiskFault::Device);
+        let file = open_locked(rt, path)?;
+        let len = match length_of(&file) {
+            Ok(len) => len,
+            Err(error) => return Err(FileCall::Measure.failed_by(error)),
         };
-        if file.try_lock().is_err() {
-            return Err(DiskFault::Device);
-        }
-        let len = length_of(&file)?;
         let bytes = read_front(alloc, &file, len, reach)?;
         if len == 0 {
             sync_folder(rt, path)?;
@@ -127,9 +140,16 @@ impl<P: Device> FileDisk<P> {
         Ok(FileDisk {
             file,
             known: Known::new(bytes, len),
-            failures: 0,
+            failures: Failures::none(),
             device: PhantomData,
         })
+    }
+
+    /// The first call that failed since the file was opened, if one did.
+    pub fn trouble(&self) -> Option<FileTrouble>
+        ensures told { ¬ IsSome result → file_failures self.now ≡ 0 }
+    {
+        self.failures.first
     }
 }
 
@@ -141,20 +161,20 @@ impl<P: Device> Disk for FileDisk<P> {
 
     ghost keeps = { λ disk. KeepsModel P.leaves };
 
-    ghost failed = { λ disk. disk.failures };
+    ghost failed = { λ disk. disk.failures.count };
 
     ghost read_is_left = { λ disk keeps. read_left P.leaves (first_of P.unread disk.known) (calls_of disk.known) keeps };
 
     fn failures(&self) -> u64 {
-        self.failures
+        self.failures.count
     }
 
     /// A length that is not the known one is a fault of the device.
     fn len(&mut self) -> Result<usize, DiskFault> {
-        let length = self.file.metadata().map(|m| m.len() as usize);
+        let length = length_of(&self.file);
         match length {
             Ok(n) if !self.known.failed && n == self.known.len => Ok(n),
-            _ => Err(device_failed(&mut self.failures)),
+            other => Err(self.failures.add(FileCall::Measure, other.err())),
         }
     }
 
@@ -162,12 +182,12 @@ impl<P: Device> Disk for FileDisk<P> {
     /// copy: for these no memory is taken.
     fn read_at(&mut self, alloc: Global, at: usize, n: usize) -> Result<Vec<u8>, DiskFault> {
         if !self.known.covers(at, n) {
-            return Err(device_failed(&mut self.failures));
+            return Err(self.failures.add(FileCall::Read, None));
         }
         let mut bytes = zeros(alloc, n)?;
         let read = self.file.read_exact_at(&mut bytes, at as u64);
         if read.is_err() || !self.known.has(at, &bytes) {
-            return Err(device_failed(&mut self.failures));
+            return Err(self.failures.add(FileCall::Read, read.err()));
         }
         Ok(bytes)
     }
@@ -175,36 +195,39 @@ impl<P: Device> Disk for FileDisk<P> {
     fn write_at(&mut self, at: usize, bytes: &[u8]) -> Result<(), DiskFault> {
         let fits = at.checked_add(bytes.len()).is_some();
         if self.known.failed || !fits || at > self.known.len {
-            return Err(device_failed(&mut self.failures));
+            return Err(self.failures.add(FileCall::Write, None));
         }
-        let done = self.file.write_all_at(bytes, at as u64).is_ok();
+        let written = self.file.write_all_at(bytes, at as u64);
+        let done = written.is_ok();
         self.known.wrote(at, bytes, done);
         if !done {
-            return Err(device_failed(&mut self.failures));
+            return Err(self.failures.add(FileCall::Write, written.err()));
         }
         Ok(())
     }
 
     fn cut(&mut self, len: usize) -> Result<(), DiskFault> {
         if self.known.failed || len > self.known.len {
-            return Err(device_failed(&mut self.failures));
+            return Err(self.failures.add(FileCall::Cut, None));
         }
-        let done = self.file.set_len(len as u64).is_ok();
+        let cut = self.file.set_len(len as u64);
+        let done = cut.is_ok();
         self.known.cut(len, done);
         if !done {
-            return Err(device_failed(&mut self.failures));
+            return Err(self.failures.add(FileCall::Cut, cut.err()));
         }
         Ok(())
     }
 
     fn sync(&mut self) -> Result<(), DiskFault> {
         if self.known.failed {
-            return Err(device_failed(&mut self.failures));
+            return Err(self.failures.add(FileCall::Sync, None));
         }
-        let done = self.file.sync_all().is_ok();
+        let synced = self.file.sync_all();
+        let done = synced.is_ok();
         self.known.synced(done);
         if !done {
-            return Err(device_failed(&mut self.failures));
+            return Err(self.failures.add(FileCall::Sync, synced.err()));
         }
         Ok(())
     }

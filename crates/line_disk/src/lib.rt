@@ -19,6 +19,7 @@ mod overwrite;
 mod plan;
 mod reach;
 mod tape;
+mod trouble;
 
 pub use device::{Device, Modelled, modelled_leaves_most, the_premise_is_open};
 pub use disk::Disk;
@@ -28,3 +29,4 @@ pub use memory::MemoryDisk;
 pub use null::NullDisk;
 pub use plan::{Effect, Planned};
 pub use reach::{Reach, WholeFile};
+pub use trouble::{FileCall, FileTrouble, Unopened};

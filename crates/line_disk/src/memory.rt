@@ -45,6 +45,19 @@ impl MemoryDisk {
         })
     }
 
+    /// The same, with room from the start to note so many calls that change it: these take no memory for their notes.
+    pub fn with_room(alloc: Global, bytes: &[u8], changes: usize) -> Result<MemoryDisk, AllocError>
+        ensures bytes { IfOk result (λ disk. bytes_of disk ≡ bytes.now) }
+        ensures durable { IfOk result (λ disk. LeavesOnly (disk_view disk) bytes.now) }
+        ensures no_call { IfOk result (λ disk. (disk_view disk).clock ≡ 0) }
+        ensures never_failed { IfOk result (λ disk. disk_failures disk ≡ 0) }
+        ensures no_plan { IfOk result (λ disk. plan_of disk ≡ []) }
+    {
+        let mut disk = MemoryDisk::new(alloc, bytes)?;
+        disk.tape.changes.reserve(changes)?;
+        Ok(disk)
+    }
+
     /// Makes the k-th call fail, counted from 1 and from the first call of all. Of two plans for one call the first holds.
     pub fn fail_call(&mut self, k: usize, effect: Effect) -> Result<(), AllocError>
         ensures ok { OnOk result (plan_of self.new ≡ plan_of self.old ++ record { call = k; effect = effect } ∷ []) }

@@ -1,4 +1,4 @@
--- Replies that have gone before the next turn.
+-- Replies that have gone before the next turn, or before an ending line.
 use Rattle.std.proofs.Common.{◌≡◌, ℕ, ◌+◌, ◌-◌, ◌≤◌, ◌<◌, List, [], ◌∷◌, ◌++◌, length, take, refl, sym, ap, subst, ◌∙◌, append-nil, arith, inl, inr}
 use Rattle.std.specs.Io.KnownBytes.{Appends}
 use Rattle.std.proofs.lemmas.List.{length-append, take-append-le}
@@ -77,6 +77,6 @@ gone_then told link mid es fs m n before same written sound behind =
       last = gone_last told link mid es fs m n before same written sound behind;
     }
 
--- a larger count, which counts no further reply
+-- another count, which reaches the number of the replies only where the first one does
 pub gone_counted : {K : Type 0} (told : K → LinkState) (link : K) (es : List Exchange) (count total : ℕ) → (length es ≤ total → length es ≤ count) → EachHasGone told link es count → EachHasGone told link es total
 gone_counted told link es count total counted gone = record { before_each = gone.before_each; last = λ some all. gone.last some (counted all) }

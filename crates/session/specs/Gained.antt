@@ -30,8 +30,8 @@ pub record Gains (old : PassState) (exchanges : List Exchange) (new : PassState)
   pub number : new.number ≡ old.number
 
 -- A session over a pass: what each read gave, the session text of it, which was written, and the exchanges, which are those of the
--- entries that the pass gained; before each turn all earlier replies had gone; and what the link tells then: it was ended as the last
--- thing, since no call failed behind its end.
+-- entries that the pass gained; before each turn all earlier replies had gone, and before an ending line all replies; and what the link
+-- tells then: it was ended as the last thing, since no call failed behind its end.
 pub record LinkServed {K : Type 0} (told : K → LinkState) (before now : K) (fresh pass : PassState) (kind : Kind) (count : ℕ) : Type 0 where
   pub pieces : List (List ℕ)
   pub turned : List Exchange

@@ -126,8 +126,8 @@ HandsOn when end old new result =
     ((when ≡ hand_ons.EachReply → one_reply end ≡ 0) × (result ≡ end) × (new ≡ old))
     ⊎ ((one_reply end ≡ 1) × ((tried : Result (Unit {0}) LinkFault) × IsHandOn old new tried × (result ≡ end_after tried end)))
 
--- Lines were served; where each reply is handed on, and none waited before, all earlier ones had gone before each turn, and where it
--- goes on none waits.
+-- Lines were served; where each reply is handed on, and none waited before, all earlier ones had gone before each turn, the last one
+-- where it is counted, and where it goes on none waits.
 pub record ServesLines {S K : Type 0} (makes : S → List Exchange → S → Type 0) (grounds : S → Grounds) (told : K → LinkState) (when : HandOn) (old new : K) (lines : List (List ℕ)) (state after : S) (end : Option Kind) (count : ℕ) : Type 0 where
   pub served : Serves makes grounds (told old) (told new) lines state after end count
   pub gone : when ≡ hand_ons.EachReply → (told old).waiting ≡ [] → EachHasGone told old served.turned count
@@ -183,7 +183,7 @@ pub record Steps {S : Type 0} (makes : S → List Exchange → S → Type 0) (gr
   pub gave : GaveBy end piece
   pub reads : new.reads ≡ up 1 old.reads
 
--- the same, where each reply is handed on: all earlier ones had gone before each turn
+-- the same, where each reply is handed on: all earlier ones had gone before each turn, and the last one where it is counted
 pub record StepsOn {S K : Type 0} (makes : S → List Exchange → S → Type 0) (grounds : S → Grounds) (told : K → LinkState) (when : HandOn) (old new : K) (stand stand_after : Stand) (state after : S) (end : Option Kind) (count : ℕ) : Type 0 where
   pub steps : Steps makes grounds (told old) (told new) stand stand_after state after end count
   pub gone : when ≡ hand_ons.EachReply → (told old).waiting ≡ [] → EachHasGone told old steps.turned count

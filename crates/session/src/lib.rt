@@ -1,7 +1,7 @@
 //! Clients: lines in, replies out.
 //!
 //! A session reads some bytes, answers each line that they complete, hands the replies on, and only then reads on; or it hands on each
-//! reply before the next line's turn. One client is served over a desk, or many over a coordinator by several threads.
+//! reply before the next line's turn, or before an ending line. One client is served over a desk, or many over a coordinator by several threads.
 #![tactic(auto)]
 
 mod handing;

@@ -1,20 +1,21 @@
 //! Following a script: its world, what is accepted of it, and what a picture shows of it.
 
 use crate::ending::Ending;
-use crate::scene::Scene;
+use crate::scripted::Scripted;
+use crate::telling::Said;
 use chains::{Chains, No};
-use driver::{Step, StepFault, World};
+use driver::{Act, Step, StepFault, World};
 use propagate::settle_named;
-use report_line::{Code, Name, Names, PackedReport, Report};
+use report_line::{Code, Name, Names, PackedReport};
 use script::{Cause, cut_line, line_for, read_root, read_settle, read_step};
-use std::alloc::Global;
+use std::alloc::{AllocError, Global};
 
 /// A script so far.
 #[derive(Drop)]
 pub(crate) struct Followed {
     world: World,
     pub(crate) chains: Chains,
-    pub(crate) scene: Scene,
+    pub(crate) scripted: Scripted,
 }
 
 /// Why a line stops the script.
@@ -42,30 +43,46 @@ fn stop_for(refused: No) -> Stop {
 }
 
 /// Has the report accepted.
-fn admit(chains: &mut Chains, report: Report) -> Result<(), Stop> {
-    match chains.admit(&PackedReport::of(report), chains.epoch()) {
+fn admit(chains: &mut Chains, report: &PackedReport) -> Result<(), Stop> {
+    match chains.admit(report, chains.epoch()) {
         Ok(_) => Ok(()),
         Err(refused) => Err(stop_for(refused)),
     }
 }
 
+/// The steps of a script of at most so many lines tell what is reported of them: stamps would make the picture of a longer one some times as large.
+const MOST_TOLD: usize = 1_000;
+
+/// Whether a script has no more lines than that.
+fn is_short(script: &[u8]) -> bool {
+    let mut rest = script;
+    for _ in 0..MOST_TOLD {
+        let Some((_, behind)) = cut_line(rest) else {
+            return true;
+        };
+        rest = behind;
+    }
+    cut_line(rest).is_none()
+}
+
 /// The beginning by the first line.
-fn begin(alloc: Global, line: &[u8]) -> Result<Followed, Stop> {
+fn begin(alloc: Global, line: &[u8], tells: bool) -> Result<Followed, Stop> {
     let Some(root) = read_root(line) else {
         return Err(Stop::Refused(Cause::Grammar));
     };
-    let Ok(scene) = Scene::begun(alloc, root.copy()) else {
-        return Err(Stop::Memory);
-    };
-    let Ok((world, report)) = World::start(alloc, root) else {
+    let Ok((world, report)) = World::start(alloc, root.copy()) else {
         return Err(Stop::Refused(Cause::Fault(StepFault::Memory)));
     };
+    let report = PackedReport::of(report);
+    let Ok(scripted) = Scripted::begun(alloc, root, &report, tells) else {
+        return Err(Stop::Memory);
+    };
     let mut chains = Chains::new(alloc);
-    match admit(&mut chains, report) {
+    match admit(&mut chains, &report) {
         Ok(()) => Ok(Followed {
             world,
             chains,
-            scene,
+            scripted,
         }),
         Err(stop) => Err(stop),
     }
@@ -100,7 +117,7 @@ fn settle(followed: &mut Followed, names: &Names) -> Result<(), Stop> {
         Ok(()) => {}
         Err(stop) => return Err(stop),
     }
-    match followed.scene.settle(&line) {
+    match followed.scripted.settle(&line) {
         Ok(()) => Ok(()),
         Err(_) => Err(Stop::Memory),
     }
@@ -115,29 +132,64 @@ fn take_other(alloc: Global, followed: &mut Followed, line: &[u8]) -> Result<(),
     }
 }
 
+/// Has the report of a step accepted, and notes the step.
+fn take_report(followed: &mut Followed, step: &Step, report: &PackedReport) -> Result<(), Stop> {
+    let epoch = followed.chains.epoch();
+    match admit(&mut followed.chains, report) {
+        Ok(()) => {}
+        Err(stop) => return Err(stop),
+    }
+    match note_report(&mut followed.scripted, step, epoch, report) {
+        Ok(()) => Ok(()),
+        Err(_) => Err(Stop::Memory),
+    }
+}
+
+/// Notes a step that is reported so.
+fn note_report(
+    scripted: &mut Scripted,
+    step: &Step,
+    epoch: u32,
+    report: &PackedReport,
+) -> Result<(), AllocError> {
+    if !scripted.tells {
+        return scripted.note(step, Said::nothing(), Said::nothing());
+    }
+    let said = scripted.scene.texts.report(epoch, report)?;
+    let child = match step.act {
+        Act::Fork { .. } => scripted.scene.texts.child(epoch, report)?,
+        _ => Said::nothing(),
+    };
+    scripted.note(step, said, child)
+}
+
+/// Notes a step that is not reported.
+fn take_event(followed: &mut Followed, step: &Step) -> Result<(), Stop> {
+    match followed
+        .scripted
+        .note(step, Said::nothing(), Said::nothing())
+    {
+        Ok(()) => Ok(()),
+        Err(_) => Err(Stop::Memory),
+    }
+}
+
 /// Takes a step.
-fn take_step(followed: &mut Followed, step: Step) -> Result<(), Stop> {
+fn take_step(followed: &mut Followed, step: &Step) -> Result<(), Stop> {
     let given = match followed.world.step(step.copy()) {
         Ok(given) => given,
         Err(fault) => return Err(Stop::Refused(Cause::Fault(fault))),
     };
     match given {
-        None => {}
-        Some(report) => match admit(&mut followed.chains, report) {
-            Ok(()) => {}
-            Err(stop) => return Err(stop),
-        },
-    }
-    match followed.scene.note(&step) {
-        Ok(()) => Ok(()),
-        Err(_) => Err(Stop::Memory),
+        None => take_event(followed, step),
+        Some(report) => take_report(followed, step, &PackedReport::of(report)),
     }
 }
 
 /// Takes a line.
 fn go_on(alloc: Global, followed: &mut Followed, line: &[u8]) -> Result<(), Stop> {
     match read_step(line) {
-        Some(step) => take_step(followed, step),
+        Some(step) => take_step(followed, &step),
         None => take_other(alloc, followed, line),
     }
 }
@@ -163,7 +215,7 @@ pub(crate) fn follow(alloc: Global, script: &[u8]) -> (Option<Followed>, Ending)
     let Some((first, behind)) = cut_line(script) else {
         return (None, Ending::Done);
     };
-    match begin(alloc, first) {
+    match begin(alloc, first, is_short(script)) {
         Ok(begun) => {
             let mut followed = begun;
             let ending = go_through(alloc, &mut followed, behind);

@@ -1,5 +1,6 @@
 //! The line of a process in a picture.
 
+use crate::mark::Kind;
 use chains::Position;
 use report_line::Name;
 use std::alloc::{AllocError, Global};
@@ -14,33 +15,30 @@ pub(crate) struct Span {
     pub(crate) is_to_behind: bool,
 }
 
-/// An element that a settlement undid.
+/// A present state: its column, and which of the marks is its own.
 #[derive(Clone, Copy)]
-pub(crate) struct UndoneElement {
-    pub(crate) column: u32,
-    pub(crate) number: u32,
-    pub(crate) is_present: bool,
+pub(crate) struct PresentState {
+    column: u32,
+    mark: usize,
 }
 
-/// What settlements undid of a process.
-#[derive(Drop)]
-pub(crate) struct Undone {
-    pub(crate) lives: Vec<Span>,
-    pub(crate) elements: Vec<UndoneElement>,
-    pub(crate) ended: Vec<u32>,
-    pub(crate) retirements: Vec<u32>,
+/// What a step did to the line of its process: the number of the element that it made, or 0, and the mark of the present state that it
+/// ended.
+#[derive(Clone, Copy)]
+pub(crate) struct Noted {
+    pub(crate) element: u32,
+    pub(crate) ended: Option<usize>,
 }
 
-/// What a picture shows of a process. Columns count the steps before.
+/// What a picture shows of a process.
 #[derive(Drop)]
 pub(crate) struct Lane {
     pub(crate) name: Name,
+    pub(crate) is_born: bool,
     /// The columns of its birth and of its checkpoints.
     pub(crate) elements: Vec<u32>,
-    /// The column of its present state, while that stands.
-    pub(crate) present: Option<u32>,
-    /// The columns of the present states that another report ended.
-    pub(crate) ended: Vec<u32>,
+    /// Its present state, while that stands.
+    present: Option<PresentState>,
     pub(crate) birth: u32,
     /// The column of its last step, or of the settlement behind which it goes on.
     pub(crate) last: u32,
@@ -51,78 +49,104 @@ pub(crate) struct Lane {
     /// The last column that the last settlement kept, and whether it kept none.
     kept: u32,
     is_gone: bool,
-    pub(crate) undone: Undone,
+    /// What settlements undid of its life.
+    pub(crate) undone: Vec<Span>,
 }
 
 impl Lane {
-    /// A process at its birth.
-    pub(crate) fn born(alloc: Global, name: Name, column: u32) -> Result<Lane, AllocError> {
-        let mut elements = Vec::new(alloc);
-        elements.push(column)?;
-        Ok(Lane {
+    /// A process before its birth.
+    pub(crate) fn of(alloc: Global, name: Name) -> Lane {
+        Lane {
             name,
-            elements,
+            is_born: false,
+            elements: Vec::new(alloc),
             present: None,
-            ended: Vec::new(alloc),
-            birth: column,
-            last: column,
+            birth: 0,
+            last: 0,
             is_retired: false,
-            since: column,
+            since: 0,
             lives: Vec::new(alloc),
             kept: u32::MAX,
             is_gone: false,
-            undone: Undone {
-                lives: Vec::new(alloc),
-                elements: Vec::new(alloc),
-                ended: Vec::new(alloc),
-                retirements: Vec::new(alloc),
-            },
+            undone: Vec::new(alloc),
+        }
+    }
+
+    /// How many elements stand, the present state left out.
+    pub(crate) fn lasting(&self) -> u32 {
+        counted(self.elements.len())
+    }
+
+    /// Notes a step in this column, whose mark is that of this number.
+    pub(crate) fn note(
+        &mut self,
+        kind: Kind,
+        column: u32,
+        mark: usize,
+    ) -> Result<Noted, AllocError> {
+        let ended = match self.present {
+            None => None,
+            Some(present) => Some(present.mark),
+        };
+        self.last = column;
+        match kind {
+            Kind::Event => return Ok(unnumbered(None)),
+            Kind::Birth => self.be_born(column),
+            Kind::Checkpoint => {}
+            Kind::Present | Kind::Passed => return Ok(self.be_present(column, mark, ended)),
+            Kind::Report => {
+                self.present = None;
+                return Ok(unnumbered(ended));
+            }
+            Kind::Retirement => {
+                self.present = None;
+                self.is_retired = true;
+                return Ok(unnumbered(ended));
+            }
+        }
+        self.present = None;
+        self.elements.push(column)?;
+        Ok(Noted {
+            element: self.lasting(),
+            ended,
         })
     }
 
-    /// Notes a report, which ends the present state.
-    pub(crate) fn end_present(&mut self) -> Result<(), AllocError> {
-        match self.present {
-            None => {}
-            Some(column) => self.ended.push(column)?,
-        }
-        self.present = None;
-        Ok(())
-    }
-
-    /// Notes a checkpoint.
-    pub(crate) fn check(&mut self, column: u32) -> Result<(), AllocError> {
-        self.end_present()?;
-        self.elements.push(column)?;
-        Ok(())
+    /// Its life begins.
+    fn be_born(&mut self, column: u32) {
+        self.is_born = true;
+        self.birth = column;
+        self.since = column;
     }
 
     /// Notes a present state.
-    pub(crate) fn be_present(&mut self, column: u32) -> Result<(), AllocError> {
-        self.end_present()?;
-        self.present = Some(column);
-        Ok(())
+    fn be_present(&mut self, column: u32, mark: usize, ended: Option<usize>) -> Noted {
+        self.present = Some(PresentState { column, mark });
+        Noted {
+            element: self.lasting().saturating_add(1),
+            ended,
+        }
     }
 
-    /// Notes its retirement.
-    pub(crate) fn retire(&mut self) -> Result<(), AllocError> {
-        self.end_present()?;
-        self.is_retired = true;
-        Ok(())
-    }
-
-    /// The column of this position; none where it is unborn.
-    pub(crate) fn column_of(&self, position: Position) -> Option<u32> {
-        let k = match position {
-            Position::Retired => return Some(self.last),
-            Position::At(k) => k,
-        };
+    /// The column of element k; none where it is unborn.
+    pub(crate) fn column_of_element(&self, k: u32) -> Option<u32> {
         if k == 0 {
             return None;
         }
         match self.elements.get(k as usize - 1) {
             Some(column) => Some(*column),
-            None => self.present,
+            None => match self.present {
+                None => None,
+                Some(present) => Some(present.column),
+            },
+        }
+    }
+
+    /// The column of this position; none where it is unborn.
+    pub(crate) fn column_of(&self, position: Position) -> Option<u32> {
+        match position {
+            Position::Retired => Some(self.last),
+            Position::At(k) => self.column_of_element(k),
         }
     }
 
@@ -148,7 +172,7 @@ impl Lane {
     pub(crate) fn return_to(&mut self, position: Position, column: u32) -> Result<(), AllocError> {
         match self.column_of(position) {
             None => {
-                self.undo_reports(0, None)?;
+                self.undo_reports(0, None);
                 self.undo_lives(None)?;
                 self.is_gone = true;
             }
@@ -159,7 +183,7 @@ impl Lane {
                         Position::At(k) => k as usize,
                         Position::Retired => self.elements.len(),
                     };
-                    self.undo_reports(elements, Some(kept))?;
+                    self.undo_reports(elements, Some(kept));
                     self.undo_lives(Some(kept))?;
                     self.since = column;
                     self.last = column;
@@ -169,20 +193,15 @@ impl Lane {
         Ok(())
     }
 
-    /// Undoes the elements but for so many, the states that were reported, and the retirement, where they are behind this column.
-    fn undo_reports(&mut self, elements: usize, kept: Option<u32>) -> Result<(), AllocError> {
-        if self.is_retired {
-            self.undone.retirements.push(self.last)?;
-            self.is_retired = false;
+    /// Undoes the elements but for so many, and the present state and the retirement, where they are behind this column.
+    fn undo_reports(&mut self, elements: usize, kept: Option<u32>) {
+        self.is_retired = false;
+        if let Some(present) = self.present
+            && is_behind(present.column, kept)
+        {
+            self.present = None;
         }
-        undo_present(
-            &mut self.present,
-            &self.elements,
-            kept,
-            &mut self.undone.elements,
-        )?;
-        undo_elements(&mut self.elements, elements, &mut self.undone.elements)?;
-        undo_ended(&mut self.ended, kept, &mut self.undone.ended)
+        self.elements.truncate(elements);
     }
 
     /// Undoes its life behind this column.
@@ -200,13 +219,18 @@ impl Lane {
             };
             match kept {
                 Some(kept) if span.from <= kept => {
-                    return part(span, kept, &mut self.lives, &mut self.undone.lives);
+                    return part(span, kept, &mut self.lives, &mut self.undone);
                 }
-                _ => self.undone.lives.push(span)?,
+                _ => self.undone.push(span)?,
             }
         }
         Ok(())
     }
+}
+
+/// What a step did that made no element.
+fn unnumbered(ended: Option<usize>) -> Noted {
+    Noted { element: 0, ended }
 }
 
 /// Whether this column is behind the one that is kept, if one is.
@@ -215,67 +239,6 @@ fn is_behind(column: u32, kept: Option<u32>) -> bool {
         None => true,
         Some(kept) => column > kept,
     }
-}
-
-/// Undoes the present state, where it is behind this column.
-fn undo_present(
-    present: &mut Option<u32>,
-    elements: &[u32],
-    kept: Option<u32>,
-    undone: &mut Vec<UndoneElement>,
-) -> Result<(), AllocError> {
-    let Some(column) = *present else {
-        return Ok(());
-    };
-    if !is_behind(column, kept) {
-        return Ok(());
-    }
-    undone.push(UndoneElement {
-        column,
-        number: counted(elements.len()).saturating_add(1),
-        is_present: true,
-    })?;
-    *present = None;
-    Ok(())
-}
-
-/// Undoes the elements but for the first ones.
-fn undo_elements(
-    elements: &mut Vec<u32>,
-    kept: usize,
-    undone: &mut Vec<UndoneElement>,
-) -> Result<(), AllocError> {
-    for _ in kept..elements.len() {
-        let number = counted(elements.len());
-        let Some(column) = elements.pop() else {
-            return Ok(());
-        };
-        undone.push(UndoneElement {
-            column,
-            number,
-            is_present: false,
-        })?;
-    }
-    Ok(())
-}
-
-/// Undoes the present states that ended, where they are behind this column.
-fn undo_ended(
-    ended: &mut Vec<u32>,
-    kept: Option<u32>,
-    undone: &mut Vec<u32>,
-) -> Result<(), AllocError> {
-    for _ in 0..ended.len() {
-        let Some(column) = ended.pop() else {
-            return Ok(());
-        };
-        if !is_behind(column, kept) {
-            ended.push(column)?;
-            return Ok(());
-        }
-        undone.push(column)?;
-    }
-    Ok(())
 }
 
 /// Parts a life at this column.
@@ -300,7 +263,7 @@ fn part(
     Ok(())
 }
 
-/// A number of processes, of which there are never so many.
-pub(crate) fn counted(processes: usize) -> u32 {
-    processes.min(4_294_967_295) as u32
+/// A number of processes or reports, of which there are never so many.
+pub(crate) fn counted(number: usize) -> u32 {
+    number.min(4_294_967_295) as u32
 }

@@ -1,20 +1,38 @@
-//! Pictures of scripts as SVG: the history of a world, its settlements, the recovery line through it, what each of these undoes, and what is
-//! obsolete.
+//! Pictures as SVG: of scripts, and of computations that really ran, by what was accepted of them. Both show a history, its settlements, the
+//! recovery line through it, what it undoes, and what is obsolete.
 //!
-//! Each process has a line of its own from its birth to its retirement, in order of birth, and each step or settlement a column of its own,
-//! in the order of the script. A process whose birth a settlement undid keeps its line, and a later one of its name has another. So a picture is laid out by plain arithmetic, and nothing in it stands on anything else.
+//! A scene has a row for each process, in order of birth, and a column for each step, which stands behind all that it comes right behind; so
+//! steps that are concurrent may share one. Two things make scenes: the steps of a script, with their messages; and the reports of chains,
+//! with what the stamps tell of who knew what. The layers of a picture are drawn over either.
 #![tactic(auto)]
 
+mod arrows;
+mod canvas;
 mod drawing;
 mod ending;
 mod following;
 mod frame;
+mod knowledge;
+mod labels;
 mod lane;
-mod layers;
+mod legend;
+mod lines;
+mod lives;
+mod looks;
+mod mark;
+mod marks;
 mod pen;
+mod placing;
+mod reason;
+mod recorded;
+mod reported;
 mod scene;
+mod scripted;
 mod shapes;
+mod sheet;
+mod telling;
 mod words;
 
 pub use drawing::draw;
 pub use ending::Ending;
+pub use recorded::draw_accepted;

@@ -1,11 +1,15 @@
 //! What a picture shows, whatever failed.
 
 use crate::lane::{Lane, counted};
+use crate::mark::{Kind, Mark};
+use crate::telling::{Said, Texts};
 use chains::{Place, Position};
-use driver::{Act, NamedPosition, Step};
-use indexmap::IndexMap;
+use driver::NamedPosition;
 use report_line::Name;
 use std::alloc::{AllocError, Global};
+
+/// How many columns stand at least between two settlements, for the words above them.
+const SETTLEMENT_ROOM: u32 = 3;
 
 /// A step of a process.
 #[derive(Clone, Copy)]
@@ -16,9 +20,11 @@ pub(crate) struct Spot {
 }
 
 /// How one step leads to another one.
-#[derive(Clone, Copy)]
+#[derive(Clone, Copy, PartialEq, Eq)]
 pub(crate) enum Tie {
     Message,
+    /// From behind an element to a report of another process, the first one that knows what is there.
+    Knowledge,
     Fork,
     Absorption,
 }
@@ -29,7 +35,22 @@ pub(crate) struct Arrow {
     pub(crate) tie: Tie,
     pub(crate) from: Spot,
     pub(crate) to: Spot,
+    /// The name of the message.
+    pub(crate) said: Said,
+    /// The number of the element that it comes from behind, of what is known, and whether it leads to an element.
+    pub(crate) element: u32,
+    pub(crate) is_to_element: bool,
     /// Whether a settlement undid where it leads.
+    pub(crate) is_undone: bool,
+}
+
+/// A message that was sent.
+#[derive(Clone, Copy)]
+pub(crate) struct Sent {
+    pub(crate) spot: Spot,
+    pub(crate) said: Said,
+    pub(crate) is_received: bool,
+    /// Whether a settlement undid its sending.
     pub(crate) is_undone: bool,
 }
 
@@ -46,149 +67,103 @@ pub(crate) struct Return {
 #[derive(Drop)]
 pub(crate) struct Settlement {
     pub(crate) column: u32,
-    /// Where each process that was known returned to, in order of birth.
+    /// Where each process that was known returned to, in order of birth, where that is told.
     pub(crate) returns: Vec<Return>,
 }
 
 /// The steps so far.
 #[derive(Drop)]
 pub(crate) struct Scene {
-    alloc: Global,
+    pub(crate) alloc: Global,
     pub(crate) lanes: Vec<Lane>,
+    pub(crate) marks: Vec<Mark>,
     pub(crate) arrows: Vec<Arrow>,
+    pub(crate) sent: Vec<Sent>,
     pub(crate) settlements: Vec<Settlement>,
+    pub(crate) texts: Texts,
     /// The rows of the processes that are known, in order of birth.
     known: Vec<u32>,
-    /// The row of each name, of those that had it the last one.
-    rows: IndexMap<Name, u32>,
-    /// The step that sent each message.
-    messages: IndexMap<Name, Spot>,
-    /// The column of the last step.
-    pub(crate) column: u32,
+    /// The column of the last settlement, behind which each later step stands.
+    floor: u32,
+    /// The greatest column so far.
+    pub(crate) last: u32,
 }
 
 impl Scene {
-    /// A root at its birth.
-    pub(crate) fn begun(alloc: Global, root: Name) -> Result<Scene, AllocError> {
-        let mut scene = Scene {
+    /// No steps.
+    pub(crate) fn new(alloc: Global) -> Scene {
+        Scene {
             alloc,
             lanes: Vec::new(alloc),
+            marks: Vec::new(alloc),
             arrows: Vec::new(alloc),
+            sent: Vec::new(alloc),
             settlements: Vec::new(alloc),
+            texts: Texts::new(alloc),
             known: Vec::new(alloc),
-            rows: IndexMap::new(alloc),
-            messages: IndexMap::new(alloc),
-            column: 0,
-        };
-        scene.bear(root)?;
-        Ok(scene)
+            floor: 0,
+            last: 0,
+        }
     }
 
-    /// A process is born.
-    fn bear(&mut self, name: Name) -> Result<u32, AllocError> {
+    /// A row for a process, below all others.
+    pub(crate) fn add(&mut self, name: Name) -> Result<u32, AllocError> {
         let number = counted(self.lanes.len());
-        self.rows.insert(name.copy(), number)?;
         self.known.push(number)?;
-        self.lanes.push(Lane::born(self.alloc, name, self.column)?)?;
+        self.lanes.push(Lane::of(self.alloc, name))?;
         Ok(number)
     }
 
-    /// Where the present step of this process stands, if there is such a process.
-    fn here(&self, process: &Name) -> Option<Spot> {
-        let lane = self.rows.get(process)?;
-        Some(Spot {
-            lane: *lane,
-            column: self.column,
-        })
+    /// Where the next step of this row stands, which comes right behind its last one and the one in this column.
+    pub(crate) fn next(&mut self, lane: u32, behind: u32) -> Spot {
+        let last = match self.lanes.get(lane as usize) {
+            None => 0,
+            Some(lane) => lane.last,
+        };
+        let column = last.max(self.floor).max(behind).saturating_add(1);
+        self.last = self.last.max(column);
+        Spot { lane, column }
     }
 
-    /// Notes what a step does to the line of its own process.
-    fn mark(&mut self, spot: Spot, act: &Act) -> Result<(), AllocError> {
+    /// Notes a step.
+    pub(crate) fn mark(&mut self, spot: Spot, kind: Kind, said: Said) -> Result<(), AllocError> {
         let Some(lane) = self.lanes.get_mut(spot.lane as usize) else {
             return Ok(());
         };
-        lane.last = spot.column;
-        match act {
-            Act::Check => lane.check(spot.column),
-            Act::Present => lane.be_present(spot.column),
-            Act::Retire { .. } => lane.retire(),
-            Act::Fork { .. } => lane.end_present(),
-            Act::Absorb { .. } => lane.end_present(),
-            Act::Work => Ok(()),
-            Act::Send { .. } => Ok(()),
-            Act::Receive { .. } => Ok(()),
+        let noted = lane.note(kind, spot.column, self.marks.len())?;
+        if let Some(ended) = noted.ended
+            && let Some(mark) = self.marks.get_mut(ended)
+        {
+            mark.kind = Kind::Passed;
         }
+        self.marks.push(Mark {
+            spot,
+            kind,
+            element: noted.element,
+            is_undone: false,
+            said,
+        })?;
+        Ok(())
     }
 
-    /// Notes an arrow.
-    fn tie(&mut self, tie: Tie, from: Option<Spot>, to: Spot) -> Result<(), AllocError> {
-        match from {
-            None => Ok(()),
-            Some(from) => {
-                self.arrows.push(Arrow {
-                    tie,
-                    from,
-                    to,
-                    is_undone: false,
-                })?;
-                Ok(())
-            }
-        }
+    /// Notes an arrow between two processes of one family.
+    pub(crate) fn tie(&mut self, tie: Tie, from: Spot, to: Spot) -> Result<(), AllocError> {
+        self.arrows.push(Arrow {
+            tie,
+            from,
+            to,
+            said: Said::nothing(),
+            element: 0,
+            is_to_element: tie == Tie::Fork,
+            is_undone: false,
+        })?;
+        Ok(())
     }
 
-    /// The last step of this process.
-    fn last_of(&self, process: &Name) -> Option<Spot> {
-        let number = self.rows.get(process)?;
-        let lane = self.lanes.get(*number as usize)?;
-        Some(Spot {
-            lane: *number,
-            column: lane.last,
-        })
-    }
-
-    /// Notes what a step has to do with other processes.
-    fn join(&mut self, spot: Spot, act: &Act) -> Result<(), AllocError> {
-        match act {
-            Act::Send { message } => {
-                self.messages.insert(message.copy(), spot)?;
-                Ok(())
-            }
-            Act::Receive { message } => {
-                let from = self.sent(message);
-                self.tie(Tie::Message, from, spot)
-            }
-            Act::Fork { child } => {
-                let lane = self.bear(child.copy())?;
-                let column = spot.column;
-                self.tie(Tie::Fork, Some(spot), Spot { lane, column })
-            }
-            Act::Absorb { retired } => {
-                let from = self.last_of(retired);
-                self.tie(Tie::Absorption, from, spot)
-            }
-            Act::Work => Ok(()),
-            Act::Check => Ok(()),
-            Act::Present => Ok(()),
-            Act::Retire { .. } => Ok(()),
-        }
-    }
-
-    /// The step that sent this message.
-    fn sent(&self, message: &Name) -> Option<Spot> {
-        let spot = self.messages.get(message)?;
-        Some(*spot)
-    }
-
-    /// Notes a step that a world took.
-    pub(crate) fn note(&mut self, step: &Step) -> Result<(), AllocError> {
-        self.column = self.column.saturating_add(1);
-        match self.here(&step.process) {
-            None => Ok(()),
-            Some(spot) => {
-                self.mark(spot, &step.act)?;
-                self.join(spot, &step.act)
-            }
-        }
+    /// The last step of this row.
+    pub(crate) fn last_of(&self, lane: u32) -> Option<Spot> {
+        let column = self.lanes.get(lane as usize)?.last;
+        Some(Spot { lane, column })
     }
 
     /// The row of the process of this number by order of birth.
@@ -211,17 +186,41 @@ impl Scene {
         Ok(positions)
     }
 
+    /// The column of a settlement that comes now.
+    fn settlement_column(&self) -> u32 {
+        let behind = self.last.saturating_add(1);
+        match self.settlements.last() {
+            None => behind,
+            Some(settlement) => behind.max(settlement.column.saturating_add(SETTLEMENT_ROOM)),
+        }
+    }
+
+    /// Notes a settlement in this column, by which processes returned so.
+    fn note_settlement(&mut self, column: u32, returns: Vec<Return>) -> Result<(), AllocError> {
+        self.floor = column;
+        self.last = column;
+        self.settlements.push(Settlement { column, returns })?;
+        Ok(())
+    }
+
     /// Notes that all processes that are known returned to a line, which has their positions in order of birth.
     pub(crate) fn settle(&mut self, line: &[NamedPosition]) -> Result<(), AllocError> {
-        self.column = self.column.saturating_add(1);
-        let returns = return_all(self.alloc, &self.known, &mut self.lanes, line, self.column)?;
-        undo_arrows(&mut self.arrows, &self.lanes);
+        let column = self.settlement_column();
+        let returns = return_all(self.alloc, &self.known, &mut self.lanes, line, column)?;
+        undo(
+            &mut self.marks,
+            &mut self.arrows,
+            &mut self.sent,
+            &self.lanes,
+        );
         self.known = still_known(self.alloc, &returns)?;
-        self.settlements.push(Settlement {
-            column: self.column,
-            returns,
-        })?;
-        Ok(())
+        self.note_settlement(column, returns)
+    }
+
+    /// Notes a settlement of which no more is known.
+    pub(crate) fn settle_somewhere(&mut self) -> Result<(), AllocError> {
+        let column = self.settlement_column();
+        self.note_settlement(column, Vec::new(self.alloc))
     }
 }
 
@@ -251,13 +250,29 @@ fn return_all(
     Ok(returns)
 }
 
-/// The arrows to what the last settlement undid are undone with it.
-fn undo_arrows(arrows: &mut [Arrow], lanes: &[Lane]) {
+/// Whether the last settlement undid this step, which was made before it.
+fn is_undone(lanes: &[Lane], spot: Spot) -> bool {
+    match lanes.get(spot.lane as usize) {
+        None => false,
+        Some(lane) => lane.is_undone(spot.column),
+    }
+}
+
+/// The steps that the last settlement undid are undone, and the arrows to them.
+fn undo(marks: &mut [Mark], arrows: &mut [Arrow], sent: &mut [Sent], lanes: &[Lane]) {
+    for mark in marks.iter_mut() {
+        if is_undone(lanes, mark.spot) {
+            mark.is_undone = true;
+        }
+    }
     for arrow in arrows.iter_mut() {
-        if let Some(lane) = lanes.get(arrow.to.lane as usize)
-            && lane.is_undone(arrow.to.column)
-        {
+        if is_undone(lanes, arrow.to) {
             arrow.is_undone = true;
+        }
+    }
+    for message in sent.iter_mut() {
+        if is_undone(lanes, message.spot) {
+            message.is_undone = true;
         }
     }
 }

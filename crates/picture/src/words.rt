@@ -73,8 +73,12 @@ fn write_places(svg: &mut Vec<u8>, scene: &Scene, places: &[Place]) -> Result<()
     Ok(())
 }
 
-/// Where each process returned to by a settlement.
+/// Where each process returned to by a settlement, where that is told.
 fn write_returns(svg: &mut Vec<u8>, lanes: &[Lane], returns: &[Return]) -> Result<(), AllocError> {
+    if returns.is_empty() {
+        return Ok(());
+    }
+    write(svg, &[Text(b":".as_slice())])?;
     for i in 0..returns.len() {
         write(svg, &[Text(comma(i))])?;
         write_name_in(svg, lanes, returns[i].lane)?;
@@ -88,11 +92,7 @@ pub(crate) fn write_settlements(svg: &mut Vec<u8>, scene: &Scene) -> Result<(), 
     for i in 0..scene.settlements.len() {
         write(
             svg,
-            &[
-                Text(b"Settlement ".as_slice()),
-                Number(i as u64 + 1),
-                Text(b":".as_slice()),
-            ],
+            &[Text(b"Settlement ".as_slice()), Number(i as u64 + 1)],
         )?;
         write_returns(svg, &scene.lanes, &scene.settlements[i].returns)?;
         write(svg, &[Text(b". ".as_slice())])?;
@@ -111,5 +111,43 @@ pub(crate) fn write_lines(
     write_places(svg, scene, line)?;
     write(svg, &[Text(b". Obsolete before:".as_slice())])?;
     write_places(svg, scene, obsolete)?;
+    write(svg, &[Text(b".".as_slice())])
+}
+
+/// Of which process the reason chain is shown, or that it has none.
+pub(crate) fn write_why(
+    svg: &mut Vec<u8>,
+    scene: &Scene,
+    process: u32,
+    stays: bool,
+) -> Result<(), AllocError> {
+    if stays {
+        write(svg, &[Text(b". ".as_slice())])?;
+        write_name(svg, scene, process)?;
+        write(
+            svg,
+            &[Text(b" stays at its last surviving position".as_slice())],
+        )
+    } else {
+        write(svg, &[Text(b". Why ".as_slice())])?;
+        write_name(svg, scene, process)?;
+        write(svg, &[Text(b" returns further".as_slice())])
+    }
+}
+
+/// The reason chain of a process, if it has one.
+pub(crate) fn write_reason(
+    svg: &mut Vec<u8>,
+    scene: &Scene,
+    process: u32,
+    chain: &[Place],
+) -> Result<(), AllocError> {
+    if chain.is_empty() {
+        return Ok(());
+    }
+    write(svg, &[Text(b" Reason chain of ".as_slice())])?;
+    write_name(svg, scene, process)?;
+    write(svg, &[Text(b":".as_slice())])?;
+    write_places(svg, scene, chain)?;
     write(svg, &[Text(b".".as_slice())])
 }

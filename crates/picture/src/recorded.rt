@@ -1,0 +1,98 @@
+//! Drawing a computation that really ran, by what was accepted of it.
+
+use crate::ending::Ending;
+use crate::knowledge::find_sources;
+use crate::placing::place_all;
+use crate::reason::chain_of;
+use crate::reported::Reports;
+use crate::sheet::{Subject, Why, picture};
+use chains::{Chains, Failed, FailedFault};
+use garbage_line::garbage;
+use propagate::certificate;
+use reasons::Certificate;
+use report_line::Name;
+use std::alloc::{AllocError, Global};
+
+/// Whom a picture is asked for: the failed processes, and the one of which the reason chain is shown.
+#[derive(Drop)]
+struct Asked {
+    failed: Failed,
+    why: Option<u32>,
+}
+
+/// The process of which the reason chain is shown, if it is asked for.
+fn why_in<'a>(line: &'a Certificate, why: Option<u32>) -> Option<Why<'a>> {
+    let process = why?;
+    match chain_of(line, process) {
+        None => Some(Why {
+            process,
+            chain: &[],
+        }),
+        Some(chain) => Some(Why {
+            process,
+            chain: chain.as_slice(),
+        }),
+    }
+}
+
+/// The picture of what these chains have, for whom it is asked.
+fn picture_of(chains: &Chains, asked: &Asked) -> Result<Vec<u8>, AllocError> {
+    let line = certificate(chains, &asked.failed)?;
+    let obsolete = garbage(chains)?;
+    let mut reports = Reports::of(chains)?;
+    find_sources(&mut reports, chains)?;
+    let scene = place_all(chains, &reports)?;
+    picture(
+        chains.alloc(),
+        Subject {
+            scene: &scene,
+            line: &line,
+            obsolete: &obsolete,
+            why: why_in(&line, asked.why),
+        },
+    )
+}
+
+/// The process of this name, if one is named.
+fn number_of(chains: &Chains, why: Option<&Name>) -> Result<Option<u32>, Ending> {
+    match why {
+        None => Ok(None),
+        Some(name) => match chains.number_of(name) {
+            None => Err(Ending::Unknown(name.copy())),
+            Some(process) => Ok(Some(process)),
+        },
+    }
+}
+
+/// Whom a picture is asked for by these names.
+fn asked_by(chains: &Chains, failed: &[Name], why: Option<&Name>) -> Result<Asked, Ending> {
+    let failed = match Failed::from_names(chains, failed) {
+        Ok(failed) => failed,
+        Err(FailedFault::Unknown(name)) => return Err(Ending::Unknown(name)),
+        Err(FailedFault::Memory) => return Err(Ending::Memory),
+    };
+    match number_of(chains, why) {
+        Ok(why) => Ok(Asked { failed, why }),
+        Err(ending) => Err(ending),
+    }
+}
+
+/// The picture of a computation by what was accepted of it, where the processes of these names failed: what each process reported, what each
+/// report is the first one of its process to know of others, the settlements, the recovery line, what it undoes, what is obsolete, and,
+/// where a process is named behind `why`, its reason chain. No reports have no picture: it is empty, and done, whatever the names.
+///
+/// `Unknown` has the first name that no process has, of `failed` and then of `why`. `Memory` comes where an allocation is refused. It ends
+/// in no other way than these and `Done`, and but for `Done` there is no picture.
+pub fn draw_accepted(chains: &Chains, failed: &[Name], why: Option<&Name>) -> (Vec<u8>, Ending) {
+    let none = Vec::new(chains.alloc());
+    if chains.is_empty() {
+        return (none, Ending::Done);
+    }
+    match asked_by(chains, failed, why) {
+        Ok(asked) => match picture_of(chains, &asked) {
+            Ok(svg) => (svg, Ending::Done),
+            Err(_) => (none, Ending::Memory),
+        },
+        Err(ending) => (none, ending),
+    }
+}

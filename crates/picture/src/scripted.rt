@@ -1,0 +1,181 @@
+//! The steps of a script in a scene.
+
+use crate::lane::counted;
+use crate::mark::Kind;
+use crate::scene::{Arrow, Scene, Sent, Spot, Tie};
+use crate::telling::Said;
+use driver::{Act, NamedPosition, Step};
+use indexmap::IndexMap;
+use report_line::{Name, PackedReport};
+use std::alloc::{AllocError, Global};
+
+/// The scene of a script so far.
+#[derive(Drop)]
+pub(crate) struct Scripted {
+    pub(crate) scene: Scene,
+    /// The row of each name, of those that had it the last one.
+    rows: IndexMap<Name, u32>,
+    /// Which of those that were sent each message is.
+    messages: IndexMap<Name, u32>,
+    /// Whether steps tell what is reported of them.
+    pub(crate) tells: bool,
+}
+
+impl Scripted {
+    /// A root at its birth, by the report of it.
+    pub(crate) fn begun(
+        alloc: Global,
+        root: Name,
+        report: &PackedReport,
+        tells: bool,
+    ) -> Result<Scripted, AllocError> {
+        let mut scripted = Scripted {
+            scene: Scene::new(alloc),
+            rows: IndexMap::new(alloc),
+            messages: IndexMap::new(alloc),
+            tells,
+        };
+        let said = scripted.scene.texts.report(0, report)?;
+        scripted.bear(root, 0, said)?;
+        Ok(scripted)
+    }
+
+    /// A process is born right behind this column.
+    fn bear(&mut self, name: Name, behind: u32, said: Said) -> Result<Spot, AllocError> {
+        let row = self.scene.add(name.copy())?;
+        self.rows.insert(name, row)?;
+        let spot = self.scene.next(row, behind);
+        self.scene.mark(spot, Kind::Birth, said)?;
+        Ok(spot)
+    }
+
+    /// The row of this process, if there is one.
+    fn row_of(&self, process: &Name) -> Option<u32> {
+        let row = self.rows.get(process)?;
+        Some(*row)
+    }
+
+    /// The last step of this process.
+    fn last_of(&self, process: &Name) -> Option<Spot> {
+        self.scene.last_of(self.row_of(process)?)
+    }
+
+    /// What was sent under this name, and which of the messages it is.
+    fn message(&self, name: &Name) -> Option<(u32, Sent)> {
+        let which = *self.messages.get(name)?;
+        let sent = *self.scene.sent.get(which as usize)?;
+        Some((which, sent))
+    }
+
+    /// The step that this one comes right behind, of another process.
+    fn behind(&self, act: &Act) -> Option<Spot> {
+        match act {
+            Act::Receive { message } => {
+                let (_, sent) = self.message(message)?;
+                Some(sent.spot)
+            }
+            Act::Absorb { retired } => self.last_of(retired),
+            Act::Work
+            | Act::Check
+            | Act::Present
+            | Act::Send { .. }
+            | Act::Fork { .. }
+            | Act::Retire { .. } => None,
+        }
+    }
+
+    /// Notes that a message was sent.
+    fn send(&mut self, name: &Name, spot: Spot) -> Result<(), AllocError> {
+        let which = counted(self.scene.sent.len());
+        let said = self.scene.texts.name(name)?;
+        self.messages.insert(name.copy(), which)?;
+        self.scene.sent.push(Sent {
+            spot,
+            said,
+            is_received: false,
+            is_undone: false,
+        })?;
+        Ok(())
+    }
+
+    /// Notes that a message was received.
+    fn receive(&mut self, name: &Name, spot: Spot) -> Result<(), AllocError> {
+        let Some((which, sent)) = self.message(name) else {
+            return Ok(());
+        };
+        if let Some(sent) = self.scene.sent.get_mut(which as usize) {
+            sent.is_received = true;
+        }
+        self.scene.arrows.push(Arrow {
+            tie: Tie::Message,
+            from: sent.spot,
+            to: spot,
+            said: sent.said,
+            element: 0,
+            is_to_element: false,
+            is_undone: false,
+        })?;
+        Ok(())
+    }
+
+    /// Notes a fork, of which the child has this to tell.
+    fn fork(&mut self, child: &Name, spot: Spot, said: Said) -> Result<(), AllocError> {
+        let birth = self.bear(child.copy(), spot.column, said)?;
+        self.scene.tie(Tie::Fork, spot, birth)
+    }
+
+    /// Notes what a step has to do with other processes, which comes right behind that of one of them, if it does.
+    fn join(
+        &mut self,
+        spot: Spot,
+        act: &Act,
+        behind: Option<Spot>,
+        child: Said,
+    ) -> Result<(), AllocError> {
+        match act {
+            Act::Send { message } => self.send(message, spot),
+            Act::Receive { message } => self.receive(message, spot),
+            Act::Fork { child: name } => self.fork(name, spot, child),
+            Act::Absorb { .. } => match behind {
+                None => Ok(()),
+                Some(from) => self.scene.tie(Tie::Absorption, from, spot),
+            },
+            Act::Work | Act::Check | Act::Present | Act::Retire { .. } => Ok(()),
+        }
+    }
+
+    /// Notes a step that a world took, with what it has to tell, and its child where it made one.
+    pub(crate) fn note(&mut self, step: &Step, said: Said, child: Said) -> Result<(), AllocError> {
+        let Some(row) = self.row_of(&step.process) else {
+            return Ok(());
+        };
+        let behind = self.behind(&step.act);
+        let spot = self.scene.next(row, column_of(behind));
+        self.scene.mark(spot, kind_of(&step.act), said)?;
+        self.join(spot, &step.act, behind, child)
+    }
+
+    /// Notes that all processes that are known returned to a line, which has their positions in order of birth.
+    pub(crate) fn settle(&mut self, line: &[NamedPosition]) -> Result<(), AllocError> {
+        self.scene.settle(line)
+    }
+}
+
+/// The column of a step, if there is one.
+fn column_of(spot: Option<Spot>) -> u32 {
+    match spot {
+        None => 0,
+        Some(spot) => spot.column,
+    }
+}
+
+/// What a step is.
+fn kind_of(act: &Act) -> Kind {
+    match act {
+        Act::Check => Kind::Checkpoint,
+        Act::Present => Kind::Present,
+        Act::Retire { .. } => Kind::Retirement,
+        Act::Fork { .. } | Act::Absorb { .. } => Kind::Report,
+        Act::Work | Act::Send { .. } | Act::Receive { .. } => Kind::Event,
+    }
+}

@@ -8,7 +8,7 @@ use Rattle.std.specs.Prelude.{Result, IfOk}
 use Rattle.std.proofs.lemmas.Result.{IfOk-weaker}
 use Rattle.clap.specs.Kinds.{FailsBy, HasKind, Kinds, or_else}
 use Rattle.clap.specs.declared.error.Error.{Error}
-use Rattle.command_line.specs.declared.args.Command.{Command}
+use Rattle.command_line.specs.declared.args.Wanted.{Wanted}
 use Rattle.clap.specs.Walk.{Held, Names, Outcome, Row, Rule, Step, Text, Waiting, Walk, after_flag, after_step, answers_to, arg_by_index, arg_by_long, bundle, done, finished, idle, long_met, long_or_other, next, nothing_held, option, plain, plain_word, positional, refused, rows_after, short_or_plain, subcommand, subcommand_met, subcommand_or_other, to_positional, trailing, value, waits, walk, walk_from, walked, walked_from, word_met}
 use Rattle.clap.specs.Simple.{App, Shape, argument_words, built, entered, label_of, names_of, rows_at}
 use Rattle.clap.specs.Faults.{check_fault, entered_fault, fault_of, is_simple_and_free, level_fault, other_fault, settle_fault, turn_fault, walk_fault, word_fault}
@@ -21,7 +21,7 @@ use Rattle.std.specs.Prelude.{◌||◌, option_map, find, Box}
 use Rattle.std.specs.List.{list_all}
 use Rattle.std.specs.Box.{box_value}
 use Rattle.command_line.specs.Arguments.{AsksFor, Selects, parse_refusals, program, refusals, value_refusals}
-use Rattle.command_line.specs.Parts.{HasWanted, IsAnswer, is_command, wanted_by}
+use Rattle.command_line.specs.Parts.{HasWanted, IsWanted, is_command, wanted_by}
 use Rattle.command_line.proofs.Given.{wanted_first, wants}
 use Rattle.command_line.proofs.Lists.{all_among, all_found, found, or_passes}
 
@@ -243,10 +243,10 @@ is_named made words m name rows same parsed has name_is rows_are =
 
 -- ---- what `read_args` answers
 
-pub asks_for : (words : List Text) (name : Text) (rows : List Row) (answer : Result Command Error) → IsNamed words name rows → IsAnswer name rows answer → IfOk answer (AsksFor words)
-asks_for words name rows answer h is = IfOk-weaker answer _ _ (λ command has. (rows, subst (λ (t : Text). Selects words t rows) (sym has.0) h.selects, has.1)) is.0
+pub asks_for : (words : List Text) (name : Text) (rows : List Row) (answer : Result Wanted Error) → IsNamed words name rows → IsWanted name rows answer → IfOk answer (AsksFor words)
+asks_for words name rows answer h is = IfOk-weaker answer _ _ (λ wanted has. (rows, subst (λ (t : Text). Selects words t rows) (sym has.0) h.selects, has.1, has.2)) is.0
 
-pub fails_by : (words : List Text) (name : Text) (rows : List Row) (answer : Result Command Error) → IsNamed words name rows → IsAnswer name rows answer → FailsBy (refusals words) answer
+pub fails_by : (words : List Text) (name : Text) (rows : List Row) (answer : Result Wanted Error) → IsNamed words name rows → IsWanted name rows answer → FailsBy (refusals words) answer
 fails_by words name rows answer h is = rw (h.selects.0, h.selects.1) is.1
 
 -- what was parsed as `program` was refused by one of its kinds

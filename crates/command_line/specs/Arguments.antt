@@ -13,6 +13,7 @@ use Rattle.clap.specs.declared.error.kind.ErrorKind.TheVariants as kinds
 use Rattle.clap.specs.Simple.{on_top}
 use Rattle.command_line.specs.declared.args.Command.{Command}
 use Rattle.command_line.specs.declared.args.Command.TheVariants as commands
+use Rattle.command_line.specs.declared.args.Wanted.{Wanted}
 
 -- an argument that is one word, and is wanted
 abbrev pub wanted_rule : Text → Rule
@@ -71,13 +72,17 @@ show = command_with (codes "show") (wanted_rule (codes "FILE") ∷ front_rule �
 abbrev pub explain : App
 explain = command_with (codes "explain") (new_rule (codes "LINE") ∷ [])
 
--- the command `drive`, which takes the path of a script
+-- the command `drive`, which takes the path of a script, and may be given a flag
 abbrev pub drive : App
-drive = command_with (codes "drive") (wanted_rule (codes "SCRIPT") ∷ [])
+drive = command_with (codes "drive") (wanted_rule (codes "SCRIPT") ∷ flag_rule (codes "comments") ∷ [])
 
--- the command `draw`, which takes the path of a script, and may be given the names of the processes that failed
+-- the command `draw` with what says what is drawn: the path of a script, with comments or without, or with a flag that of a record file
+abbrev pub draw_wants : App
+draw_wants = command_with (codes "draw") (wanted_rule (codes "SCRIPT") ∷ flag_rule (codes "comments") ∷ flag_rule (codes "records") ∷ [])
+
+-- and it may be given the names of the processes that failed, that of one whose reasons are drawn, and a front
 abbrev pub draw : App
-draw = command_with (codes "draw") (wanted_rule (codes "SCRIPT") ∷ option_rule (codes "failed") ∷ [])
+draw = fold with_rule draw_wants (option_rule (codes "failed") ∷ option_rule (codes "why") ∷ front_rule ∷ [])
 
 -- the program by itself: it has a version, and one of its commands is wanted
 abbrev pub alone : App
@@ -87,9 +92,14 @@ alone = on_top (λ s. record s { has_version = true; subcommand_required = true 
 abbrev pub with_commands : App → List App → App
 with_commands above more = fold (λ a c. with_subcommand a c.top) above more
 
--- the commands, as the help has them
+-- the flag of this command, too, by which faults say why
+abbrev pub with_why : App → App
+with_why command = with_rule command (flag_rule (codes "explain"))
+
+-- the commands, as the help has them; all that open something have that flag
 abbrev pub each_command : List App
-each_command = run ∷ serve ∷ check ∷ line ∷ garbage ∷ show ∷ explain ∷ drive ∷ draw ∷ []
+each_command =
+    with_why run ∷ with_why serve ∷ with_why check ∷ with_why line ∷ with_why garbage ∷ with_why show ∷ explain ∷ with_why drive ∷ with_why draw ∷ []
 
 -- the program with its commands
 abbrev pub program : App
@@ -115,7 +125,7 @@ has_numbers_of_serve rows =
 
 -- the commands that may be asked over the first records alone
 abbrev pub takes_front : Text → Bool
-takes_front name = list_any (bytes_eq name) (codes "check" ∷ codes "line" ∷ codes "garbage" ∷ codes "show" ∷ [])
+takes_front name = list_any (bytes_eq name) (codes "check" ∷ codes "line" ∷ codes "garbage" ∷ codes "show" ∷ codes "draw" ∷ [])
 
 -- how many records that is lies within its limits, if it is given
 abbrev pub has_front : List Row → Bool
@@ -165,8 +175,8 @@ name_of (commands.Line file failed at) = codes "line"
 name_of (commands.Garbage file at) = codes "garbage"
 name_of (commands.Show file at reports json) = codes "show"
 name_of (commands.Explain given) = codes "explain"
-name_of (commands.Drive script) = codes "drive"
-name_of (commands.Draw script failed) = codes "draw"
+name_of (commands.Drive script comments) = codes "drive"
+name_of (commands.Draw path comments records failed why at) = codes "draw"
 
 -- the rows have the values of the command
 abbrev pub HasValues : List Row → Command → Type 0
@@ -182,10 +192,13 @@ HasValues rows (commands.Garbage file at) = (first_of (codes "FILE") rows ≡ So
 HasValues rows (commands.Show file at reports json) =
     (first_of (codes "FILE") rows ≡ Some file.now) × IsFront rows at × (is_set (first_of (codes "reports") rows) ≡ reports) × (is_set (first_of (codes "json") rows) ≡ json)
 HasValues rows (commands.Explain given) = first_of (codes "LINE") rows ≡ option_map (λ s. s.now) given
-HasValues rows (commands.Drive script) = first_of (codes "SCRIPT") rows ≡ Some script.now
-HasValues rows (commands.Draw script failed) =
-    (first_of (codes "SCRIPT") rows ≡ Some script.now) × (first_of (codes "failed") rows ≡ option_map (λ s. s.now) failed)
+HasValues rows (commands.Drive script comments) =
+    (first_of (codes "SCRIPT") rows ≡ Some script.now) × (is_set (first_of (codes "comments") rows) ≡ comments)
+HasValues rows (commands.Draw path comments records failed why at) =
+    (first_of (codes "SCRIPT") rows ≡ Some path.now) × (is_set (first_of (codes "comments") rows) ≡ comments) × (is_set (first_of (codes "records") rows) ≡ records)
+    × (first_of (codes "failed") rows ≡ option_map (λ s. s.now) failed) × (first_of (codes "why") rows ≡ option_map (λ s. s.now) why) × IsFront rows at
 
--- the words ask for the command
-abbrev pub AsksFor : List Text → Command → Type 0
-AsksFor words command = (rows : List Row) × Selects words (name_of command) rows × HasValues rows command
+-- the words ask for the command, and for why it fails or not
+abbrev pub AsksFor : List Text → Wanted → Type 0
+AsksFor words wanted =
+    (rows : List Row) × Selects words (name_of wanted.command) rows × HasValues rows wanted.command × (is_set (first_of (codes "explain") rows) ≡ wanted.explain)

@@ -1,5 +1,5 @@
 -- What the parts of the reader say to one another, in the terms of `Arguments`.
-use Rattle.std.specs.Prelude.{◌≡◌, ◌&&◌, Bool, true, false, List, [], map, filter, flat_map, Some, is_some, if◌then◌else◌, Result, IfOk}
+use Rattle.std.specs.Prelude.{◌≡◌, ◌&&◌, Bool, true, false, List, [], map, filter, flat_map, Some, is_some, if◌then◌else◌, codes, Result, IfOk}
 use Rattle.std.specs.List.{list_any}
 use Rattle.std.specs.Str.{bytes_eq}
 use Rattle.clap.specs.Words.{FailsBy, Row, Text, first_of, found_of, rows_of}
@@ -9,7 +9,8 @@ use Rattle.clap.specs.declared.parser.matches.ArgMatches.{ArgMatches}
 use Rattle.clap.specs.declared.builder.command.Command.{Command as Made}
 use Rattle.clap.specs.declared.builder.command.Command.TheViews.{out-Command}
 use Rattle.command_line.specs.declared.args.Command.{Command}
-use Rattle.command_line.specs.Arguments.{HasValues, each_command, name_of, value_refusals}
+use Rattle.command_line.specs.declared.args.Wanted.{Wanted}
+use Rattle.command_line.specs.Arguments.{HasValues, each_command, is_set, name_of, value_refusals}
 
 -- no argument of the command counts for its subcommands, too
 abbrev pub IsLocal : Made → Type 0
@@ -35,3 +36,9 @@ HasWanted name rows = (key : Text) → list_any (bytes_eq key) (wanted_by name) 
 -- the answer is the command of this name with these values, or the refusal of one of them
 abbrev pub IsAnswer : Text → List Row → Result Command Error → Type 0
 IsAnswer name rows answer = IfOk answer (λ command. (name_of command ≡ name) × HasValues rows command) × FailsBy (value_refusals (Some (name, rows))) answer
+
+-- the same, where the answer says, too, whether faults say why
+abbrev pub IsWanted : Text → List Row → Result Wanted Error → Type 0
+IsWanted name rows answer =
+    IfOk answer (λ wanted. (name_of wanted.command ≡ name) × HasValues rows wanted.command × (is_set (first_of (codes "explain") rows) ≡ wanted.explain))
+    × FailsBy (value_refusals (Some (name, rows))) answer

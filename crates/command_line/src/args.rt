@@ -3,8 +3,8 @@
 ghost use Rattle.std.specs.Prelude.{◌≡◌, ◌≤◌, [], ◌∷◌, IfNone, IfOk, IfSome, Some, codes, false, is_some, map, option_map, true};
 ghost use Rattle.clap.specs.Words.{FailsBy, HasKind, IsUnsignedIn, app_of, first_of, new_rule, rule_of};
 ghost use Rattle.clap.specs.declared.error.kind.ErrorKind.TheVariants as kinds;
-ghost use Rattle.command_line.specs.Arguments.{AsksFor, IsFront, IsNumber, MayBeNumber, alone, check, draw, drive, explain, flag_rule, front_rule, garbage, has_front, has_number, is_set, line, may_have_number, option_rule, program, refusals, run, serve, serve_wants, show, wanted_option, wanted_rule};
-ghost use Rattle.command_line.specs.Parts.{HasWanted, IsAnswer, IsLocal, is_command, values_of};
+ghost use Rattle.command_line.specs.Arguments.{AsksFor, IsFront, IsNumber, MayBeNumber, alone, check, draw, draw_wants, drive, explain, flag_rule, front_rule, garbage, has_front, has_number, is_set, line, may_have_number, option_rule, program, refusals, run, serve, serve_wants, show, wanted_option, wanted_rule, with_why};
+ghost use Rattle.command_line.specs.Parts.{HasWanted, IsAnswer, IsLocal, IsWanted, is_command, values_of};
 
 use clap::error::ErrorKind;
 use clap::{Arg, ArgAction, ArgMatches, Command as Program, Error};
@@ -55,15 +55,29 @@ pub enum Command<'a> {
     Explain {
         line: Option<&'a str>,
     },
-    /// Drives a world by the script of this path.
+    /// Drives a world by the script of this path, which may have comments.
     Drive {
         script: &'a str,
+        comments: bool,
     },
-    /// Draws the script of this path, where the processes of this list failed.
+    /// Draws the script of this path, which may have comments, or the records of this path, or so many of the first ones, where the
+    /// processes of this list failed, and shows why this process has to return.
     Draw {
-        script: &'a str,
+        path: &'a str,
+        comments: bool,
+        records: bool,
         failed: Option<&'a str>,
+        why: Option<&'a str>,
+        at: Option<u32>,
     },
+}
+
+/// What the words of the command line ask for.
+#[derive(Clone, Copy)]
+pub struct Wanted<'a> {
+    pub command: Command<'a>,
+    /// Whether a fault of what is opened says why.
+    pub explain: bool,
 }
 
 /// An argument that is one word, and is wanted.
@@ -126,6 +140,32 @@ fn script_argument<'a>(alloc: Global) -> Arg<'a>
         "SCRIPT",
         "A file of steps, one a line, of which the first is 'root NAME'; '-' is standard input",
     )
+}
+
+/// The flag that says that a script has comments.
+fn comments_argument<'a>(alloc: Global) -> Arg<'a>
+    ensures rule { rule_of result ≡ flag_rule (codes "comments") }
+    ensures local { result.global ≡ false }
+{
+    flag_argument(
+        alloc,
+        "comments",
+        "Passes over lines of the script that are empty or begin with '#'",
+    )
+}
+
+/// A command with the flag by which faults say why.
+fn explaining<'a>(alloc: Global, command: Program<'a>) -> Result<Program<'a>, AllocError>
+    requires { IsLocal command }
+    ensures app { IfOk result (λ made. app_of made ≡ with_why (app_of command.entry)) }
+    ensures local { IfOk result (λ made. IsLocal made) }
+{
+    let explain = flag_argument(
+        alloc,
+        "explain",
+        "Says on standard error why a file or a stream failed, in the system's words",
+    );
+    command.arg(explain)
 }
 
 /// The command `run`.
@@ -277,7 +317,7 @@ fn show_command<'a>(alloc: Global) -> Result<Program<'a>, AllocError>
     ensures local { IfOk result (λ made. IsLocal made) }
 {
     let file = word_argument(alloc, "FILE", "The file that keeps the accepted reports");
-    let reports = flag_argument(alloc, "reports", "Tells each accepted report, too");
+    let reports = flag_argument(alloc, "reports", "Tells each record, too");
     let json = flag_argument(alloc, "json", "Writes JSON");
     Program::new(alloc, "show")
         .about("Tells on standard output what a record file has")
@@ -316,7 +356,28 @@ fn drive_command<'a>(alloc: Global) -> Result<Program<'a>, AllocError>
         .after_help(
             "Status: 0 each step was taken; 2 one was refused, or wrong words; 3 a file, a stream or memory failed",
         )
-        .arg(script_argument(alloc))
+        .arg(script_argument(alloc))?
+        .arg(comments_argument(alloc))
+}
+
+/// The command `draw`, with what says what is drawn.
+fn draw_wanted<'a>(alloc: Global) -> Result<Program<'a>, AllocError>
+    ensures app { IfOk result (λ made. app_of made ≡ draw_wants) }
+    ensures local { IfOk result (λ made. IsLocal made) }
+{
+    let records = flag_argument(
+        alloc,
+        "records",
+        "SCRIPT is a file that keeps accepted reports, and these are drawn",
+    );
+    Program::new(alloc, "draw")
+        .about("Draws the history of a script with its recovery line as SVG")
+        .after_help(
+            "Status: 0 all is drawn; 2 a step or a name was refused, or wrong words; 3 a file, a stream or memory failed",
+        )
+        .arg(script_argument(alloc))?
+        .arg(comments_argument(alloc))?
+        .arg(records)
 }
 
 /// The command `draw`.
@@ -330,13 +391,16 @@ fn draw_command<'a>(alloc: Global) -> Result<Program<'a>, AllocError>
         "NAMES",
         "The processes that failed, parted by commas, or '-' for none",
     );
-    Program::new(alloc, "draw")
-        .about("Draws the history of a script with its recovery line as SVG")
-        .after_help(
-            "Status: 0 all is drawn; 2 a step or a name was refused, or wrong words; 3 a file, a stream or memory failed",
-        )
-        .arg(script_argument(alloc))?
-        .arg(failed)
+    let why = option_argument(
+        alloc,
+        "why",
+        "NAME",
+        "With --records, the process whose reasons to return are drawn",
+    );
+    draw_wanted(alloc)?
+        .arg(failed)?
+        .arg(why)?
+        .arg(front_argument(alloc))
 }
 
 /// The program, without its commands.
@@ -357,15 +421,15 @@ fn command_line<'a>(alloc: Global) -> Result<Program<'a>, AllocError>
     ensures { IfOk result (λ made. app_of made ≡ program) }
 {
     program_alone(alloc)?
-        .subcommand(run_command(alloc)?)?
-        .subcommand(serve_command(alloc)?)?
-        .subcommand(check_command(alloc)?)?
-        .subcommand(line_command(alloc)?)?
-        .subcommand(garbage_command(alloc)?)?
-        .subcommand(show_command(alloc)?)?
+        .subcommand(explaining(alloc, run_command(alloc)?)?)?
+        .subcommand(explaining(alloc, serve_command(alloc)?)?)?
+        .subcommand(explaining(alloc, check_command(alloc)?)?)?
+        .subcommand(explaining(alloc, line_command(alloc)?)?)?
+        .subcommand(explaining(alloc, garbage_command(alloc)?)?)?
+        .subcommand(explaining(alloc, show_command(alloc)?)?)?
         .subcommand(explain_command(alloc)?)?
-        .subcommand(drive_command(alloc)?)?
-        .subcommand(draw_command(alloc)?)
+        .subcommand(explaining(alloc, drive_command(alloc)?)?)?
+        .subcommand(explaining(alloc, draw_command(alloc)?)?)
 }
 
 /// The number that a text spells, if it lies within these limits.
@@ -572,13 +636,26 @@ fn show_asked<'a>(alloc: Global, showing: &ArgMatches<'a>) -> Result<Command<'a>
 }
 
 /// The command `draw`, by the values of its arguments.
-fn draw_asked<'a>(drawing: &ArgMatches<'a>) -> Result<Command<'a>, Error>
+fn draw_asked<'a>(alloc: Global, drawing: &ArgMatches<'a>) -> Result<Command<'a>, Error>
     requires { is_some (first_of (codes "SCRIPT") (values_of drawing.now)) ≡ true }
     ensures { IsAnswer (codes "draw") (values_of drawing.now) result }
 {
-    let script = wanted_in(drawing, "SCRIPT");
+    let path = wanted_in(drawing, "SCRIPT");
+    let comments = flag_in(drawing, "comments");
+    let records = flag_in(drawing, "records");
     let failed = value_in(drawing, "failed");
-    Ok(Command::Draw { script, failed })
+    let why = value_in(drawing, "why");
+    let Some(at) = front_in(drawing) else {
+        return Err(front_refused(alloc));
+    };
+    Ok(Command::Draw {
+        path,
+        comments,
+        records,
+        failed,
+        why,
+        at,
+    })
 }
 
 /// The command of this name, by the values of its arguments.
@@ -616,19 +693,37 @@ fn command_asked<'a>(
     }
     if name == "drive" {
         let script = wanted_in(matches, "SCRIPT");
-        return Ok(Command::Drive { script });
+        let comments = flag_in(matches, "comments");
+        return Ok(Command::Drive { script, comments });
     }
     if name == "draw" {
-        return draw_asked(matches);
+        return draw_asked(alloc, matches);
     }
     unreachable!();
+}
+
+/// The same, and whether it is to say why.
+fn wanted_asked<'a>(
+    alloc: Global,
+    name: &str,
+    matches: &ArgMatches<'a>,
+) -> Result<Wanted<'a>, Error>
+    requires one { is_command name.now ≡ true }
+    requires wanted { HasWanted name.now (values_of matches.now) }
+    ensures { IsWanted name.now (values_of matches.now) result }
+{
+    let explain = flag_in(matches, "explain");
+    match command_asked(alloc, name, matches) {
+        Ok(command) => Ok(Wanted { command, explain }),
+        Err(error) => Err(error),
+    }
 }
 
 /// The command that the words ask for, after the word that the program was called by. Help and the version are errors,
 /// too; `clap::Error` says where its text goes and with which status. Words that ask for a command are refused for want of
 /// memory alone. Numbers that are out of their limits are faults of their values.
-pub fn read_args<'a, S: AsStr>(alloc: Global, words: &'a [S]) -> Result<Command<'a>, Error>
-    ensures asked { IfOk result (λ command. AsksFor (map S.text words.entry.now) command) }
+pub fn read_args<'a, S: AsStr>(alloc: Global, words: &'a [S]) -> Result<Wanted<'a>, Error>
+    ensures asked { IfOk result (λ wanted. AsksFor (map S.text words.entry.now) wanted) }
     ensures refused { FailsBy (refusals (map S.text words.entry.now)) result }
 {
     let program = command_line(alloc)?;
@@ -636,5 +731,5 @@ pub fn read_args<'a, S: AsStr>(alloc: Global, words: &'a [S]) -> Result<Command<
     let Some((name, asked)) = matches.subcommand() else {
         unreachable!();
     };
-    command_asked(alloc, name, asked)
+    wanted_asked(alloc, name, asked)
 }

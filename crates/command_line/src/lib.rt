@@ -3,4 +3,4 @@
 
 mod args;
 
-pub use args::{Command, read_args};
+pub use args::{Command, Wanted, read_args};

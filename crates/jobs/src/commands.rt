@@ -4,7 +4,7 @@ use crate::digest::Digest;
 use anyhow::{Result, ensure};
 use client_link::Streams;
 use line_disk::{Disk, MemoryDisk, NullDisk};
-use recline::{check_on, draw_on, drive_on, run_on};
+use recline::{ScriptForm, check_on, draw_on, drive_on, run_on};
 use std::alloc::{AllocError, Global};
 use std::io::{self, BufWriter, Empty, Sink};
 
@@ -41,19 +41,27 @@ fn counted(digest: &mut Digest, status: u8, client: Client<'_>) -> Vec<u8> {
 pub fn drive(alloc: Global, digest: &mut Digest, script: &[u8]) -> Result<Vec<u8>> {
     let mut client = client_of(alloc, script)?;
     let mut faults = no_faults(alloc)?;
-    let status = drive_on(alloc, &mut client, &mut faults);
+    let status = drive_on(alloc, &mut client, &mut faults, ScriptForm::Plain);
     let text = counted(digest, status, client);
     ensure!(status == 0, "drive ended with {status}");
     Ok(text)
 }
 
-/// The picture of a script, where the first process failed.
+/// The picture of a script, where the first process failed. Its bytes do not count, since how it looks may change.
 pub fn draw(alloc: Global, digest: &mut Digest, script: &[u8]) -> Result<()> {
     let mut client = client_of(alloc, script)?;
     let mut faults = no_faults(alloc)?;
-    let status = draw_on(alloc, &mut client, &mut faults, Some("p0"));
-    let _picture = counted(digest, status, client);
+    let status = draw_on(
+        alloc,
+        &mut client,
+        &mut faults,
+        ScriptForm::Plain,
+        Some("p0"),
+    );
+    let picture = written_by(client);
+    digest.take_status(status);
     ensure!(status == 0, "draw ended with {status}");
+    ensure!(picture.ends_with(b"</svg>\n"), "the picture is not whole");
     Ok(())
 }
 

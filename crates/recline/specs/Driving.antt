@@ -1,5 +1,5 @@
 -- What the program answers when a script was driven.
-use Rattle.std.specs.Prelude.{◌≡◌, ◌≤◌, ◌⊎◌, ℕ, List, [], ◌∷◌, ◌++◌, codes, Result, Ok, Err}
+use Rattle.std.specs.Prelude.{◌≡◌, ◌≤◌, ◌⊎◌, ℕ, List, [], ◌∷◌, ◌++◌, codes, Result, Ok, Err, ⊤}
 use Rattle.std.specs.Fmt.{decimal}
 use Rattle.std.specs.Io.KnownBytes.{Appends, Consumes, IsAtEnd}
 use Rattle.report_line.specs.Cutting.{ended}
@@ -9,8 +9,13 @@ use Rattle.session.specs.SessionText.{most_reads}
 use Rattle.script.specs.declared.end.End.{End}
 use Rattle.script.specs.declared.end.End.TheVariants.{Done, Refused, Memory}
 use Rattle.script.specs.Causes.{cause_words}
-use Rattle.script.specs.Driven.{IsDriven}
+use Rattle.script.specs.Driven.{AreLinesOf, IsDriven}
 use Rattle.recline.specs.Outcome.{Tells}
+use Rattle.recline.specs.Commented.{passed_on, number_in, lines_of}
+use Rattle.recline.specs.declared.commented.ScriptForm.{ScriptForm}
+use Rattle.recline.specs.declared.commented.ScriptForm.TheVariants as forms
+use Rattle.recline.specs.declared.driving.ReadScript.{ReadScript}
+use Rattle.recline.specs.declared.driving.ReadScript.TheVariants as scripts
 use Rattle.recline.specs.declared.driving.Unread.{Unread}
 use Rattle.recline.specs.declared.driving.Unread.TheVariants as unread
 
@@ -45,13 +50,32 @@ ReadsInVain old new =
     ((new.failures ≡ up 1 old.failures) × (new.stalls ≡ old.stalls))
     ⊎ (IsSound old new × (new.reads ≡ up most_reads old.reads))
 
--- these bytes are all that there was to read, and driving the script that they are ended so, with this text
-pub record IsScript (old new : LinkState) (text : List ℕ) (end : End) : Type 0 where
+-- how a script of these lines ended, where what is passed on of them ended so: a step has the number of its line among all of them
+abbrev pub end_in : List (List ℕ) → End → End
+end_in lines Done = Done
+end_in lines (Refused step cause) = Refused (number_in lines step) cause
+end_in lines Memory = Memory
+
+-- driving what is passed on of a script with comments ended so, with this text
+pub record IsDrivenCommented (script text : List ℕ) (end : End) : Type 0 where
+  pub lines : List (List ℕ)
+  pub lines_are : AreLinesOf script lines
+  pub passed_end : End
+  pub driven : IsDriven (passed_on lines) text passed_end
+  pub end_is : end ≡ end_in lines passed_end
+
+-- driving a script that is written in this form ended so, with this text
+abbrev pub IsDrivenIn : ScriptForm → List ℕ → List ℕ → End → Type 0
+IsDrivenIn forms.Plain script text end = IsDriven script text end
+IsDrivenIn forms.Commented script text end = IsDrivenCommented script text end
+
+-- these bytes are all that there was to read, and driving the script that they are, in this form, ended so, with this text
+pub record IsScript (form : ScriptForm) (old new : LinkState) (text : List ℕ) (end : End) : Type 0 where
   pub script : List ℕ
   pub consumed : Consumes old.left new.left script
   pub at_end : IsAtEnd new.left
   pub few : HasFewReads old new
-  pub driven : IsDriven script text end
+  pub driven : IsDrivenIn form script text end
 
 -- all of the text was written and handed on
 pub record WritesAll (old new : LinkState) (text : List ℕ) : Type 0 where
@@ -69,18 +93,18 @@ pub record WritesPart (old new : LinkState) (text : List ℕ) : Type 0 where
 
 -- What was done over a link: a script was read to its end and driven, and what it printed was written; or memory did not
 -- suffice to read it. On a fault what it printed was not written; or a read failed, or the script had no end.
-abbrev pub IsDrivenOver : LinkState → LinkState → Result End LinkFault → Type 0
-IsDrivenOver old new (Ok end) =
-    ((text : List ℕ) × IsScript old new text end × WritesAll old new text)
+abbrev pub IsDrivenOver : ScriptForm → LinkState → LinkState → Result End LinkFault → Type 0
+IsDrivenOver form old new (Ok end) =
+    ((text : List ℕ) × IsScript form old new text end × WritesAll old new text)
     ⊎ ((bytes : List ℕ) × (end ≡ Memory) × OnlyReads old new bytes × IsSound old new)
-IsDrivenOver old new (Err fault) =
-    ((text : List ℕ) × (end : End) × IsScript old new text end × WritesPart old new text)
+IsDrivenOver form old new (Err fault) =
+    ((text : List ℕ) × (end : End) × IsScript form old new text end × WritesPart old new text)
     ⊎ ((bytes : List ℕ) × OnlyReads old new bytes × ReadsInVain old new)
 
--- A script was driven over the client's link; the status and the fault line say how it ended.
-pub record Drives {K F : Type 0} (client_told : K → LinkState) (faults_told : F → LinkState) (client client_after : K) (faults faults_after : F) (status : ℕ) : Type 0 where
+-- A script in this form was driven over the client's link; the status and the fault line say how it ended.
+pub record Drives {K F : Type 0} (client_told : K → LinkState) (faults_told : F → LinkState) (form : ScriptForm) (client client_after : K) (faults faults_after : F) (status : ℕ) : Type 0 where
   pub end : Result End LinkFault
-  pub driven : IsDrivenOver (client_told client) (client_told client_after) end
+  pub driven : IsDrivenOver form (client_told client) (client_told client_after) end
   pub status_is : status ≡ script_status end
   pub faults_are : Tells (faults_told faults) (faults_told faults_after) (script_fault end)
 
@@ -105,3 +129,31 @@ pub record ReadsSome (old new : LinkState) (why : Unread) : Type 0 where
 abbrev pub Writes : LinkState → LinkState → Result (Unit {0}) LinkFault → List ℕ → Type 0
 Writes old new (Ok u) text = WritesAll old new text
 Writes old new (Err fault) text = WritesPart old new text
+
+-- the script that was read
+abbrev pub script_of : ReadScript → List ℕ
+script_of (scripts.Plain script) = script.items
+script_of (scripts.Commented script steps) = script.items
+
+-- what of it is driven
+abbrev pub steps_of : ReadScript → List ℕ
+steps_of (scripts.Plain script) = script.items
+steps_of (scripts.Commented script steps) = steps.items
+
+-- the number of the line of a step of it
+abbrev pub line_in : ReadScript → ℕ → ℕ
+line_in (scripts.Plain script) step = step
+line_in (scripts.Commented script steps) step = number_in (lines_of script.items) step
+
+-- how it ended, where what is driven of it ended so
+abbrev pub end_of : ReadScript → End → End
+end_of script Done = Done
+end_of script (Refused step cause) = Refused (line_in script step) cause
+end_of script Memory = Memory
+
+-- it is written in this form
+abbrev pub IsIn : ScriptForm → ReadScript → Type 0
+IsIn forms.Plain (scripts.Plain script) = ⊤
+IsIn forms.Plain (scripts.Commented script steps) = ⊥
+IsIn forms.Commented (scripts.Plain script) = ⊥
+IsIn forms.Commented (scripts.Commented script steps) = steps.items ≡ passed_on (lines_of script.items)

@@ -7,6 +7,7 @@ use Rattle.earlier_file.specs.declared.found.FileFacts.{FileFacts}
 use Rattle.chains.specs.Held.{Held}
 use Rattle.desk.specs.Records.{Opens}
 use Rattle.desk.specs.Desks.{DeskState}
+use Rattle.desk.specs.Openings.{RefusesFile}
 use Rattle.desk.specs.declared.fault.DeskFault.{DeskFault}
 use Rattle.line_disk.specs.declared.memory.MemoryDisk.{MemoryDisk}
 use Rattle.client_link.specs.Links.{LinkState}
@@ -27,7 +28,7 @@ shown_text form facts held said =
     if form.json then json_text (shown_file held facts) (shown_processes held.accepted) (asked_records form.reports said)
     else table_text (shown_file held facts) (shown_processes held.accepted) ++ (if form.reports then lines_text said else [])
 
--- The bytes are a file of records that are admitted, and it was shown with what its bytes tell of it.
+-- The bytes are a file of records that are admitted, and it was shown with what its bytes tell of it. Nothing was read of the client.
 pub record IsShown (bytes : List ℕ) (form : Form) (old new : LinkState) : Type 0 where
   pub said : List Said
   pub held : Held
@@ -37,17 +38,19 @@ pub record IsShown (bytes : List ℕ) (form : Form) (old new : LinkState) : Type
   pub told : AreFacts bytes facts
   pub written : Appends old.held new.held (shown_text form facts held said)
   pub nothing_waits : new.waiting ≡ []
+  pub left : new.left ≡ old.left
+  pub reads : new.reads ≡ old.reads
 
--- a fault was told, as of a record file that is opened
-abbrev pub ShowsPart : {F : Type 0} → (F → LinkState) → F → F → ℕ → Type 0
-ShowsPart faults_told faults faults_after status =
-    (status ≡ 3) × (fault : DeskFault) × Tells (faults_told faults) (faults_told faults_after) (open_fault_line fault)
+-- a fault was told, as of a record file that is opened, and is one of these bytes, or of a device or memory
+abbrev pub ShowsPart : {F : Type 0} → (F → LinkState) → List ℕ → F → F → ℕ → Type 0
+ShowsPart faults_told bytes faults faults_after status =
+    (status ≡ 3) × (fault : DeskFault) × RefusesFile bytes fault × Tells (faults_told faults) (faults_told faults_after) (open_fault_line fault)
 
 -- All of it was shown, and nothing told; or a fault was told.
 abbrev pub Shows : {K F : Type 0} → (K → LinkState) → (F → LinkState) → List ℕ → Form → K → K → F → F → ℕ → Type 0
 Shows client_told faults_told bytes form client client_after faults faults_after status =
     ((status ≡ 0) × (faults_after ≡ faults) × IsShown bytes form (client_told client) (client_told client_after))
-    ⊎ ShowsPart faults_told faults faults_after status
+    ⊎ ShowsPart faults_told bytes faults faults_after status
 
 -- Working definitions from here on: the parts of it.
 

@@ -5,6 +5,7 @@ ghost use Rattle.report_line.specs.Cutting.{ended, IsLine};
 ghost use Rattle.recline.specs.Asking.{AsksNone, AsksOn, AsksOver, IsAnswered, IsOneLine, question_line};
 
 use crate::asked::Asked;
+use crate::copied::copy_of;
 use crate::running::run_on;
 use crate::telling::tell_unopened;
 use client_link::Link;
@@ -90,7 +91,7 @@ fn ask_by<K: Link, F: Link>(
 ) -> (u8, K)
     ensures { AsksOn F.told bytes.now line.items (K.told client) (K.told result.1) faults.old faults.new result.0 }
 {
-    match MemoryDisk::new(alloc, bytes) {
+    match copy_of(alloc, bytes) {
         Ok(disk) => ask_over(alloc, disk, line, client, faults),
         Err(_) => without_memory(client, faults),
     }

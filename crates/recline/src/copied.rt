@@ -1,6 +1,9 @@
 //! A desk over a copy of the bytes of a record file, which are only read.
 
-ghost use Rattle.std.specs.Prelude.{◌≡◌, IfOk};
+ghost use Rattle.std.specs.Prelude.{◌≡◌, [], IfErr, IfOk};
+ghost use Rattle.desk.specs.Openings.{RefusesFile};
+ghost use Rattle.line_disk.specs.Disk.{LeavesOnly};
+ghost use Rattle.line_disk.specs.Tape.{bytes_of, disk_failures, disk_view, plan_of};
 ghost use Rattle.record_file.specs.File.{Stands};
 ghost use Rattle.record_file.specs.Store.{found_records};
 ghost use Rattle.recline.specs.Showing.{IsDeskOf};
@@ -10,11 +13,27 @@ use line_disk::MemoryDisk;
 use record_file::Store;
 use std::alloc::{AllocError, Global};
 
+/// How many calls change a copy of a record file at most where nothing is accepted: those that cut a tail off.
+const FEW_CHANGES: usize = 8;
+
+/// A disk that holds a copy of these bytes. Opening them and answering questions over them takes no memory for what it notes of its calls, so
+/// want of memory is none of the device.
+pub fn copy_of(alloc: Global, bytes: &[u8]) -> Result<MemoryDisk, AllocError>
+    ensures bytes { IfOk result (λ disk. bytes_of disk ≡ bytes.now) }
+    ensures durable { IfOk result (λ disk. LeavesOnly (disk_view disk) bytes.now) }
+    ensures no_call { IfOk result (λ disk. (disk_view disk).clock ≡ 0) }
+    ensures never_failed { IfOk result (λ disk. disk_failures disk ≡ 0) }
+    ensures no_plan { IfOk result (λ disk. plan_of disk ≡ []) }
+{
+    MemoryDisk::with_room(alloc, bytes, FEW_CHANGES)
+}
+
 /// The desk over a copy of these bytes.
 pub(crate) fn desk_of(alloc: Global, bytes: &[u8]) -> Result<Desk<MemoryDisk>, DeskFault>
-    ensures { IfOk result (IsDeskOf bytes.now) }
+    ensures desk { IfOk result (IsDeskOf bytes.now) }
+    ensures refused { IfErr result (RefusesFile bytes.now) }
 {
-    let Ok(disk) = MemoryDisk::new(alloc, bytes) else {
+    let Ok(disk) = copy_of(alloc, bytes) else {
         return Err(DeskFault::Memory);
     };
     match Desk::open(alloc, disk) {
@@ -27,7 +46,7 @@ pub(crate) fn desk_of(alloc: Global, bytes: &[u8]) -> Result<Desk<MemoryDisk>, D
 pub(crate) fn store_of(alloc: Global, bytes: &[u8]) -> Result<Store<MemoryDisk>, AllocError>
     ensures { IfOk result (λ store. Stands (found_records store) bytes.now) }
 {
-    let disk = MemoryDisk::new(alloc, bytes)?;
+    let disk = copy_of(alloc, bytes)?;
     match Store::open(alloc, disk) {
         Ok(store) => Ok(store),
         Err(_) => Err(AllocError),

@@ -2,12 +2,14 @@
 
 ghost use Rattle.std.specs.Prelude.{◌<◌, IfSome, length};
 
-use crate::driving::{Unread, read_all};
-use crate::telling::{tell, tell_all, tell_refusal, write_all};
+use crate::commented::ScriptForm;
+use crate::copied::desk_of;
+use crate::driving::{ReadScript, Unread, read_script};
+use crate::telling::{tell, tell_all, tell_refusal, tell_unopened, write_all};
 use client_link::Link;
 use itoa::Buffer;
 use memchr::memchr;
-use picture::{Ending, draw};
+use picture::{Ending, draw, draw_accepted};
 use report_line::Name;
 use std::alloc::Global;
 
@@ -81,6 +83,20 @@ fn tell_failure<F: Link>(faults: &mut F, line: &[u8]) -> u8 {
     3
 }
 
+/// How the drawing of a script ended, where that of what is driven of it ended so.
+fn ending_in(script: &ReadScript, ending: Ending) -> Ending {
+    match ending {
+        Ending::Refused { step, cause } => Ending::Refused {
+            step: script.line_of(step),
+            cause,
+        },
+        Ending::Full { step } => Ending::Full {
+            step: script.line_of(step),
+        },
+        other => other,
+    }
+}
+
 /// Tells how the drawing ended, where not all steps are in the picture, and answers the status.
 fn tell_ending<F: Link>(faults: &mut F, ending: &Ending) -> u8 {
     match ending {
@@ -95,37 +111,95 @@ fn tell_ending<F: Link>(faults: &mut F, ending: &Ending) -> u8 {
     }
 }
 
-/// Draws the script that the client gives, where the processes of these names failed.
-fn draw_over<K: Link, F: Link>(
-    alloc: Global,
+/// Writes a picture, tells why it is not whole, if it is not, and answers the status.
+fn write_picture<K: Link, F: Link>(
     client: &mut K,
     faults: &mut F,
-    failed: &[Name],
+    svg: &[u8],
+    ending: &Ending,
 ) -> u8 {
-    let script = match read_all(alloc, client) {
-        Ok(script) => script,
-        Err(Unread::Memory) => return tell_failure(faults, b"recline: memory\n"),
-        Err(Unread::Device) => return tell_failure(faults, b"recline: device\n"),
-    };
-    let (svg, ending) = draw(alloc, &script, failed);
-    match write_all(client, &svg) {
-        Ok(()) => tell_ending(faults, &ending),
+    match write_all(client, svg) {
+        Ok(()) => tell_ending(faults, ending),
         Err(_) => tell_failure(faults, b"recline: device\n"),
     }
 }
 
-/// The command `draw`: writes the picture of the script that the client gives to the client, where the processes of this list
-/// failed, or none without a list; tells why it is not whole, and answers the status of the process. A list with a part that
-/// is no name is told before the script is read.
+/// Draws the script that the client gives in this form, where the processes of these names failed.
+fn draw_over<K: Link, F: Link>(
+    alloc: Global,
+    client: &mut K,
+    faults: &mut F,
+    form: ScriptForm,
+    failed: &[Name],
+) -> u8 {
+    let script = match read_script(alloc, client, form) {
+        Ok(script) => script,
+        Err(Unread::Memory) => return tell_failure(faults, b"recline: memory\n"),
+        Err(Unread::Device) => return tell_failure(faults, b"recline: device\n"),
+    };
+    let (svg, ending) = draw(alloc, script.steps(), failed);
+    write_picture(client, faults, &svg, &ending_in(&script, ending))
+}
+
+/// The picture of what a record file of these bytes keeps, where the processes of these names failed, with why this one has to return.
+fn draw_records_over<K: Link, F: Link>(
+    alloc: Global,
+    bytes: &[u8],
+    client: &mut K,
+    faults: &mut F,
+    failed: &[Name],
+    why: Option<&Name>,
+) -> u8 {
+    match desk_of(alloc, bytes) {
+        Ok(desk) => {
+            let (svg, ending) = draw_accepted(desk.chains(), failed, why);
+            write_picture(client, faults, &svg, &ending)
+        }
+        Err(fault) => {
+            tell_unopened(faults, fault);
+            3
+        }
+    }
+}
+
+/// The command `draw`: writes the picture of the script that the client gives in this form to the client, where the processes of this
+/// list failed, or none without a list; tells why it is not whole, and answers the status of the process. A list with a part that is no name
+/// is told before the script is read.
 pub fn draw_on<K: Link, F: Link>(
     alloc: Global,
     client: &mut K,
     faults: &mut F,
+    form: ScriptForm,
     failed: Option<&str>,
 ) -> u8 {
     match read_names(alloc, failed.unwrap_or("-").as_bytes()) {
-        Ok(names) => draw_over(alloc, client, faults, &names),
+        Ok(names) => draw_over(alloc, client, faults, form, &names),
         Err(Unnamed::Part(part)) => tell_unknown(faults, part),
         Err(Unnamed::Memory) => tell_failure(faults, b"recline: memory\n"),
+    }
+}
+
+/// The command `draw` of a record file of these bytes: writes the picture of what it keeps to the client, where the processes of this list
+/// failed, or none without a list, and with the reasons for which this process has to return, if one is named; tells why there is no picture, and
+/// answers the status of the process. The bytes are only read.
+pub fn draw_records_on<K: Link, F: Link>(
+    alloc: Global,
+    bytes: &[u8],
+    client: &mut K,
+    faults: &mut F,
+    failed: Option<&str>,
+    why: Option<&str>,
+) -> u8 {
+    let names = match read_names(alloc, failed.unwrap_or("-").as_bytes()) {
+        Ok(names) => names,
+        Err(Unnamed::Part(part)) => return tell_unknown(faults, part),
+        Err(Unnamed::Memory) => return tell_failure(faults, b"recline: memory\n"),
+    };
+    let Some(asked) = why else {
+        return draw_records_over(alloc, bytes, client, faults, &names, None);
+    };
+    match Name::from_bytes(asked.as_bytes()) {
+        Some(name) => draw_records_over(alloc, bytes, client, faults, &names, Some(&name)),
+        None => tell_unknown(faults, asked.as_bytes()),
     }
 }

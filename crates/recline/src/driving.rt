@@ -2,8 +2,9 @@
 
 ghost use Rattle.std.specs.Prelude.{◌≡◌, MatchResult};
 ghost use Rattle.recline.specs.Outcome.{Tells};
-ghost use Rattle.recline.specs.Driving.{Drives, IsDrivenOver, ReadsAll, ReadsSome, script_fault, script_status};
+ghost use Rattle.recline.specs.Driving.{Drives, IsDrivenIn, IsDrivenOver, IsIn, ReadsAll, ReadsSome, end_of, line_in, script_fault, script_of, script_status, steps_of};
 
+use crate::commented::{ScriptForm, line_of, without_comments};
 use crate::telling::{tell, tell_refusal, write_all};
 use client_link::{Link, LinkFault};
 use script::{End, drive};
@@ -18,6 +19,51 @@ pub(crate) enum Unread {
     Memory,
     /// A read failed, or the script has no end.
     Device,
+}
+
+/// A script that was read.
+#[derive(Drop)]
+pub(crate) enum ReadScript {
+    /// Each line of it is driven.
+    Plain(Vec<u8>),
+    /// A script with comments, and what is passed on of it, which is driven.
+    Commented { script: Vec<u8>, steps: Vec<u8> },
+}
+
+impl ReadScript {
+    /// What is driven.
+    pub(crate) fn steps(&self) -> &[u8]
+        ensures { result.now ≡ steps_of self.now }
+    {
+        match self {
+            ReadScript::Plain(script) => script.as_slice(),
+            ReadScript::Commented { steps, .. } => steps.as_slice(),
+        }
+    }
+
+    /// The number in the script of the line of this step.
+    pub(crate) fn line_of(&self, step: u64) -> u64
+        ensures { result ≡ line_in self.now step }
+    {
+        match self {
+            ReadScript::Plain(_) => step,
+            ReadScript::Commented { script, .. } => line_of(script, step),
+        }
+    }
+
+    /// How the script ended, where what is driven of it ended so.
+    fn end_of(&self, end: End) -> End
+        ensures { result ≡ end_of self.now end }
+    {
+        match end {
+            End::Done => End::Done,
+            End::Refused { step, cause } => End::Refused {
+                step: self.line_of(step),
+                cause,
+            },
+            End::Memory => End::Memory,
+        }
+    }
 }
 
 /// All that the link gives to read.
@@ -40,16 +86,45 @@ pub(crate) fn read_all<K: Link>(alloc: Global, link: &mut K) -> Result<Vec<u8>, 
     Err(Unread::Device)
 }
 
-/// Reads a script, drives a world by it, and writes what it prints.
-fn drive_over<K: Link>(alloc: Global, client: &mut K) -> Result<End, LinkFault>
-    ensures { IsDrivenOver (K.told client.old) (K.told client.new) result }
+/// The script that the link gives to read, in this form.
+pub(crate) fn read_script<K: Link>(
+    alloc: Global,
+    link: &mut K,
+    form: ScriptForm,
+) -> Result<ReadScript, Unread>
+    ensures { MatchResult result (λ read. IsIn form read × ReadsAll (K.told link.old) (K.told link.new) (script_of read)) (λ why. ReadsSome (K.told link.old) (K.told link.new) why) }
 {
-    let script = match read_all(alloc, client) {
+    let script = match read_all(alloc, link) {
+        Ok(script) => script,
+        Err(why) => return Err(why),
+    };
+    match form {
+        ScriptForm::Plain => Ok(ReadScript::Plain(script)),
+        ScriptForm::Commented => match without_comments(alloc, &script) {
+            Ok(steps) => Ok(ReadScript::Commented { script, steps }),
+            Err(_) => Err(Unread::Memory),
+        },
+    }
+}
+
+/// Drives a world by a script that was read.
+fn drive_script(alloc: Global, script: &ReadScript) -> (Vec<u8>, End)
+    ensures { (form : ScriptForm) → IsIn form script.now → IsDrivenIn form (script_of script.now) result.0.items result.1 }
+{
+    let (text, end) = drive(alloc, script.steps());
+    (text, script.end_of(end))
+}
+
+/// Reads a script in this form, drives a world by it, and writes what it prints.
+fn drive_over<K: Link>(alloc: Global, client: &mut K, form: ScriptForm) -> Result<End, LinkFault>
+    ensures { IsDrivenOver form (K.told client.old) (K.told client.new) result }
+{
+    let script = match read_script(alloc, client, form) {
         Ok(script) => script,
         Err(Unread::Memory) => return Ok(End::Memory),
         Err(Unread::Device) => return Err(LinkFault::Device),
     };
-    let (text, end) = drive(alloc, &script);
+    let (text, end) = drive_script(alloc, &script);
     match write_all(client, &text) {
         Ok(()) => Ok(end),
         Err(fault) => Err(fault),
@@ -89,12 +164,17 @@ fn status_for(end: Result<End, LinkFault>) -> u8
     }
 }
 
-/// The command `drive`: drives a world by the script that the client gives, writes the reports of its steps to the client,
-/// tells why a step was refused, and answers the status of the process.
-pub fn drive_on<K: Link, F: Link>(alloc: Global, client: &mut K, faults: &mut F) -> u8
-    ensures { Drives K.told F.told client.old client.new faults.old faults.new result }
+/// The command `drive`: drives a world by the script that the client gives in this form, writes the reports of its steps to the
+/// client, tells why a step was refused, and answers the status of the process.
+pub fn drive_on<K: Link, F: Link>(
+    alloc: Global,
+    client: &mut K,
+    faults: &mut F,
+    form: ScriptForm,
+) -> u8
+    ensures { Drives K.told F.told form client.old client.new faults.old faults.new result }
 {
-    let end = drive_over(alloc, client);
+    let end = drive_over(alloc, client, form);
     tell_fault(faults, end);
     status_for(end)
 }

@@ -1,12 +1,13 @@
 //! The command `run`, which is one session with a client over a record file, the command `serve`, which serves many over one, the command
 //! `check`, which checks a certificate over one, the commands `line` and `garbage`, which ask one question over the bytes of one, the command
-//! `show`, which tells what these bytes are, the commands `drive` and `draw`, which stamp the steps of a script and draw them,
-//! and the command `explain`, which says of lines what they are.
+//! `show`, which tells what these bytes are, the commands `drive` and `draw`, which stamp the steps of a script and draw them, or what the bytes
+//! of a record file say, and the command `explain`, which says of lines what they are.
 #![tactic(auto)]
 
 mod asked;
 mod asking;
 mod checking;
+mod commented;
 mod copied;
 mod drawing;
 mod driving;
@@ -20,7 +21,9 @@ mod waiting;
 
 pub use asking::{Question, ask_on};
 pub use checking::check_on;
-pub use drawing::draw_on;
+pub use commented::ScriptForm;
+pub use copied::copy_of;
+pub use drawing::{draw_on, draw_records_on};
 pub use driving::drive_on;
 pub use earlier::at_front;
 pub use explaining::explain_on;

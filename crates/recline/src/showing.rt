@@ -1,7 +1,8 @@
 //! What a record file has.
 
-ghost use Rattle.std.specs.Prelude.{◌≡◌, IfOk, false, true};
-ghost use Rattle.earlier_file.specs.Facts.{AreFacts};
+ghost use Rattle.std.specs.Prelude.{◌≡◌, ℕ, List, IfOk, false, true};
+ghost use Rattle.desk.specs.Openings.{RefusesFile};
+ghost use Rattle.earlier_file.specs.Facts.{AreFacts, IsUnread};
 ghost use Rattle.recline.specs.Outcome.{Tells, open_fault_line};
 ghost use Rattle.recline.specs.Showing.{IsDeskOf, IsTextOf, Shows, ShowsPart};
 
@@ -120,16 +121,18 @@ fn records_before(fault: DeskFault) -> Option<usize> {
 }
 
 /// The first records of a file, so many, as they are shown: what stands behind them is its tail.
-fn first_text(alloc: Global, bytes: &[u8], count: usize, form: Form) -> Option<Vec<u8>> {
+fn first_text(alloc: Global, bytes: &[u8], count: usize, form: Form) -> Result<Vec<u8>, DeskFault> {
     let Ok(copy) = first_records(alloc, bytes, count) else {
-        return None;
+        return Err(DeskFault::Memory);
     };
     let earlier: &[u8] = &copy;
-    let Ok(told) = facts(earlier) else {
-        return None;
+    let told = match facts(earlier) {
+        Ok(told) => told,
+        Err(fault) => return Err(fault_of(fault)),
     };
-    let Ok(desk) = desk_of(alloc, earlier) else {
-        return None;
+    let desk = match desk_of(alloc, earlier) {
+        Ok(desk) => desk,
+        Err(fault) => return Err(fault),
     };
     let facts = FileFacts {
         version: told.version,
@@ -137,17 +140,26 @@ fn first_text(alloc: Global, bytes: &[u8], count: usize, form: Form) -> Option<V
         tail: bytes.len().saturating_sub(earlier.len()),
     };
     match text_of(alloc, earlier, facts, &desk, form) {
+        Ok(text) => Ok(text),
+        Err(_) => Err(DeskFault::Memory),
+    }
+}
+
+/// What stands in front of this fault, as it is shown. Records in front of damage may be refused themselves, and then it is those in front of
+/// the first that is.
+fn text_before(alloc: Global, bytes: &[u8], form: Form, fault: DeskFault) -> Option<Vec<u8>> {
+    match first_text(alloc, bytes, records_before(fault)?, form) {
         Ok(text) => Some(text),
-        Err(_) => None,
+        Err(fault) => match first_text(alloc, bytes, records_before(fault)?, form) {
+            Ok(text) => Some(text),
+            Err(_) => None,
+        },
     }
 }
 
 /// Shows what stands in front of the fault for which a record file is refused, as far as that can be done.
 fn show_before<K: Link>(alloc: Global, bytes: &[u8], form: Form, fault: DeskFault, client: &mut K) {
-    let Some(count) = records_before(fault) else {
-        return;
-    };
-    let Some(text) = first_text(alloc, bytes, count, form) else {
+    let Some(text) = text_before(alloc, bytes, form, fault) else {
         return;
     };
     // Whether it was written or not, what is told is the fault of the file.
@@ -163,7 +175,8 @@ fn show_part<K: Link, F: Link>(
     client: &mut K,
     faults: &mut F,
 ) -> u8
-    ensures { ShowsPart F.told faults.old faults.new result }
+    requires { RefusesFile bytes.now fault }
+    ensures { ShowsPart F.told bytes.now faults.old faults.new result }
 {
     show_before(alloc, bytes, form, fault, client);
     tell_unopened(faults, fault);
@@ -171,7 +184,9 @@ fn show_part<K: Link, F: Link>(
 }
 
 /// Why the bytes of a record file cannot be read, as it is told of a file that is opened.
-fn fault_of(fault: FileFault) -> DeskFault {
+fn fault_of(fault: FileFault) -> DeskFault
+    ensures { (bytes : List ℕ) → IsUnread bytes fault → RefusesFile bytes result }
+{
     match fault {
         FileFault::Foreign => DeskFault::Foreign,
         FileFault::Damaged(number) => DeskFault::Damaged(number),

@@ -55,8 +55,10 @@ pub(crate) fn watch<K: Drop, W: Link, R: Wait + Clock>(
         let Err(RecvTimeoutError::Timeout) = going.recv_timeout(rt, Duration::from_secs(1)) else {
             return;
         };
+        // First who waits, so that nobody who comes or is taken in between counts.
+        let waiting = clients.len() as u64;
         let now = taken.load(Ordering::SeqCst);
-        let waiting = still_waiting(clients.len() as u64, now, looks[0]);
+        let waiting = still_waiting(waiting, now, looks[0]);
         looks.rotate_left(1);
         looks[SECONDS - 1] = now;
         silent = silent.saturating_add(1);

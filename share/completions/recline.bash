@@ -4,15 +4,15 @@
 _recline_take() {
     case "$1" in
     "") options=(-h --help -V --version) arguments=(command) ;;
-    run) options=(-h --help) arguments=(path) ;;
-    serve) options=(--port --sessions --workers --idle -h --help) arguments=(path) ;;
-    check) options=(--at -h --help) arguments=(path path) ;;
-    line) options=(--at -h --help) arguments=(path nothing) ;;
-    garbage) options=(--at -h --help) arguments=(path) ;;
-    show) options=(--at --reports --json -h --help) arguments=(path) ;;
+    run) options=(--explain -h --help) arguments=(path) ;;
+    serve) options=(--port --sessions --workers --idle --explain -h --help) arguments=(path) ;;
+    check) options=(--at --explain -h --help) arguments=(path path) ;;
+    line) options=(--at --explain -h --help) arguments=(path nothing) ;;
+    garbage) options=(--at --explain -h --help) arguments=(path) ;;
+    show) options=(--at --reports --json --explain -h --help) arguments=(path) ;;
     explain) options=(-h --help) arguments=(nothing) ;;
-    drive) options=(-h --help) arguments=(path) ;;
-    draw) options=(--failed -h --help) arguments=(path) ;;
+    drive) options=(--comments --explain -h --help) arguments=(path) ;;
+    draw) options=(--comments --records --failed --why --at --explain -h --help) arguments=(path) ;;
     help) options=() arguments=(command) ;;
     *) options=() arguments=() ;;
     esac
@@ -20,7 +20,7 @@ _recline_take() {
 
 # Whether a value follows an option.
 _recline_has_value() {
-    [[ "$1" = @(--at|--failed|--idle|--port|--sessions|--workers) ]]
+    [[ "$1" = @(--at|--failed|--idle|--port|--sessions|--why|--workers) ]]
 }
 
 # Takes the words in front of the cursor. Sets 'place' to what the word at the cursor is: the value of an option, a file that a stream

@@ -7,7 +7,7 @@ function __recline_words
     set -e words[1]
     while set -q words[1]
         switch $words[1]
-            case --at --failed --idle --port --sessions --workers
+            case --at --failed --idle --port --sessions --why --workers
                 set -q words[2]; or return 1
                 set -e words[1]
             case --
@@ -53,33 +53,46 @@ complete -c recline -n '__recline_stands "" 0' -a draw -d 'Draws the history of 
 complete -c recline -n '__recline_stands "" 0' -a help -d 'Print this message or the help of the given subcommand(s)'
 complete -c recline -n '__recline_takes "" -h --help' -s h -l help -d 'Print help'
 complete -c recline -n '__recline_takes "" -V --version' -s V -l version -d 'Print version'
+complete -c recline -n '__recline_takes "run" --explain' -l explain -d 'Says on standard error why a file or a stream failed, in the system\'s words'
 complete -c recline -n '__recline_takes "run" -h --help' -s h -l help -d 'Print help'
 complete -c recline -n '__recline_stands "run" 0' -F
 complete -c recline -n '__recline_takes "serve" --port' -l port -x -d 'The port on this machine, 0 to 65535; 0 lets the system choose'
 complete -c recline -n '__recline_takes "serve" --sessions' -l sessions -x -d 'How many sessions are served, 1 to 4096'
 complete -c recline -n '__recline_takes "serve" --workers' -l workers -x -d 'How many threads serve them, 1 to 64'
 complete -c recline -n '__recline_takes "serve" --idle' -l idle -x -d 'How long a client may be silent, 1 to 4294967295; without it any time'
+complete -c recline -n '__recline_takes "serve" --explain' -l explain -d 'Says on standard error why a file or a stream failed, in the system\'s words'
 complete -c recline -n '__recline_takes "serve" -h --help' -s h -l help -d 'Print help'
 complete -c recline -n '__recline_stands "serve" 0' -F
 complete -c recline -n '__recline_takes "check" --at' -l at -x -d 'How many of the first records count, 0 to 16384; without it all'
+complete -c recline -n '__recline_takes "check" --explain' -l explain -d 'Says on standard error why a file or a stream failed, in the system\'s words'
 complete -c recline -n '__recline_takes "check" -h --help' -s h -l help -d 'Print help'
 complete -c recline -n '__recline_stands "check" 0' -F
 complete -c recline -n '__recline_stands "check" 1' -F
 complete -c recline -n '__recline_takes "line" --at' -l at -x -d 'How many of the first records count, 0 to 16384; without it all'
+complete -c recline -n '__recline_takes "line" --explain' -l explain -d 'Says on standard error why a file or a stream failed, in the system\'s words'
 complete -c recline -n '__recline_takes "line" -h --help' -s h -l help -d 'Print help'
 complete -c recline -n '__recline_stands "line" 0' -F
 complete -c recline -n '__recline_takes "garbage" --at' -l at -x -d 'How many of the first records count, 0 to 16384; without it all'
+complete -c recline -n '__recline_takes "garbage" --explain' -l explain -d 'Says on standard error why a file or a stream failed, in the system\'s words'
 complete -c recline -n '__recline_takes "garbage" -h --help' -s h -l help -d 'Print help'
 complete -c recline -n '__recline_stands "garbage" 0' -F
 complete -c recline -n '__recline_takes "show" --at' -l at -x -d 'How many of the first records count, 0 to 16384; without it all'
-complete -c recline -n '__recline_takes "show" --reports' -l reports -d 'Tells each accepted report, too'
+complete -c recline -n '__recline_takes "show" --reports' -l reports -d 'Tells each record, too'
 complete -c recline -n '__recline_takes "show" --json' -l json -d 'Writes JSON'
+complete -c recline -n '__recline_takes "show" --explain' -l explain -d 'Says on standard error why a file or a stream failed, in the system\'s words'
 complete -c recline -n '__recline_takes "show" -h --help' -s h -l help -d 'Print help'
 complete -c recline -n '__recline_stands "show" 0' -F
 complete -c recline -n '__recline_takes "explain" -h --help' -s h -l help -d 'Print help'
+complete -c recline -n '__recline_takes "drive" --comments' -l comments -d 'Passes over lines of the script that are empty or begin with \'#\''
+complete -c recline -n '__recline_takes "drive" --explain' -l explain -d 'Says on standard error why a file or a stream failed, in the system\'s words'
 complete -c recline -n '__recline_takes "drive" -h --help' -s h -l help -d 'Print help'
 complete -c recline -n '__recline_stands "drive" 0' -F
+complete -c recline -n '__recline_takes "draw" --comments' -l comments -d 'Passes over lines of the script that are empty or begin with \'#\''
+complete -c recline -n '__recline_takes "draw" --records' -l records -d 'SCRIPT is a file that keeps accepted reports, and these are drawn'
 complete -c recline -n '__recline_takes "draw" --failed' -l failed -x -d 'The processes that failed, parted by commas, or \'-\' for none'
+complete -c recline -n '__recline_takes "draw" --why' -l why -x -d 'With --records, the process whose reasons to return are drawn'
+complete -c recline -n '__recline_takes "draw" --at' -l at -x -d 'How many of the first records count, 0 to 16384; without it all'
+complete -c recline -n '__recline_takes "draw" --explain' -l explain -d 'Says on standard error why a file or a stream failed, in the system\'s words'
 complete -c recline -n '__recline_takes "draw" -h --help' -s h -l help -d 'Print help'
 complete -c recline -n '__recline_stands "draw" 0' -F
 complete -c recline -n '__recline_stands "help" 0' -a run -d 'Answers each line of standard input on standard output'

@@ -44,7 +44,17 @@ const (
 	NotKnown     Fault = C.RECLINE_NOT_KNOWN     // the message tells what the process does not know
 )
 
+var words = [...]string{
+	"memory is wanting", "no state", "no text that the call takes", "no name", "itself as the target", "a name that is taken", "not waiting",
+	"an older epoch", "a newer epoch", "worn", "an id that owns nothing", "a clock that is full", "too deep", "an overlap", "another process",
+	"not known to the process",
+}
+
+// Error gives a fault in words, and its number.
 func (fault Fault) Error() string {
+	if k := -int(fault) - 1; k >= 0 && k < len(words) {
+		return fmt.Sprintf("recline: %s (%d)", words[k], int(fault))
+	}
 	return fmt.Sprintf("recline: fault %d", int(fault))
 }
 

@@ -114,6 +114,10 @@ func TestFaultsChangeNothing(t *testing.T) {
 	if Memory != -1 || NotKnown != -16 {
 		t.Error("the numbers are not those of recline.h")
 	}
+	expect(t, Memory.Error(), "recline: memory is wanting (-1)")
+	expect(t, Older.Error(), "recline: an older epoch (-8)")
+	expect(t, NotKnown.Error(), "recline: not known to the process (-16)")
+	expect(t, Fault(7).Error(), "recline: fault 7")
 }
 
 // More than there is room for at first.

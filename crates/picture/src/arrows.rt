@@ -185,10 +185,10 @@ fn draw_open(canvas: &mut Canvas, view: View<'_>, sent: Sent) -> Result<(), Allo
     circle(&mut canvas.svg, end, (x + 10, y + 17), 3, told)
 }
 
-/// The messages that nobody received.
+/// The messages that nobody received, be it that a settlement undid that.
 pub(crate) fn draw_open_messages(canvas: &mut Canvas, view: View<'_>) -> Result<(), AllocError> {
     for sent in &view.scene.sent {
-        if !sent.is_received {
+        if sent.receipts == 0 {
             draw_open(canvas, view, *sent)?;
         }
     }

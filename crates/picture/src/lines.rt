@@ -14,10 +14,10 @@ use std::alloc::AllocError;
 /// Where the words above settlements stand.
 const ABOVE: u64 = 42;
 
-/// A cross at the end of the line of a process that failed.
-fn draw_failure(canvas: &mut Canvas, row: Row<'_>) -> Result<(), AllocError> {
+/// A cross behind all of the line of a process that failed, and behind the last settlement, which is in this column.
+fn draw_failure(canvas: &mut Canvas, row: Row<'_>, settled: u32) -> Result<(), AllocError> {
     canvas.shown.failure = true;
-    let (x, y) = (row.x(row.lane.last) + 28, row.y());
+    let (x, y) = (row.x(row.lane.last.max(settled)) + 28, row.y());
     let svg = &mut canvas.svg;
     line(svg, b"failure", (x - 6, y - 6), (x + 6, y + 6), &[])?;
     line(svg, b"failure", (x - 6, y + 6), (x + 6, y - 6), &[])
@@ -33,7 +33,7 @@ pub(crate) fn draw_failures(
         if let Some(lane) = view.scene.lane_of(*number)
             && let Some(row) = view.row(lane)
         {
-            draw_failure(canvas, row)?;
+            draw_failure(canvas, row, view.scene.floor)?;
         }
     }
     Ok(())

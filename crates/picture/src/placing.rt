@@ -273,6 +273,7 @@ impl Placing {
                     from,
                     to,
                     said: Said::nothing(),
+                    message: None,
                     element: source.element,
                     is_to_element,
                     is_undone: false,

@@ -37,6 +37,8 @@ pub(crate) struct Arrow {
     pub(crate) to: Spot,
     /// The name of the message.
     pub(crate) said: Said,
+    /// Which of those that were sent the message is.
+    pub(crate) message: Option<u32>,
     /// The number of the element that it comes from behind, of what is known, and whether it leads to an element.
     pub(crate) element: u32,
     pub(crate) is_to_element: bool,
@@ -49,7 +51,8 @@ pub(crate) struct Arrow {
 pub(crate) struct Sent {
     pub(crate) spot: Spot,
     pub(crate) said: Said,
-    pub(crate) is_received: bool,
+    /// How often it was received, where no settlement undid that.
+    pub(crate) receipts: u32,
     /// Whether a settlement undid its sending.
     pub(crate) is_undone: bool,
 }
@@ -84,7 +87,7 @@ pub(crate) struct Scene {
     /// The rows of the processes that are known, in order of birth.
     known: Vec<u32>,
     /// The column of the last settlement, behind which each later step stands.
-    floor: u32,
+    pub(crate) floor: u32,
     /// The greatest column so far.
     pub(crate) last: u32,
 }
@@ -153,6 +156,7 @@ impl Scene {
             from,
             to,
             said: Said::nothing(),
+            message: None,
             element: 0,
             is_to_element: tie == Tie::Fork,
             is_undone: false,
@@ -258,6 +262,15 @@ fn is_undone(lanes: &[Lane], spot: Spot) -> bool {
     }
 }
 
+/// Takes back that a message was received.
+fn take_back(sent: &mut [Sent], message: Option<u32>) {
+    if let Some(which) = message
+        && let Some(message) = sent.get_mut(which as usize)
+    {
+        message.receipts = message.receipts.saturating_sub(1);
+    }
+}
+
 /// The steps that the last settlement undid are undone, and the arrows to them.
 fn undo(marks: &mut [Mark], arrows: &mut [Arrow], sent: &mut [Sent], lanes: &[Lane]) {
     for mark in marks.iter_mut() {
@@ -266,8 +279,9 @@ fn undo(marks: &mut [Mark], arrows: &mut [Arrow], sent: &mut [Sent], lanes: &[La
         }
     }
     for arrow in arrows.iter_mut() {
-        if is_undone(lanes, arrow.to) {
+        if !arrow.is_undone && is_undone(lanes, arrow.to) {
             arrow.is_undone = true;
+            take_back(sent, arrow.message);
         }
     }
     for message in sent.iter_mut() {

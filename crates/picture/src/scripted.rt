@@ -92,7 +92,7 @@ impl Scripted {
         self.scene.sent.push(Sent {
             spot,
             said,
-            is_received: false,
+            receipts: 0,
             is_undone: false,
         })?;
         Ok(())
@@ -104,13 +104,14 @@ impl Scripted {
             return Ok(());
         };
         if let Some(sent) = self.scene.sent.get_mut(which as usize) {
-            sent.is_received = true;
+            sent.receipts = sent.receipts.saturating_add(1);
         }
         self.scene.arrows.push(Arrow {
             tie: Tie::Message,
             from: sent.spot,
             to: spot,
             said: sent.said,
+            message: Some(which),
             element: 0,
             is_to_element: false,
             is_undone: false,

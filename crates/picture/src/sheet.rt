@@ -85,10 +85,16 @@ fn write_title(svg: &mut Vec<u8>, subject: Subject<'_, '_>) -> Result<(), AllocE
     }
 }
 
+/// So many letters of the title widen a picture at most.
+const TITLE_LETTERS: usize = 250;
+
 /// The title above the picture.
 fn draw_title(canvas: &mut Canvas, subject: Subject<'_, '_>) -> Result<(), AllocError> {
     open_text(&mut canvas.svg, b"title", (12, 20))?;
+    let before = canvas.svg.len();
     write_title(&mut canvas.svg, subject)?;
+    let letters = canvas.svg.len().saturating_sub(before).min(TITLE_LETTERS);
+    canvas.right = canvas.right.max(24 + 8 * letters as u64);
     close_text(&mut canvas.svg)
 }
 

@@ -3,6 +3,7 @@ pub mod Calls
 pub mod Replay
 pub mod Plans
 pub mod Device
+pub mod Troubles
 pub mod File
 pub mod Known
 pub mod Log

@@ -1,5 +1,5 @@
 -- What callers see of a disk in memory.
-use Rattle.std.specs.Prelude.{ℕ, List, length, Option}
+use Rattle.std.specs.Prelude.{ℕ, ◌-◌, List, length, vec_capacity, Option}
 use Rattle.line_disk.specs.Disk.{View, one_more}
 use Rattle.line_disk.specs.Calls.{Call}
 use Rattle.line_disk.specs.Replay.{replay, image_at}
@@ -22,6 +22,10 @@ view_of tape = replay tape.first.items (calls_on tape)
 abbrev pub tape_bytes : Tape → List ℕ
 tape_bytes tape = tape.bytes.items
 
+-- how many more calls that change it are noted without memory
+abbrev pub room_in : Tape → ℕ
+room_in tape = vec_capacity tape.changes - length tape.changes.items
+
 -- what the disk holds
 abbrev pub bytes_of : MemoryDisk → List ℕ
 bytes_of disk = disk.tape.bytes.items
@@ -33,6 +37,10 @@ image_after disk k n = image_at disk.tape.first.items (calls_on disk.tape) k n
 -- what is seen of the disk
 abbrev pub disk_view : MemoryDisk → View
 disk_view disk = view_of disk.tape
+
+-- how many more calls that change it are noted without memory
+abbrev pub room_of : MemoryDisk → ℕ
+room_of disk = room_in disk.tape
 
 -- how many calls failed
 abbrev pub disk_failures : MemoryDisk → ℕ

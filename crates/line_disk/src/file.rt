@@ -3,8 +3,9 @@
 //!
 //! That the calls noted here are the calls made is read in this file, and not proved.
 
-ghost use Rattle.std.specs.Prelude.{◌≡◌, ◌+◌, ◌^◌, ◌<◌, ◌≤◌, [], IfOk, IsSome, OnOk, length, take, vec_len};
-ghost use Rattle.line_disk.specs.Device.{KeepsModel, view_by};
+ghost use Rattle.std.specs.Prelude.{◌≡◌, ◌≢◌, ◌↔◌, ◌+◌, ◌^◌, ◌<◌, ◌≤◌, [], IfOk, IsSome, OnOk, length, take, drop, vec_len};
+ghost use Rattle.line_disk.specs.Device.{KeepsModel};
+ghost use Rattle.line_disk.specs.Disk.{Counts, CountsDevice, IsShortened, IsTorn, LeavesOnly, Passes, Rests, written};
 
 use crate::known::Known;
 use crate::trouble::Failures;
@@ -114,7 +115,7 @@ fn open_locked<R: Files<File = File>>(rt: &R, path: &str) -> Result<File, Unopen
 }
 
 impl<P: Device> FileDisk<P> {
-    ghost use Rattle.line_disk.specs.File.{file_calls, file_failures};
+    ghost use Rattle.line_disk.specs.File.{file_calls, file_failures, file_trouble};
 
     /// Opens a file, and makes it if it is missing. It is read once, from its start and as far as `reach` wants it, and a copy of
     /// that is kept in memory. A file that another program has open so is not opened. Where the file is empty its folder is synced,
@@ -147,17 +148,22 @@ impl<P: Device> FileDisk<P> {
 
     /// The first call that failed since the file was opened, if one did.
     pub fn trouble(&self) -> Option<FileTrouble>
-        ensures told { ¬ IsSome result → file_failures self.now ≡ 0 }
+        ensures told { result ≡ file_trouble self.now }
+        ensures failed { IsSome result ↔ file_failures self.now ≢ 0 }
     {
         self.failures.first
     }
 }
 
+// The clauses of the trait once more, and which call is told of where one fails.
 impl<P: Device> Disk for FileDisk<P> {
+    ghost use Rattle.line_disk.specs.File.{file_failures, file_trouble, file_view};
     ghost use Rattle.line_disk.specs.FileReadIsLeft.{read_left};
+    ghost use Rattle.line_disk.specs.Troubles.{TellsFirst};
+    ghost use Rattle.line_disk.specs.declared.trouble.FileCall.TheVariants.{Measure, Read, Write, Cut, Sync};
     ghost use Rattle.line_disk.specs.Known.{first_of, calls_of};
 
-    ghost view = { λ disk. view_by P.leaves (first_of P.unread disk.known) (calls_of disk.known) };
+    ghost view = { λ disk. file_view P.leaves P.unread disk };
 
     ghost keeps = { λ disk. KeepsModel P.leaves };
 
@@ -170,7 +176,13 @@ impl<P: Device> Disk for FileDisk<P> {
     }
 
     /// A length that is not the known one is a fault of the device.
-    fn len(&mut self) -> Result<usize, DiskFault> {
+    fn len(&mut self) -> Result<usize, DiskFault>
+        ensures len { KeepsModel P.leaves → IfOk result (λ n. n ≡ length (file_view P.leaves P.unread self.old).seen) }
+        ensures rests { KeepsModel P.leaves → Rests (file_view P.leaves P.unread self.old) (file_view P.leaves P.unread self.new) }
+        ensures premise { KeepsModel P.leaves ↔ KeepsModel P.leaves }
+        ensures cause { CountsDevice result (file_failures self.old) (file_failures self.new) }
+        ensures trouble { TellsFirst Measure result (file_trouble self.old) (file_trouble self.new) }
+    {
         let length = length_of(&self.file);
         match length {
             Ok(n) if !self.known.failed && n == self.known.len => Ok(n),
@@ -180,7 +192,15 @@ impl<P: Device> Disk for FileDisk<P> {
 
     /// Bytes that are not those that were written or read before are a fault of the device, and so are bytes of which there is no
     /// copy: for these no memory is taken.
-    fn read_at(&mut self, alloc: Global, at: usize, n: usize) -> Result<Vec<u8>, DiskFault> {
+    fn read_at(&mut self, alloc: Global, at: usize, n: usize) -> Result<Vec<u8>, DiskFault>
+        requires { KeepsModel P.leaves → at + n ≤ length (file_view P.leaves P.unread self.old).seen }
+        ensures n { IfOk result (λ bytes. length bytes.items ≡ n) }
+        ensures bytes { KeepsModel P.leaves → IfOk result (λ bytes. bytes.items ≡ take n (drop at (file_view P.leaves P.unread self.old).seen)) }
+        ensures rests { KeepsModel P.leaves → Rests (file_view P.leaves P.unread self.old) (file_view P.leaves P.unread self.new) }
+        ensures premise { KeepsModel P.leaves ↔ KeepsModel P.leaves }
+        ensures cause { Counts result (file_failures self.old) (file_failures self.new) }
+        ensures trouble { TellsFirst Read result (file_trouble self.old) (file_trouble self.new) }
+    {
         if !self.known.covers(at, n) {
             return Err(self.failures.add(FileCall::Read, None));
         }
@@ -192,7 +212,15 @@ impl<P: Device> Disk for FileDisk<P> {
         Ok(bytes)
     }
 
-    fn write_at(&mut self, at: usize, bytes: &[u8]) -> Result<(), DiskFault> {
+    fn write_at(&mut self, at: usize, bytes: &[u8]) -> Result<(), DiskFault>
+        requires { KeepsModel P.leaves → at ≤ length (file_view P.leaves P.unread self.old).seen }
+        ensures written { KeepsModel P.leaves → OnOk result ((file_view P.leaves P.unread self.new).seen ≡ written (file_view P.leaves P.unread self.old).seen at bytes.now) }
+        ensures crash { KeepsModel P.leaves → Passes (IsTorn at (length bytes.now)) (file_view P.leaves P.unread self.old) (file_view P.leaves P.unread self.new) }
+        ensures fits { OnOk result (at + length bytes.now < 2 ^ 64) }
+        ensures premise { KeepsModel P.leaves ↔ KeepsModel P.leaves }
+        ensures cause { CountsDevice result (file_failures self.old) (file_failures self.new) }
+        ensures trouble { TellsFirst Write result (file_trouble self.old) (file_trouble self.new) }
+    {
         let fits = at.checked_add(bytes.len()).is_some();
         if self.known.failed || !fits || at > self.known.len {
             return Err(self.failures.add(FileCall::Write, None));
@@ -206,7 +234,14 @@ impl<P: Device> Disk for FileDisk<P> {
         Ok(())
     }
 
-    fn cut(&mut self, len: usize) -> Result<(), DiskFault> {
+    fn cut(&mut self, len: usize) -> Result<(), DiskFault>
+        requires { KeepsModel P.leaves → len ≤ length (file_view P.leaves P.unread self.old).seen }
+        ensures cut { KeepsModel P.leaves → OnOk result ((file_view P.leaves P.unread self.new).seen ≡ take len (file_view P.leaves P.unread self.old).seen) }
+        ensures crash { KeepsModel P.leaves → Passes (IsShortened len) (file_view P.leaves P.unread self.old) (file_view P.leaves P.unread self.new) }
+        ensures premise { KeepsModel P.leaves ↔ KeepsModel P.leaves }
+        ensures cause { CountsDevice result (file_failures self.old) (file_failures self.new) }
+        ensures trouble { TellsFirst Cut result (file_trouble self.old) (file_trouble self.new) }
+    {
         if self.known.failed || len > self.known.len {
             return Err(self.failures.add(FileCall::Cut, None));
         }
@@ -219,7 +254,13 @@ impl<P: Device> Disk for FileDisk<P> {
         Ok(())
     }
 
-    fn sync(&mut self) -> Result<(), DiskFault> {
+    fn sync(&mut self) -> Result<(), DiskFault>
+        ensures durable { KeepsModel P.leaves → OnOk result (LeavesOnly (file_view P.leaves P.unread self.new) (file_view P.leaves P.unread self.old).seen) }
+        ensures rests { KeepsModel P.leaves → Rests (file_view P.leaves P.unread self.old) (file_view P.leaves P.unread self.new) }
+        ensures premise { KeepsModel P.leaves ↔ KeepsModel P.leaves }
+        ensures cause { CountsDevice result (file_failures self.old) (file_failures self.new) }
+        ensures trouble { TellsFirst Sync result (file_trouble self.old) (file_trouble self.new) }
+    {
         if self.known.failed {
             return Err(self.failures.add(FileCall::Sync, None));
         }

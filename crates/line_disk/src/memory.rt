@@ -1,6 +1,6 @@
 //! A disk in memory.
 
-ghost use Rattle.std.specs.Prelude.{IsSome, Some, None, Ok, ◌≡◌, ◌≢◌, ◌-◌, ◌↔◌, ◌⊎◌, ◌+◌, ◌^◌, ◌<◌, ◌≤◌, ◌++◌, [], ◌∷◌, ℕ, List, length, take, drop, min, IfOk, OnOk, OnErr};
+ghost use Rattle.std.specs.Prelude.{IsSome, Some, None, Ok, ◌≡◌, ◌≢◌, ◌-◌, ◌↔◌, ◌⊎◌, ◌+◌, ◌^◌, ◌<◌, ◌≤◌, ◌++◌, [], ◌∷◌, ℕ, List, length, take, drop, min, IfOk, IsOk, OnOk, OnErr};
 ghost use Rattle.line_disk.specs.Disk.{Counts, CountsDevice, LeavesOnly, IsTorn, IsShortened, Passes, Rests, written, DidNothing, DidWrite, DidCut, DidSync, one_more};
 
 use crate::fault::device_failed;
@@ -20,7 +20,7 @@ pub struct MemoryDisk {
 }
 
 impl MemoryDisk {
-    ghost use Rattle.line_disk.specs.Tape.{bytes_of, image_after, disk_view, disk_failures, plan_of, planned_next};
+    ghost use Rattle.line_disk.specs.Tape.{bytes_of, image_after, disk_view, disk_failures, plan_of, planned_next, room_of};
 
     /// A disk that holds these bytes, all of them durable.
     pub fn new(alloc: Global, bytes: &[u8]) -> Result<MemoryDisk, AllocError>
@@ -52,6 +52,7 @@ impl MemoryDisk {
         ensures no_call { IfOk result (λ disk. (disk_view disk).clock ≡ 0) }
         ensures never_failed { IfOk result (λ disk. disk_failures disk ≡ 0) }
         ensures no_plan { IfOk result (λ disk. plan_of disk ≡ []) }
+        ensures room { IfOk result (λ disk. changes ≤ room_of disk) }
     {
         let mut disk = MemoryDisk::new(alloc, bytes)?;
         disk.tape.changes.reserve(changes)?;
@@ -107,7 +108,7 @@ impl MemoryDisk {
 impl Disk for MemoryDisk {
     ghost use Rattle.line_disk.specs.ReadIsLeft.{left_now};
     ghost use Rattle.line_disk.specs.Noting.{calls_in};
-    ghost use Rattle.line_disk.specs.Tape.{view_of, disk_view, disk_failures, planned_next};
+    ghost use Rattle.line_disk.specs.Tape.{view_of, disk_view, disk_failures, planned_next, room_of};
 
     ghost view = { λ disk. view_of disk.tape };
 
@@ -130,6 +131,7 @@ impl Disk for MemoryDisk {
         ensures unplanned { planned_next self.old ≡ None → (disk_view self.old).clock < 2 ^ 64 - 1 → result ≡ Ok (length (disk_view self.old).seen) }
         ensures nothing { DidNothing (disk_view self.old) (disk_view self.new) }
         ensures noted { (disk_view self.new).clock ≡ one_more (disk_view self.old).clock }
+        ensures left { room_of self.new ≡ room_of self.old }
     {
         let effect = self.next_effect();
         if !self.tape.idle() || effect.is_some() {
@@ -149,6 +151,7 @@ impl Disk for MemoryDisk {
         ensures unplanned { planned_next self.old ≡ None → (disk_view self.old).clock < 2 ^ 64 - 1 → result ≢ Err DiskFault.Device }
         ensures nothing { DidNothing (disk_view self.old) (disk_view self.new) }
         ensures noted { (disk_view self.new).clock ≡ one_more (disk_view self.old).clock }
+        ensures left { room_of self.new ≡ room_of self.old }
     {
         let effect = self.next_effect();
         if !self.tape.idle() || effect.is_some() {
@@ -169,6 +172,7 @@ impl Disk for MemoryDisk {
         ensures done { OnOk result (DidWrite at bytes.now (disk_view self.old) (disk_view self.new)) }
         ensures whole { DidWrite at bytes.now (disk_view self.old) (disk_view self.new) ⊎ DidNothing (disk_view self.old) (disk_view self.new) }
         ensures noted { (disk_view self.new).clock ≡ one_more (disk_view self.old).clock }
+        ensures left { room_of self.old ≤ room_of self.new + 1 }
     {
         let effect = self.next_effect();
         let done = match effect {
@@ -191,6 +195,8 @@ impl Disk for MemoryDisk {
         ensures done { OnOk result (DidCut len (disk_view self.old) (disk_view self.new)) }
         ensures whole { DidCut len (disk_view self.old) (disk_view self.new) ⊎ DidNothing (disk_view self.old) (disk_view self.new) }
         ensures noted { (disk_view self.new).clock ≡ one_more (disk_view self.old).clock }
+        ensures room { planned_next self.old ≡ None → (disk_view self.old).clock < 2 ^ 64 - 1 → 0 < room_of self.old → IsOk result }
+        ensures left { room_of self.old ≤ room_of self.new + 1 }
     {
         let effect = self.next_effect();
         let done = match effect {
@@ -212,6 +218,8 @@ impl Disk for MemoryDisk {
         ensures nothing { planned_next self.old ≡ Some Effect.Nothing → DidNothing (disk_view self.old) (disk_view self.new) }
         ensures whole { DidSync (disk_view self.old) (disk_view self.new) ⊎ DidNothing (disk_view self.old) (disk_view self.new) }
         ensures noted { (disk_view self.new).clock ≡ one_more (disk_view self.old).clock }
+        ensures room { planned_next self.old ≡ None → (disk_view self.old).clock < 2 ^ 64 - 1 → 0 < room_of self.old → IsOk result }
+        ensures left { room_of self.old ≤ room_of self.new + 1 }
     {
         let effect = self.next_effect();
         let done = match effect {

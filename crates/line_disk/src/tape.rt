@@ -29,7 +29,7 @@ pub(crate) struct Tape {
 
 // Each call answers whether it was done. One that was not, for want of memory or past 2^64 - 1 calls, did nothing.
 impl Tape {
-    ghost use Rattle.line_disk.specs.Tape.{view_of, tape_bytes};
+    ghost use Rattle.line_disk.specs.Tape.{view_of, tape_bytes, room_in};
 
     /// A call that does nothing.
     pub fn idle(&mut self) -> bool
@@ -38,6 +38,7 @@ impl Tape {
         ensures bytes { tape_bytes self.new ≡ tape_bytes self.old }
         ensures noted { (view_of self.new).clock ≡ one_more (view_of self.old).clock }
         ensures room { (view_of self.old).clock < 2 ^ 64 - 1 → IsTrue result }
+        ensures left { room_in self.new ≡ room_in self.old }
     {
         if self.count == usize::MAX {
             return false;
@@ -56,6 +57,7 @@ impl Tape {
         ensures not_done { OnFalse result (DidNothing (view_of self.old) (view_of self.new)) }
         ensures fits { OnTrue result (at + length bytes.now < 2 ^ 64) }
         ensures noted { (view_of self.new).clock ≡ one_more (view_of self.old).clock }
+        ensures left { room_in self.old ≤ room_in self.new + 1 }
     {
         let Ok(copy) = bytes.to_vec(self.alloc) else {
             self.idle();
@@ -83,6 +85,8 @@ impl Tape {
         ensures done { OnTrue result (DidCut len (view_of self.old) (view_of self.new)) }
         ensures not_done { OnFalse result (DidNothing (view_of self.old) (view_of self.new)) }
         ensures noted { (view_of self.new).clock ≡ one_more (view_of self.old).clock }
+        ensures room { (view_of self.old).clock < 2 ^ 64 - 1 → 0 < room_in self.old → IsTrue result }
+        ensures left { room_in self.old ≤ room_in self.new + 1 }
     {
         if self.count == usize::MAX || self.changes.reserve(1).is_err() {
             self.idle();
@@ -103,6 +107,8 @@ impl Tape {
         ensures done { OnTrue result (DidSync (view_of self.old) (view_of self.new)) }
         ensures not_done { OnFalse result (DidNothing (view_of self.old) (view_of self.new)) }
         ensures noted { (view_of self.new).clock ≡ one_more (view_of self.old).clock }
+        ensures room { (view_of self.old).clock < 2 ^ 64 - 1 → 0 < room_in self.old → IsTrue result }
+        ensures left { room_in self.old ≤ room_in self.new + 1 }
     {
         if self.count == usize::MAX || self.changes.reserve(1).is_err() {
             self.idle();

@@ -1,8 +1,8 @@
 //! What the system said of a call of a file that failed.
 
-ghost use Rattle.std.specs.Prelude.{◌≡◌, IsSome};
-ghost use Rattle.std.proofs.Props.{props};
+ghost use Rattle.std.specs.Prelude.{◌≡◌, ◌≢◌, ◌↔◌, IsSome, None, Some};
 ghost use Rattle.line_disk.specs.Disk.{one_more};
+ghost use Rattle.line_disk.specs.Troubles.{KeepsFirst};
 ghost use Rattle.line_disk.specs.declared.fault.DiskFault.TheVariants.{Device};
 ghost use Rattle.line_disk.specs.declared.trouble.Unopened.TheVariants.{Memory};
 
@@ -78,7 +78,7 @@ impl FileCall {
 pub(crate) struct Failures {
     pub count: u64,
     pub first: Option<FileTrouble>,
-    ghost told: { ¬ IsSome first → count ≡ 0 } by { Prim.hlevel props },
+    ghost told: { IsSome first ↔ count ≢ 0 },
 }
 
 impl Failures {
@@ -96,6 +96,8 @@ impl Failures {
     pub fn add(&mut self, call: FileCall, error: Option<io::Error>) -> DiskFault
         ensures fault { result ≡ Device }
         ensures counted { self.new.count ≡ one_more self.old.count }
+        ensures first { KeepsFirst call self.old.first self.new.first }
+        ensures error { self.old.first ≡ None → self.new.first ≡ Some (record { call = call; error = error }) }
     {
         if self.first.is_none() {
             self.first = Some(FileTrouble { call, error });

@@ -4,9 +4,10 @@ ghost use Rattle.std.specs.Prelude.{◌<◌, ◌≤◌, ◌^◌};
 
 use crate::canvas::Canvas;
 use crate::frame::View;
-use crate::pen::Piece::{Number, Text};
+use crate::pen::Piece::{self, Number, Text};
 use crate::scene::{Arrow, Sent, Spot, Tie};
 use crate::shapes::{circle, line};
+use crate::telling::Said;
 use std::alloc::AllocError;
 
 /// What becomes of an arrow.
@@ -88,6 +89,28 @@ fn name_in<'a>(view: View<'a>, lane: u32) -> &'a [u8] {
     }
 }
 
+/// What tells of a message that this process sent, and then so.
+fn words_of_message<'a>(
+    view: View<'a>,
+    said: Said,
+    lane: u32,
+    behind: [Piece<'a>; 2],
+) -> [Piece<'a>; 6] {
+    [
+        Text(b"message ".as_slice()),
+        Text(view.scene.texts.get(said)),
+        Text(b" of ".as_slice()),
+        Text(name_in(view, lane)),
+        behind[0],
+        behind[1],
+    ]
+}
+
+/// What a message tells where the picture tells what things are, and nothing where it doesn't.
+fn if_told<'a>(view: View<'_>, words: &'a [Piece<'a>]) -> &'a [Piece<'a>] {
+    if view.scene.tells { words } else { &[] }
+}
+
 /// The arrow of a message.
 fn draw_message(
     canvas: &mut Canvas,
@@ -95,16 +118,10 @@ fn draw_message(
     arrow: Arrow,
     class: &[u8],
 ) -> Result<(), AllocError> {
-    let told = &[
-        Text(b"message ".as_slice()),
-        Text(view.scene.texts.get(arrow.said)),
-        Text(b" of ".as_slice()),
-        Text(name_in(view, arrow.from.lane)),
-        Text(b" to ".as_slice()),
-        Text(name_in(view, arrow.to.lane)),
-    ];
+    let receiver = [Text(b" to ".as_slice()), Text(name_in(view, arrow.to.lane))];
+    let words = words_of_message(view, arrow.said, arrow.from.lane, receiver);
     let (from, to) = (view.frame.at(arrow.from), view.frame.at(arrow.to));
-    line(&mut canvas.svg, class, from, to, told)
+    line(&mut canvas.svg, class, from, to, if_told(view, &words))
 }
 
 /// The arrow of what a report is the first one to know.
@@ -173,16 +190,13 @@ fn draw_open(canvas: &mut Canvas, view: View<'_>, sent: Sent) -> Result<(), Allo
         (b"open".as_slice(), b"end".as_slice())
     };
     canvas.shown.open = true;
-    let told = &[
-        Text(b"message ".as_slice()),
-        Text(view.scene.texts.get(sent.said)),
-        Text(b" of ".as_slice()),
-        Text(name_in(view, sent.spot.lane)),
-        Text(b", not received".as_slice()),
-    ];
+    let nobody = [Text(b", not received".as_slice()), Text(b"".as_slice())];
+    let words = words_of_message(view, sent.said, sent.spot.lane, nobody);
+    let told = if_told(view, &words);
     let (x, y) = (view.frame.x(sent.spot.column), view.frame.y(sent.spot.lane));
-    line(&mut canvas.svg, class, (x, y), (x + 9, y + 15), told)?;
-    circle(&mut canvas.svg, end, (x + 10, y + 17), 3, told)
+    // Above the line of the process, since names stand below it.
+    line(&mut canvas.svg, class, (x, y), (x + 9, y - 15), told)?;
+    circle(&mut canvas.svg, end, (x + 10, y - 17), 3, told)
 }
 
 /// The messages that nobody received, be it that a settlement undid that.

@@ -50,7 +50,8 @@ fn admit(chains: &mut Chains, report: &PackedReport) -> Result<(), Stop> {
     }
 }
 
-/// The steps of a script of at most so many lines tell what is reported of them: stamps would make the picture of a longer one some times as large.
+/// The steps and messages of a script of at most so many lines tell what they are: that would make the picture of a longer one some times as
+/// large.
 const MOST_TOLD: usize = 1_000;
 
 /// Whether a script has no more lines than that.
@@ -152,7 +153,7 @@ fn note_report(
     epoch: u32,
     report: &PackedReport,
 ) -> Result<(), AllocError> {
-    if !scripted.tells {
+    if !scripted.scene.tells {
         return scripted.note(step, Said::nothing(), Said::nothing());
     }
     let said = scripted.scene.texts.report(epoch, report)?;

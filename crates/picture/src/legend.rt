@@ -52,7 +52,7 @@ const SIGNS: &[Sign] = &[
 ];
 
 /// The height of a row of signs, and the width of a sign and of a letter.
-const ROW: u64 = 20;
+pub(crate) const ROW: u64 = 20;
 
 const SIGN: u64 = 22;
 
@@ -161,13 +161,24 @@ fn room_of(sign: Sign) -> u64
     SIGN + 24 + LETTER * (meaning(sign).len().min(64) as u64)
 }
 
-/// Where the next sign stands, behind one that stands here, in a picture of this width.
-fn next_place(x: u64, y: u64, room: u64, width: u64) -> (u64, u64) {
+/// Where the next sign or word stands that takes so much room, behind what ends here, in a picture of this width.
+pub(crate) fn next_place(x: u64, y: u64, room: u64, width: u64) -> (u64, u64) {
     if x > 12 && x.saturating_add(room) > width {
         (12, y.saturating_add(ROW))
     } else {
         (x, y)
     }
+}
+
+/// The width of a row of all signs that stand in a picture.
+pub(crate) fn width_of_legend(shown: Shown) -> u64 {
+    let mut width = 12u64;
+    for sign in SIGNS {
+        if is_shown(shown, *sign) {
+            width = width.saturating_add(room_of(*sign));
+        }
+    }
+    width
 }
 
 /// The signs of a picture of this width that stand in it, from this height on. Answers where they end.

@@ -34,7 +34,7 @@ impl Placing {
     /// A scene with a row for each process.
     fn begun(chains: &Chains, reports: &Reports) -> Result<Placing, AllocError> {
         let alloc = chains.alloc();
-        let mut scene = Scene::new(alloc);
+        let mut scene = Scene::new(alloc, true);
         for process in 0..chains.count() {
             scene.add(chains.name_of(process).copy())?;
         }

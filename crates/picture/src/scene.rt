@@ -84,6 +84,8 @@ pub(crate) struct Scene {
     pub(crate) sent: Vec<Sent>,
     pub(crate) settlements: Vec<Settlement>,
     pub(crate) texts: Texts,
+    /// Whether steps and messages tell what they are.
+    pub(crate) tells: bool,
     /// The rows of the processes that are known, in order of birth.
     known: Vec<u32>,
     /// The column of the last settlement, behind which each later step stands.
@@ -93,8 +95,8 @@ pub(crate) struct Scene {
 }
 
 impl Scene {
-    /// No steps.
-    pub(crate) fn new(alloc: Global) -> Scene {
+    /// No steps, which are to tell what they are, or not.
+    pub(crate) fn new(alloc: Global, tells: bool) -> Scene {
         Scene {
             alloc,
             lanes: Vec::new(alloc),
@@ -103,6 +105,7 @@ impl Scene {
             sent: Vec::new(alloc),
             settlements: Vec::new(alloc),
             texts: Texts::new(alloc),
+            tells,
             known: Vec::new(alloc),
             floor: 0,
             last: 0,

@@ -17,8 +17,6 @@ pub(crate) struct Scripted {
     rows: IndexMap<Name, u32>,
     /// Which of those that were sent each message is.
     messages: IndexMap<Name, u32>,
-    /// Whether steps tell what is reported of them.
-    pub(crate) tells: bool,
 }
 
 impl Scripted {
@@ -30,10 +28,9 @@ impl Scripted {
         tells: bool,
     ) -> Result<Scripted, AllocError> {
         let mut scripted = Scripted {
-            scene: Scene::new(alloc),
+            scene: Scene::new(alloc, tells),
             rows: IndexMap::new(alloc),
             messages: IndexMap::new(alloc),
-            tells,
         };
         let said = scripted.scene.texts.report(0, report)?;
         scripted.bear(root, 0, said)?;

@@ -3,8 +3,8 @@
 use crate::arrows::{draw_arrows, draw_open_messages};
 use crate::canvas::Canvas;
 use crate::frame::{Frame, View};
-use crate::labels::draw_names;
-use crate::legend::draw_legend;
+use crate::labels::{draw_names, draw_names_below};
+use crate::legend::{draw_legend, width_of_legend};
 use crate::lines::{draw_failures, draw_recovery_line, draw_settlements};
 use crate::lives::{draw_lives, draw_obsolete};
 use crate::looks::write_looks;
@@ -14,12 +14,13 @@ use crate::pen::write;
 use crate::reason::draw_reason;
 use crate::scene::Scene;
 use crate::shapes::{close_text, open_text};
+use crate::telling::Said;
 use crate::words::{write_failed, write_lines, write_reason, write_settlements, write_why};
 use chains::Place;
 use reasons::Certificate;
 use std::alloc::{AllocError, Global};
 
-/// The least width of a picture.
+/// The least width of a picture whose legend would be wider.
 const LEAST_WIDTH: u64 = 520;
 
 /// A process of which the picture shows why it cannot stay further on, and its reason chain, which is empty where it stays at its last
@@ -98,12 +99,12 @@ fn draw_title(canvas: &mut Canvas, subject: Subject<'_, '_>) -> Result<(), Alloc
     close_text(&mut canvas.svg)
 }
 
-/// The layers, from the lowest to the highest.
+/// The layers, from the lowest to the highest. Answers the names of messages to be sent again that found no room in them.
 fn draw_layers(
     canvas: &mut Canvas,
     frame: Frame,
     subject: Subject<'_, '_>,
-) -> Result<(), AllocError> {
+) -> Result<Vec<Said>, AllocError> {
     let scene = subject.scene;
     let positions = &scene.positions(subject.line.line.as_slice())?;
     let garbage = &scene.positions(subject.obsolete.line.as_slice())?;
@@ -136,9 +137,12 @@ pub(crate) fn picture(alloc: Global, subject: Subject<'_, '_>) -> Result<Vec<u8>
     let frame = Frame::of(subject.scene);
     let mut canvas = Canvas::new(alloc);
     draw_title(&mut canvas, subject)?;
-    draw_layers(&mut canvas, frame, subject)?;
-    let width = frame.right().max(canvas.right).max(LEAST_WIDTH);
-    let height = draw_legend(&mut canvas, frame.bottom() + 20, width)?;
+    let names = draw_layers(&mut canvas, frame, subject)?;
+    let least = width_of_legend(canvas.shown).min(LEAST_WIDTH);
+    let width = frame.right().max(canvas.right).max(least);
+    let below = draw_legend(&mut canvas, frame.bottom() + 20, width)?;
+    let texts = &subject.scene.texts;
+    let height = draw_names_below(&mut canvas.svg, texts, &names, below, width)?;
     let mut svg = Vec::new(alloc);
     write_head(&mut svg, width, height)?;
     write_words(&mut svg, subject)?;

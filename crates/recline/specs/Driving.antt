@@ -50,19 +50,19 @@ ReadsInVain old new =
     ((new.failures ≡ up 1 old.failures) × (new.stalls ≡ old.stalls))
     ⊎ (IsSound old new × (new.reads ≡ up most_reads old.reads))
 
--- how a script of these lines ended, where what is passed on of them ended so: a step has the number of its line among all of them
-abbrev pub end_in : List (List ℕ) → End → End
-end_in lines Done = Done
-end_in lines (Refused step cause) = Refused (number_in lines step) cause
-end_in lines Memory = Memory
+-- how a script ended, where what is driven of it ended so: a step has the number of its line
+abbrev pub numbered_by : (ℕ → ℕ) → End → End
+numbered_by number Done = Done
+numbered_by number (Refused step cause) = Refused (number step) cause
+numbered_by number Memory = Memory
 
--- driving what is passed on of a script with comments ended so, with this text
+-- driving what is passed on of a script with comments ended so, with this text: a step has the number of its line among all of them
 pub record IsDrivenCommented (script text : List ℕ) (end : End) : Type 0 where
   pub lines : List (List ℕ)
   pub lines_are : AreLinesOf script lines
   pub passed_end : End
   pub driven : IsDriven (passed_on lines) text passed_end
-  pub end_is : end ≡ end_in lines passed_end
+  pub end_is : end ≡ numbered_by (number_in lines) passed_end
 
 -- driving a script that is written in this form ended so, with this text
 abbrev pub IsDrivenIn : ScriptForm → List ℕ → List ℕ → End → Type 0
@@ -144,12 +144,6 @@ steps_of (scripts.Commented script steps) = steps.items
 abbrev pub line_in : ReadScript → ℕ → ℕ
 line_in (scripts.Plain script) step = step
 line_in (scripts.Commented script steps) step = number_in (lines_of script.items) step
-
--- how it ended, where what is driven of it ended so
-abbrev pub end_of : ReadScript → End → End
-end_of script Done = Done
-end_of script (Refused step cause) = Refused (line_in script step) cause
-end_of script Memory = Memory
 
 -- it is written in this form
 abbrev pub IsIn : ScriptForm → ReadScript → Type 0

@@ -2,6 +2,7 @@
 use Rattle.std.specs.Prelude.{◌≡◌, ◌⊎◌, ℕ, List, [], ◌++◌, Bool, Option, Some, None, if◌then◌else◌}
 use Rattle.std.specs.Io.KnownBytes.{Appends}
 use Rattle.record_file.specs.File.{Said, Stands}
+use Rattle.earlier_file.specs.Earlier.{IsFirst, IsReadAsFirst}
 use Rattle.earlier_file.specs.Facts.{AreFacts}
 use Rattle.earlier_file.specs.declared.found.FileFacts.{FileFacts}
 use Rattle.chains.specs.Held.{Held}
@@ -16,6 +17,7 @@ use Rattle.inspection.specs.Tables.{table_text}
 use Rattle.inspection.specs.Lines.{lines_text}
 use Rattle.inspection.specs.Json.{json_text}
 use Rattle.recline.specs.declared.showing.Form.{Form}
+use Rattle.recline.specs.Earlier.{HasNoFront}
 use Rattle.recline.specs.Outcome.{Tells, open_fault_line}
 
 -- the records, where they are asked for
@@ -51,6 +53,12 @@ abbrev pub Shows : {K F : Type 0} → (K → LinkState) → (F → LinkState) �
 Shows client_told faults_told bytes form client client_after faults faults_after status =
     ((status ≡ 0) × (faults_after ≡ faults) × IsShown bytes form (client_told client) (client_told client_after))
     ⊎ ShowsPart faults_told bytes faults faults_after status
+
+-- The same of the file as it was when it had its first records alone, so many; or why it has no such first records was told.
+abbrev pub ShowsFront : {K F : Type 0} → (K → LinkState) → (F → LinkState) → ℕ → List ℕ → Form → K → K → F → F → ℕ → Type 0
+ShowsFront client_told faults_told front bytes form client client_after faults faults_after status =
+    ((earlier : List ℕ) × IsFirst front bytes earlier × IsReadAsFirst front bytes earlier × Shows client_told faults_told earlier form client client_after faults faults_after status)
+    ⊎ HasNoFront faults_told front bytes faults faults_after status
 
 -- Working definitions from here on: the parts of it.
 

@@ -1,16 +1,16 @@
 //! A desk over a copy of the bytes of a record file, which are only read.
 
-ghost use Rattle.std.specs.Prelude.{◌≡◌, [], IfErr, IfOk};
+ghost use Rattle.std.specs.Prelude.{◌≡◌, ◌≤◌, [], IfErr, IfOk};
 ghost use Rattle.desk.specs.Openings.{RefusesFile};
 ghost use Rattle.line_disk.specs.Disk.{LeavesOnly};
-ghost use Rattle.line_disk.specs.Tape.{bytes_of, disk_failures, disk_view, plan_of};
+ghost use Rattle.line_disk.specs.Tape.{bytes_of, disk_failures, disk_view, plan_of, room_of};
 ghost use Rattle.record_file.specs.File.{Stands};
 ghost use Rattle.record_file.specs.Store.{found_records};
 ghost use Rattle.recline.specs.Showing.{IsDeskOf};
 
 use desk::{Desk, DeskFault};
 use line_disk::MemoryDisk;
-use record_file::Store;
+use record_file::{Store, files_are_of_one_kind};
 use std::alloc::{AllocError, Global};
 
 /// How many calls change a copy of a record file at most where nothing is accepted: those that cut a tail off.
@@ -24,6 +24,7 @@ pub fn copy_of(alloc: Global, bytes: &[u8]) -> Result<MemoryDisk, AllocError>
     ensures no_call { IfOk result (λ disk. (disk_view disk).clock ≡ 0) }
     ensures never_failed { IfOk result (λ disk. disk_failures disk ≡ 0) }
     ensures no_plan { IfOk result (λ disk. plan_of disk ≡ []) }
+    ensures room { IfOk result (λ disk. 8 ≤ room_of disk) }
 {
     MemoryDisk::with_room(alloc, bytes, FEW_CHANGES)
 }
@@ -42,8 +43,8 @@ pub(crate) fn desk_of(alloc: Global, bytes: &[u8]) -> Result<Desk<MemoryDisk>, D
     }
 }
 
-/// The store over a copy of these bytes, over which a desk was opened: so memory alone can be wanting.
-pub(crate) fn store_of(alloc: Global, bytes: &[u8]) -> Result<Store<MemoryDisk>, AllocError>
+/// The store over a copy of these bytes.
+fn store_of(alloc: Global, bytes: &[u8]) -> Result<Store<MemoryDisk>, AllocError>
     ensures { IfOk result (λ store. Stands (found_records store) bytes.now) }
 {
     let disk = copy_of(alloc, bytes)?;
@@ -51,4 +52,17 @@ pub(crate) fn store_of(alloc: Global, bytes: &[u8]) -> Result<Store<MemoryDisk>,
         Ok(store) => Ok(store),
         Err(_) => Err(AllocError),
     }
+}
+
+/// The store over a copy of the bytes over which this desk was opened: so memory alone can be wanting, and its records are those of the desk.
+pub(crate) fn store_behind(
+    alloc: Global,
+    bytes: &[u8],
+    desk: &Desk<MemoryDisk>,
+) -> Result<Store<MemoryDisk>, AllocError>
+    requires { IsDeskOf bytes.now desk.now }
+    ensures { IfOk result (λ store. found_records store ≡ desk.now.found) }
+{
+    files_are_of_one_kind();
+    store_of(alloc, bytes)
 }

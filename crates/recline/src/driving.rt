@@ -2,7 +2,7 @@
 
 ghost use Rattle.std.specs.Prelude.{◌≡◌, MatchResult};
 ghost use Rattle.recline.specs.Outcome.{Tells};
-ghost use Rattle.recline.specs.Driving.{Drives, IsDrivenIn, IsDrivenOver, IsIn, ReadsAll, ReadsSome, end_of, line_in, script_fault, script_of, script_status, steps_of};
+ghost use Rattle.recline.specs.Driving.{Drives, IsDrivenIn, IsDrivenOver, IsIn, ReadsAll, ReadsSome, line_in, numbered_by, script_fault, script_of, script_status, steps_of};
 
 use crate::commented::{ScriptForm, line_of, without_comments};
 use crate::telling::{tell, tell_refusal, write_all};
@@ -53,7 +53,7 @@ impl ReadScript {
 
     /// How the script ended, where what is driven of it ended so.
     fn end_of(&self, end: End) -> End
-        ensures { result ≡ end_of self.now end }
+        ensures { result ≡ numbered_by (line_in self.now) end }
     {
         match end {
             End::Done => End::Done,

@@ -12,7 +12,7 @@ use earlier_file::{EarlierFault, first_records};
 use std::alloc::Global;
 
 /// Tells why a file has no such first records.
-fn tell_no_front<F: Link>(faults: &mut F, fault: EarlierFault)
+pub(crate) fn tell_no_front<F: Link>(faults: &mut F, fault: EarlierFault)
     ensures { Tells (F.told faults.old) (F.told faults.new) (earlier_fault_line fault) }
 {
     match fault {

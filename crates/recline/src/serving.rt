@@ -6,6 +6,7 @@ ghost use Rattle.std.specs.Thread.{IsSend, IsSync};
 ghost use Rattle.recline.specs.Driving.{Writes};
 ghost use Rattle.recline.specs.Serving.{AreLimited, AreServed, EndsNot, EndsShort, EndsWith, IsService, IsServed, IsStopped, PrintsPort, ServesOn, Stops, StopsBehind, TellsDropped, WritesPort, dropped_in, drops, end_line, port_line, stop_line, stopped_by};
 
+use crate::host::Host;
 use crate::telling::{tell, tell_all, tell_unopened, write_pieces};
 use crate::waiting::watch;
 use client_link::{ClientConnection, Link, LinkFault};
@@ -22,7 +23,7 @@ use std::net::{OpenListener, TcpStream};
 use std::sync::Wait;
 use std::sync::atomic::{AtomicU64, Ordering};
 use std::sync::ledger::{Blank, Ledger};
-use std::thread::{Threads, scope, scope_env};
+use std::thread::{scope, scope_env};
 use std::time::{Clock, Duration};
 
 /// How many clients wait at most for a worker, while others may still connect.
@@ -221,7 +222,7 @@ fn serve_sessions<
     D: Disk + Send + Drop,
     T: OpenListener<Stream = TcpStream> + Sync,
     W: Link + Send + Drop,
-    R: Threads + Wait + Clock + Clone + Drop + Send + Sync,
+    R: Host,
 >(
     rt: &R,
     alloc: Global,
@@ -347,7 +348,7 @@ fn serve_clients<
     T: OpenListener<Stream = TcpStream> + Sync,
     O: Link,
     W: Link + Send + Drop,
-    R: Threads + Wait + Clock + Clone + Drop + Send + Sync,
+    R: Host,
 >(
     rt: &R,
     alloc: Global,
@@ -438,7 +439,7 @@ fn serve_over<
     T: OpenListener<Stream = TcpStream> + Sync,
     O: Link,
     W: Link + Send + Drop,
-    R: Threads + Wait + Clock + Clone + Drop + Send + Sync,
+    R: Host,
 >(
     rt: &R,
     alloc: Global,
@@ -488,7 +489,7 @@ fn serve_desk<
     T: OpenListener<Stream = TcpStream> + Sync,
     O: Link,
     W: Link + Send + Drop,
-    R: Threads + Wait + Clock + Clone + Drop + Send + Sync,
+    R: Host,
 >(
     rt: &R,
     alloc: Global,
@@ -558,7 +559,7 @@ pub fn serve_on<
     O: Link,
     F: Link,
     W: Link + Send + Drop,
-    R: Threads + Wait + Clock + Clone + Drop + Send + Sync,
+    R: Host,
 >(
     rt: &R,
     alloc: Global,

@@ -4,16 +4,16 @@ ghost use Rattle.std.specs.Prelude.{◌≡◌, ℕ, List, IfOk, false, true};
 ghost use Rattle.desk.specs.Openings.{RefusesFile};
 ghost use Rattle.earlier_file.specs.Facts.{AreFacts, IsUnread};
 ghost use Rattle.recline.specs.Outcome.{Tells, open_fault_line};
-ghost use Rattle.recline.specs.Showing.{IsDeskOf, IsTextOf, Shows, ShowsPart};
+ghost use Rattle.recline.specs.Showing.{IsDeskOf, IsTextOf, Shows, ShowsFront, ShowsPart};
 
-use crate::copied::{desk_of, store_of};
+use crate::copied::{desk_of, store_behind};
+use crate::earlier::tell_no_front;
 use crate::telling::{tell_unopened, write_all};
 use client_link::Link;
 use desk::{Desk, DeskFault};
-use earlier_file::{FileFacts, FileFault, facts, first_records};
+use earlier_file::{EarlierFault, FileFacts, FileFault, facts, first_records};
 use inspection::{to_json, to_lines, to_table};
 use line_disk::MemoryDisk;
-use record_file::files_are_of_one_kind;
 use std::alloc::{AllocError, Global};
 
 /// How a record file is shown.
@@ -40,8 +40,7 @@ fn table_of(
     if !reports {
         return Ok(text);
     }
-    files_are_of_one_kind();
-    let store = store_of(alloc, bytes)?;
+    let store = store_behind(alloc, bytes, desk)?;
     let lines = to_lines(alloc, store.records())?;
     text.extend_from_slice(&lines)?;
     Ok(text)
@@ -61,8 +60,7 @@ fn object_of(
     if !reports {
         return to_json(desk.chains(), facts, None);
     }
-    files_are_of_one_kind();
-    let store = store_of(alloc, bytes)?;
+    let store = store_behind(alloc, bytes, desk)?;
     to_json(desk.chains(), facts, Some(store.records()))
 }
 
@@ -211,5 +209,37 @@ pub fn show_on<K: Link, F: Link>(
     match desk_of(alloc, bytes) {
         Ok(desk) => show_all(alloc, bytes, told, &desk, form, client, faults),
         Err(fault) => show_part(alloc, bytes, form, fault, client, faults),
+    }
+}
+
+/// Why a file has no such first records, as it is told of a file that is opened; none where it has too few, or where memory is wanting.
+fn fault_before(fault: EarlierFault) -> Option<DeskFault> {
+    match fault {
+        EarlierFault::Damaged(number) => Some(DeskFault::Damaged(number)),
+        EarlierFault::Foreign | EarlierFault::Short(_) | EarlierFault::Memory => None,
+    }
+}
+
+/// The same of the file as it was when it had its first records alone, so many. Where one of these is damaged, what stands in front of it is
+/// shown, too.
+pub fn show_front_on<K: Link, F: Link>(
+    alloc: Global,
+    bytes: &[u8],
+    front: u32,
+    form: Form,
+    client: &mut K,
+    faults: &mut F,
+) -> u8
+    ensures { ShowsFront K.told F.told front bytes.now form client.old client.new faults.old faults.new result }
+{
+    match first_records(alloc, bytes, front as usize) {
+        Ok(earlier) => show_on(alloc, &earlier, form, client, faults),
+        Err(fault) => {
+            if let Some(damage) = fault_before(fault) {
+                show_before(alloc, bytes, form, damage, client);
+            }
+            tell_no_front(faults, fault);
+            3
+        }
     }
 }

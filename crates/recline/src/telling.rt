@@ -41,13 +41,7 @@ pub(crate) fn write_all<K: Link>(link: &mut K, text: &[u8]) -> Result<(), LinkFa
 pub(crate) fn tell_all<F: Link>(faults: &mut F, pieces: &[&[u8]])
     ensures { Tells (F.told faults.old) (F.told faults.new) (flat_map (λ p. p.now) pieces.now) }
 {
-    let Ok(()) = put_all(faults, pieces) else {
-        return;
-    };
-    match faults.hand_on() {
-        Ok(()) => {}
-        Err(_) => {}
-    }
+    let _written = write_pieces(faults, pieces);
 }
 
 /// The same of a fault line in one piece.

@@ -1,24 +1,28 @@
 //! The commands over the files that they name.
 
+ghost use Rattle.std.specs.Thread.{IsSend, IsSync};
 ghost use Rattle.recline.specs.Asking.{IsOneLine};
+ghost use Rattle.recline.specs.Serving.{IsService};
 
-use crate::files::{explain_disk, open_file, records_of};
-use crate::telling::Teller;
+use crate::files::{bytes_of, explain_disk, open_file, records_of};
+use crate::reporting::{ReportedDisk, ReportedListener, Reporter, tell_whys};
+use crate::telling::{Teller, Why};
 use client_link::{Link, Streams};
-use line_disk::NullDisk;
+use crossbeam_channel::{Sender, bounded};
+use line_disk::{FileDisk, Modelled, NullDisk};
 use recline::{
-    Form, HandOn, Question, ScriptForm, Service, ask_on, check_on, copy_of, draw_on,
-    draw_records_on, run_handing_on, run_on, serve_on, show_on,
+    Form, HandOn, Host, Question, ScriptForm, Service, ask_on, check_on, copy_of, draw_on,
+    draw_records_on, run_handing_on, run_on, serve_on, show_front_on, show_on,
 };
+use std::alloc::AllocError;
 use std::io::{self, BufWriter};
 use std::net::{Ipv4Addr, SocketAddr, SocketAddrV4, TcpListener};
 use std::sync::Wait;
-use std::thread::Threads;
-use std::time::Clock;
+use std::thread::{scope, scope_env};
 
 /// Serves the client over the record file of this path, if there is one. Each reply goes out before the next report is recorded, since its
 /// syncs take far longer; where nothing is recorded those to the lines of a read go out together.
-pub(crate) fn run_over_file<K: Link, F: Link>(
+pub(crate) fn run_over_file<T: Wait + Drop, K: Link, F: Link>(
     teller: Teller<'_>,
     file: Option<&str>,
     client: &mut K,
@@ -31,8 +35,9 @@ pub(crate) fn run_over_file<K: Link, F: Link>(
     };
     match open_file(teller, path) {
         Ok(disk) => {
+            let disk = ReportedDisk::new(disk, None::<Reporter<T>>);
             let (status, disk) = run_handing_on(alloc, disk, client, faults, HandOn::EachReply);
-            explain_disk(teller, path, &disk);
+            explain_disk(teller, path, &disk.disk);
             status
         }
         Err(status) => status,
@@ -52,59 +57,153 @@ fn listener_on(teller: Teller<'_>, port: u16) -> Result<TcpListener, u8> {
     }
 }
 
-/// Serves clients that connect to this port of the machine itself over the record file of this path. The numbers are those of
-/// sessions, of workers, and of the seconds that a client may rest.
-pub(crate) fn serve_over_file<
-    T: Threads + Wait + Clock + Clone + Drop + Send + Sync,
-    O: Link,
-    F: Link,
->(
+/// Serves clients that connect to this port of the machine itself over the record file of this path, and answers the status and the output. The
+/// numbers are those of sessions, of workers, and of the seconds that a client may rest.
+pub(crate) fn serve_over_file<T: Host, O: Link + Drop, F: Link + Drop>(
     teller: Teller<'_>,
     threads: &T,
     path: &str,
     port: u16,
     numbers: (u64, u64, Option<u64>),
-    output: &mut O,
-    faults: &mut F,
-) -> u8 {
-    let rt = teller.rt;
+    output: O,
+    faults: F,
+) -> (u8, O) {
     let (sessions, workers, idle) = numbers;
-    // Lines of clients that wait are told while others may be served, so they take a way of their own.
-    let Ok(errors) = BufWriter::with_capacity(rt.alloc(), 0, rt.stderr()) else {
-        return teller.fault("memory");
-    };
-    let warnings = Streams::new(io::empty(), errors);
     // Numbers out of their limits are refused with the words.
     let Some(service) = Service::new(sessions, workers, idle) else {
-        return 2;
+        return (2, output);
     };
-    match open_file(teller, path) {
-        Ok(disk) => match listener_on(teller, port) {
-            Ok(listener) => {
-                let (status, disk) = serve_on(
-                    threads,
-                    rt.alloc(),
-                    &listener,
-                    disk,
-                    service,
-                    output,
-                    faults,
-                    warnings,
-                );
-                if let Some(disk) = disk {
-                    explain_disk(teller, path, &disk);
-                }
-                status
-            }
-            Err(status) => status,
-        },
-        Err(status) => status,
+    let disk = match open_file(teller, path) {
+        Ok(disk) => disk,
+        Err(status) => return (status, output),
+    };
+    let listener = match listener_on(teller, port) {
+        Ok(listener) => listener,
+        Err(status) => return (status, output),
+    };
+    if teller.explains {
+        serve_with_reasons(
+            teller,
+            threads,
+            path,
+            (disk, listener),
+            service,
+            output,
+            faults,
+        )
+    } else {
+        let disk = ReportedDisk::new(disk, None::<Reporter<T>>);
+        let listener = ReportedListener::new(listener, None::<Reporter<T>>);
+        serve(teller, threads, disk, listener, service, output, faults)
     }
+}
+
+/// So many bytes a line that says why has at most beside the path.
+const ROOM_BESIDE_PATH: usize = 256;
+
+/// Two reporters of one channel, if there is memory for them.
+fn reporters<T: Host>(threads: &T, whys: Sender<Why>) -> Option<(Reporter<T>, Reporter<T>)> {
+    let more: Result<Sender<Why>, AllocError> = whys.clone();
+    let handle: Result<T, AllocError> = threads.clone();
+    let another: Result<T, AllocError> = threads.clone();
+    match (more, handle, another) {
+        (Ok(more), Ok(handle), Ok(another)) => {
+            Some((Reporter::new(handle, whys), Reporter::new(another, more)))
+        }
+        _ => None,
+    }
+}
+
+/// Serves clients over this disk and this listener, and tells why one of these fails while it goes on, where a thread is to be had for that.
+fn serve_with_reasons<T: Host, O: Link + Drop, F: Link + Drop>(
+    teller: Teller<'_>,
+    threads: &T,
+    path: &str,
+    parts: (FileDisk<Modelled>, TcpListener),
+    service: Service,
+    output: O,
+    faults: F,
+) -> (u8, O)
+    requires { IsService service }
+{
+    let rt = teller.rt;
+    let alloc = rt.alloc();
+    let errors = rt.stderr();
+    let Ok(line) = String::with_capacity(alloc, path.len().saturating_add(ROOM_BESIDE_PATH)) else {
+        return (teller.fault("memory"), output);
+    };
+    let (Ok((whys, told)), Ok((goes_on, going))) = (
+        bounded::<Why, _>(alloc, 2),
+        bounded::<(), _>(alloc, 1),
+    ) else {
+        return (teller.fault("memory"), output);
+    };
+    let Some((of_disk, of_listener)) = reporters(threads, whys) else {
+        return (teller.fault("memory"), output);
+    };
+    let (disk, listener) = parts;
+    let disk = ReportedDisk::new(disk, Some(of_disk));
+    let listener = ReportedListener::new(listener, Some(of_listener));
+    scope(
+        scope_env(),
+        threads,
+        move |scope| -> (u8, O)
+            requires { IsSync T.row × IsSend T.row × IsService service }
+        {
+            let teller_of_whys = scope.spawn(
+                move ||
+                    requires { IsSync T.row × IsSend T.row }
+                {
+                    let (mut line, mut errors) = (line, errors);
+                    tell_whys(threads, &told, &going, path, &mut line, &mut errors)
+                },
+            );
+            // It takes both reporters, so behind it nobody is left to hand anything over.
+            let ended = serve(teller, threads, disk, listener, service, output, faults);
+            drop(goes_on);
+            if let Ok(teller_of_whys) = teller_of_whys {
+                teller_of_whys.join(threads);
+            }
+            ended
+        },
+    )
+}
+
+/// Serves the clients of this listener over this disk.
+fn serve<T: Host, O: Link + Drop, F: Link + Drop>(
+    teller: Teller<'_>,
+    threads: &T,
+    disk: ReportedDisk<Modelled, T>,
+    listener: ReportedListener<T>,
+    service: Service,
+    output: O,
+    faults: F,
+) -> (u8, O)
+    requires { IsService service }
+{
+    let rt = teller.rt;
+    // Lines of clients that wait are told while others may be served, so they take a way of their own.
+    let Ok(errors) = BufWriter::with_capacity(rt.alloc(), 0, rt.stderr()) else {
+        return (teller.fault("memory"), output);
+    };
+    let warnings = Streams::new(io::empty(), errors);
+    let (mut output, mut faults) = (output, faults);
+    let (status, _disk) = serve_on(
+        threads,
+        rt.alloc(),
+        &listener,
+        disk,
+        service,
+        &mut output,
+        &mut faults,
+        warnings,
+    );
+    (status, output)
 }
 
 /// Checks the certificate that the client gives over the record file of this path; or over a copy of its first records, if a front is
 /// given.
-pub(crate) fn check_over_file<K: Link, F: Link>(
+pub(crate) fn check_over_file<T: Wait + Drop, K: Link, F: Link>(
     teller: Teller<'_>,
     path: &str,
     at: Option<u32>,
@@ -115,8 +214,9 @@ pub(crate) fn check_over_file<K: Link, F: Link>(
     if at.is_none() {
         return match open_file(teller, path) {
             Ok(disk) => {
+                let disk = ReportedDisk::new(disk, None::<Reporter<T>>);
                 let (status, disk) = check_on(alloc, disk, client, faults);
-                explain_disk(teller, path, &disk);
+                explain_disk(teller, path, &disk.disk);
                 status
             }
             Err(status) => status,
@@ -176,9 +276,14 @@ pub(crate) fn show_file<K: Link, F: Link>(
     client: &mut K,
     faults: &mut F,
 ) -> u8 {
-    match records_of(teller, path, at, faults) {
-        Ok(bytes) => show_on(teller.rt.alloc(), &bytes, form, client, faults),
-        Err(status) => status,
+    let alloc = teller.rt.alloc();
+    let bytes = match bytes_of(teller, path, faults) {
+        Ok(bytes) => bytes,
+        Err(status) => return status,
+    };
+    match at {
+        Some(front) => show_front_on(alloc, &bytes, front, form, client, faults),
+        None => show_on(alloc, &bytes, form, client, faults),
     }
 }
 

@@ -1,15 +1,18 @@
 //! Record files by their paths.
 
-use crate::telling::Teller;
+use crate::telling::{Reason, Teller};
 use client_link::Link;
-use line_disk::{FileDisk, Modelled, Unopened};
+use line_disk::{Device, FileDisk, Modelled, Reach, Unopened};
 use recline::at_front;
 use record_file::RecordReach;
 use std::fs::File;
 use std::io::Read;
 use std::os::unix::fs::FileExt;
 
-/// Behind so many bytes of a record file none counts: a header, 16,384 records of the longest lines, and one more.
+/// So many records of a file are looked at: the last one is refused, if no earlier one is.
+const MOST_RECORDS: u32 = 16_385;
+
+/// So many bytes of a file are read at most: a header, and so many records of the longest lines.
 const MOST_BYTES: usize = 9 + 16_385 * 8_199;
 
 /// The bytes of the header of a record file: what it is, and its version.
@@ -23,16 +26,16 @@ pub(crate) fn open_file(teller: Teller<'_>, path: &str) -> Result<FileDisk<Model
         Err(Unopened::Memory) => Err(teller.fault("memory")),
         Err(Unopened::Device(trouble)) => {
             let status = teller.fault("device");
-            teller.explain_file(path, trouble);
+            teller.explain(Reason::of_file(path, trouble));
             Err(status)
         }
     }
 }
 
 /// Says why a call of the disk over the file of this path failed, if one did, where that is asked for.
-pub(crate) fn explain_disk(teller: Teller<'_>, path: &str, disk: &FileDisk<Modelled>) {
+pub(crate) fn explain_disk<P: Device>(teller: Teller<'_>, path: &str, disk: &FileDisk<P>) {
     if let Some(trouble) = disk.trouble() {
-        teller.explain_file(path, trouble);
+        teller.explain(Reason::of_file(path, trouble));
     }
 }
 
@@ -64,19 +67,35 @@ fn still_begins_so(file: &File, bytes: &[u8]) -> bool {
         || bytes.starts_with(&header)
 }
 
-/// The bytes of the file of this path, as far as records can reach; or the status, where the cause is told. The file is only read, and once
+/// The file of this path to be read; or the status, where the cause is told.
+fn open_to_read(teller: Teller<'_>, path: &str) -> Result<File, u8> {
+    match File::open(teller.rt, path) {
+        Ok(file) => Ok(file),
+        Err(error) => Err(teller.failed("open", path, &error)),
+    }
+}
+
+/// All bytes of the file of this path, as far as records can reach; or the status, where the cause is told. The file is only read, and once
 /// more where its header was written over meanwhile, which happens once to a record file.
-fn bytes_of(teller: Teller<'_>, path: &str) -> Result<Vec<u8>, u8> {
-    let mut bytes = Vec::new(teller.rt.alloc());
-    for _ in 0..2 {
-        let mut file = match File::open(teller.rt, path) {
-            Ok(file) => file,
-            Err(error) => return Err(teller.failed("open", path, &error)),
-        };
-        bytes = read_through(teller, path, &mut file)?;
-        if still_begins_so(&file, &bytes) {
-            break;
-        }
+fn read_file(teller: Teller<'_>, path: &str) -> Result<Vec<u8>, u8> {
+    let mut file = open_to_read(teller, path)?;
+    let bytes = read_through(teller, path, &mut file)?;
+    if still_begins_so(&file, &bytes) {
+        return Ok(bytes);
+    }
+    let mut file = open_to_read(teller, path)?;
+    read_through(teller, path, &mut file)
+}
+
+/// The same, where more records than count are behind those that count: of these alone, as if they were all.
+pub(crate) fn bytes_of<F: Link>(
+    teller: Teller<'_>,
+    path: &str,
+    faults: &mut F,
+) -> Result<Vec<u8>, u8> {
+    let bytes = read_file(teller, path)?;
+    if bytes.len() >= MOST_BYTES && RecordReach::new().wants_more(&bytes) {
+        return at_front(teller.rt.alloc(), &bytes, MOST_RECORDS, faults);
     }
     Ok(bytes)
 }
@@ -88,7 +107,7 @@ pub(crate) fn records_of<F: Link>(
     at: Option<u32>,
     faults: &mut F,
 ) -> Result<Vec<u8>, u8> {
-    let bytes = bytes_of(teller, path)?;
+    let bytes = bytes_of(teller, path, faults)?;
     match at {
         Some(front) => at_front(teller.rt.alloc(), &bytes, front, faults),
         None => Ok(bytes),

@@ -3,6 +3,7 @@
 
 mod commands;
 mod files;
+mod reporting;
 mod streams;
 mod telling;
 
@@ -12,15 +13,12 @@ use commands::{
     Drawn, ask_line, ask_over_file, check_over_file, draw_file, draw_script, form_of,
     run_over_file, serve_over_file, show_file,
 };
-use recline::{Form, Question, drive_on, explain_on};
+use recline::{Form, Host, Question, drive_on, explain_on};
 use std::env;
 use std::io::{self, BufWriter, Read};
 use std::process::ExitCode;
-use std::sync::Wait;
-use std::thread::Threads;
-use std::time::Clock;
 use streams::{Input, Kept, stand_ins};
-use telling::Teller;
+use telling::{Reason, Teller};
 
 /// The words of the command line.
 fn words_of(rt: &HostRuntime) -> io::Result<Vec<String>> {
@@ -34,7 +32,7 @@ fn words_of(rt: &HostRuntime) -> io::Result<Vec<String>> {
 }
 
 /// Does the command over this input and standard output, with threads where it serves clients. Fault lines are written through at once.
-fn act<T: Threads + Wait + Clock + Clone + Drop + Send + Sync, R: Read + Drop>(
+fn act<T: Host, R: Read + Drop>(
     teller: Teller<'_>,
     threads: &T,
     command: Command<'_>,
@@ -51,7 +49,7 @@ fn act<T: Threads + Wait + Clock + Clone + Drop + Send + Sync, R: Read + Drop>(
     let mut faults = Streams::new(io::empty(), errors);
     let (status, client) = match command {
         Command::Run { file } => (
-            run_over_file(teller, file, &mut client, &mut faults),
+            run_over_file::<T, _, _>(teller, file, &mut client, &mut faults),
             client,
         ),
         Command::Serve {
@@ -60,20 +58,17 @@ fn act<T: Threads + Wait + Clock + Clone + Drop + Send + Sync, R: Read + Drop>(
             sessions,
             workers,
             idle,
-        } => (
-            serve_over_file(
-                teller,
-                threads,
-                file,
-                port,
-                (sessions, workers, idle),
-                &mut client,
-                &mut faults,
-            ),
+        } => serve_over_file(
+            teller,
+            threads,
+            file,
+            port,
+            (sessions, workers, idle),
             client,
+            faults,
         ),
         Command::Check { file, at, .. } => (
-            check_over_file(teller, file, at, &mut client, &mut faults),
+            check_over_file::<T, _, _>(teller, file, at, &mut client, &mut faults),
             client,
         ),
         Command::Line { file, names, at } => ask_line(teller, file, names, at, client, &mut faults),
@@ -127,20 +122,21 @@ fn act<T: Threads + Wait + Clock + Clone + Drop + Send + Sync, R: Read + Drop>(
     // What could not be handed on is not tried once more, as it would be where the buffer is dropped.
     let (output, _unwritten) = output.into_parts();
     if let Some(error) = input.error {
-        let (doing, name) = input.stream.name();
-        teller.explain(doing, name, &error);
+        let (doing, name) = input.stream.failed_call();
+        teller.explain(Reason::Cannot { doing, name, error });
     }
     if let Some(error) = output.error {
-        teller.explain("write", "standard output", &error);
+        teller.explain(Reason::Cannot {
+            doing: "write",
+            name: "standard output",
+            error,
+        });
     }
     status
 }
 
 /// Does what the words of the command line ask for, and answers the status.
-fn do_words<T: Threads + Wait + Clock + Clone + Drop + Send + Sync>(
-    rt: &HostRuntime,
-    threads: &T,
-) -> u8 {
+fn do_words<T: Host>(rt: &HostRuntime, threads: &T) -> u8 {
     let teller = Teller {
         rt,
         explains: false,

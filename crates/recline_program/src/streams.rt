@@ -101,8 +101,8 @@ impl<'a, S: Read + Drop> Input<'a, S> {
         })
     }
 
-    /// What failed where a read of it did, in the words behind 'cannot': what was done, and the name of what is read.
-    pub(crate) fn name(&self) -> (&'static str, &'a str) {
+    /// The call that failed where a read of it did, in the words behind 'cannot': what was done, and the name of what is read.
+    pub(crate) fn failed_call(&self) -> (&'static str, &'a str) {
         match self {
             Input::File(
                 LaterFile {

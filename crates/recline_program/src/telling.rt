@@ -3,6 +3,7 @@
 use clap::Error;
 use clap::error::ErrorKind;
 use line_disk::{FileCall, FileTrouble};
+use std::fmt::{self, Display, Formatter, Write};
 use std::io;
 
 /// Where the program's own faults are told, and how much of them.
@@ -27,6 +28,94 @@ fn words_of(call: FileCall) -> &'static str {
     }
 }
 
+/// What was found of a file of which no call failed.
+fn found_of(call: FileCall) -> &'static str {
+    match call {
+        FileCall::Lock => "is locked by another program",
+        _ => "is not as it was left: another program or its device changed it",
+    }
+}
+
+/// A name in a line, with `?` for each control character, as one that would part the line.
+#[derive(Clone, Copy)]
+struct Plain<'a>(&'a str);
+
+impl<'a> Display for Plain<'a> {
+    fn fmt<W: Write>(&self, f: &mut Formatter<W>) -> fmt::Result {
+        for c in self.0.chars() {
+            f.write_char(if c.is_control() { '?' } else { c })?;
+        }
+        Ok(())
+    }
+}
+
+/// What failed while a service goes on.
+#[derive(Clone, Copy)]
+pub(crate) enum Why {
+    /// A call of its record file.
+    File(FileTrouble),
+    /// It takes no client.
+    Client(io::Error),
+}
+
+impl Why {
+    /// The same of a service over the file of this path.
+    pub(crate) fn of_file(self, path: &str) -> Reason<'_> {
+        match self {
+            Why::File(trouble) => Reason::of_file(path, trouble),
+            Why::Client(error) => Reason::Cannot {
+                doing: "take",
+                name: "a client",
+                error,
+            },
+        }
+    }
+}
+
+/// Why something failed, in words.
+#[derive(Clone, Copy)]
+pub(crate) enum Reason<'a> {
+    /// The system refused to do this with the file or stream of this name.
+    Cannot {
+        doing: &'a str,
+        name: &'a str,
+        error: io::Error,
+    },
+    /// No call of the file of this name failed, and this was found of it.
+    Found {
+        name: &'a str,
+        what: &'a str,
+    },
+}
+
+impl<'a> Reason<'a> {
+    /// Why a call of the file of this path failed.
+    pub(crate) fn of_file(path: &'a str, trouble: FileTrouble) -> Reason<'a> {
+        match trouble.error {
+            Some(error) => Reason::Cannot {
+                doing: words_of(trouble.call),
+                name: path,
+                error,
+            },
+            None => Reason::Found {
+                name: path,
+                what: found_of(trouble.call),
+            },
+        }
+    }
+}
+
+impl<'a> Display for Reason<'a> {
+    fn fmt<W: Write>(&self, f: &mut Formatter<W>) -> fmt::Result {
+        match self {
+            Reason::Cannot { doing, name, error } => {
+                write!(f, "cannot {doing} {}: {error}", Plain(name))
+            }
+            Reason::Found { name, what } => write!(f, "{} {what}", Plain(name)),
+        }
+    }
+}
+
 impl<'a> Teller<'a> {
     /// Tells that memory ran out, or that a file or a stream failed, and answers the status for it.
     pub(crate) fn fault(self, cause: &str) -> u8 {
@@ -34,17 +123,21 @@ impl<'a> Teller<'a> {
         3
     }
 
-    /// Says why, where that is asked for: the system refused to do this with the file, stream or address of this name.
-    pub(crate) fn explain(self, doing: &str, name: &str, error: &io::Error) {
+    /// Says why, where that is asked for.
+    pub(crate) fn explain(self, reason: Reason<'_>) {
         if self.explains {
-            let _told = eprintln!(self.rt; "recline: cannot {doing} {name}: {error}");
+            let _told = eprintln!(self.rt; "recline: {reason}");
         }
     }
 
     /// Tells that a file or a stream failed, and why where that is asked for, and answers the status for it.
     pub(crate) fn failed(self, doing: &str, name: &str, error: &io::Error) -> u8 {
         let status = self.fault("device");
-        self.explain(doing, name, error);
+        self.explain(Reason::Cannot {
+            doing,
+            name,
+            error: *error,
+        });
         status
     }
 
@@ -53,26 +146,6 @@ impl<'a> Teller<'a> {
         if self.explains {
             let _told = eprintln!(self.rt; "recline: cannot listen on 127.0.0.1:{port}: {error}");
         }
-    }
-
-    /// Says which call of the file of this path failed first, where that is asked for.
-    pub(crate) fn explain_file(self, path: &str, trouble: FileTrouble) {
-        match trouble.error {
-            Some(error) => self.explain(words_of(trouble.call), path, &error),
-            None => self.explain_found(path, trouble.call),
-        }
-    }
-
-    /// Says what was found of the file of this path, of which no call failed.
-    fn explain_found(self, path: &str, call: FileCall) {
-        if !self.explains {
-            return;
-        }
-        let found = match call {
-            FileCall::Lock => "is locked by another program",
-            _ => "is not as it was left: another program or its device changed it",
-        };
-        let _told = eprintln!(self.rt; "recline: {path} {found}");
     }
 
     /// Says which word of the command line is none that may stand there, and answers the status.

@@ -3,26 +3,26 @@ use Rattle.std.proofs.Common.{◌≡◌, ℕ, List, refl, sym, subst, ◌∙◌}
 use Rattle.script.specs.declared.end.End.{End}
 use Rattle.script.specs.declared.end.End.TheVariants.{Done, Refused, Memory}
 use Rattle.script.specs.Driven.{IsDriven}
-use Rattle.recline.specs.Commented.{lines_of}
+use Rattle.recline.specs.Commented.{lines_of, number_in}
 use Rattle.recline.specs.declared.commented.ScriptForm.{ScriptForm}
 use Rattle.recline.specs.declared.commented.ScriptForm.TheVariants as forms
 use Rattle.recline.specs.declared.driving.ReadScript.{ReadScript}
 use Rattle.recline.specs.declared.driving.ReadScript.TheVariants as scripts
-use Rattle.recline.specs.Driving.{IsDrivenIn, IsIn, end_in, end_of, script_of, steps_of}
+use Rattle.recline.specs.Driving.{IsDrivenIn, IsIn, line_in, numbered_by, script_of, steps_of}
 use Rattle.recline.proofs.StepLines.{lines_are}
 use Rattle.recline.proofs.driving.drive_script.Goals as goal
 
-plain_end : (script : _) (end : End) → end_of (scripts.Plain script) end ≡ end
+plain_end : (script : _) (end : End) → numbered_by (line_in (scripts.Plain script)) end ≡ end
 plain_end script Done = refl
 plain_end script (Refused step cause) = refl
 plain_end script Memory = refl
 
-commented_end : (script steps : _) (end : End) → end_of (scripts.Commented script steps) end ≡ end_in (lines_of script.items) end
+commented_end : (script steps : _) (end : End) → numbered_by (line_in (scripts.Commented script steps)) end ≡ numbered_by (number_in (lines_of script.items)) end
 commented_end script steps Done = refl
 commented_end script steps (Refused step cause) = refl
 commented_end script steps Memory = refl
 
-driven_in : (form : ScriptForm) (script : ReadScript) (text : List ℕ) (passed end : End) → IsDriven (steps_of script) text passed → end ≡ end_of script passed → IsIn form script → IsDrivenIn form (script_of script) text end
+driven_in : (form : ScriptForm) (script : ReadScript) (text : List ℕ) (passed end : End) → IsDriven (steps_of script) text passed → end ≡ numbered_by (line_in script) passed → IsIn form script → IsDrivenIn form (script_of script) text end
 driven_in forms.Plain (scripts.Plain script) text passed end driven is written = subst (λ (e : End). IsDriven script.items text e) (sym (is ∙ plain_end script passed)) driven
 driven_in forms.Plain (scripts.Commented script steps) text passed end driven is written = absurd written
 driven_in forms.Commented (scripts.Plain script) text passed end driven is written = absurd written

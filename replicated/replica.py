@@ -1,0 +1,288 @@
+"""One replica of a computation: it follows the log, has recline answer each line, and keeps its snapshot.
+
+Two threads do that. The follower is the only one that speaks with etcd: it puts in the log what sessions wait for, reads what others put, and hands on
+each line once, in the order of the log. The other one gives line after line to recline, and each reply to whoever waits for it."""
+
+import collections
+import queue
+import re
+import secrets
+import threading
+import time
+
+from coordinator import Coordinator
+from faults import Fault, Stopped
+from snapshot import EVERY, Place, find
+
+# How many lines one transaction puts; etcd takes 128 operations and one and a half megabytes.
+AT_ONCE = 100
+# How many lines and questions may wait for recline.
+AHEAD = 1000
+# The place is written behind so many lines, or so many seconds.
+PLACE_LINES, PLACE_SECONDS = 1000, 600
+# A replica for which nobody waits looks into the log after a second where it found a hundred lines there, and else after twice as long as before, up to
+# this, and costs etcd little. Behind a burst that comes while it rests it is thousands of lines behind, which the first question waits for.
+REST = 30
+# Where no node of etcd has answered for so many seconds the replica lets its clients go. What they sent and lost is put in the log by then or never,
+# but for a request that one of the nodes still has.
+PATIENCE = 30
+# Digests of others are looked at after so many seconds at least.
+COMPARE_SECONDS = 30
+
+# What the log takes: each report and each settlement of the grammar, and little else. All other lines change nothing, whatever recline is given
+# them for, so they are asked here.
+NAME, NUMBER, MARK, TREE = rb"[a-z][a-z0-9_-]*", rb"[1-9][0-9]*", rb"(?:@[1-9][0-9]*)?", rb"[0-9(),]+"
+HEAD = MARK + b" " + NAME + b" " + NUMBER + b" " + TREE + b";" + TREE
+LOGGED = re.compile(b"|".join([
+    b"BEGIN " + NAME,
+    b"(?:CHECK|PRESENT)" + HEAD,
+    b"FORK" + HEAD + b" " + TREE + b" " + NAME + b" " + TREE,
+    b"(?:RETIRE|ABSORB)" + HEAD + b" " + NAME,
+    b"SETTLE " + NUMBER + b" (?:-|" + NAME + b"(?:," + NAME + b")*)",
+]))
+
+
+class Waiting:
+    """A line of a session, whose replies go to that in order."""
+
+    __slots__ = "line", "is_logged", "number", "replies"
+
+    def __init__(self, line, replies):
+        self.line = line
+        self.is_logged = LOGGED.fullmatch(line) is not None
+        self.number = None
+        self.replies = replies
+
+
+class Replica:
+    """The replica of the computation `name` over a record file, known among the others by its identity."""
+
+    def __init__(self, name, log, program, file, identity):
+        self.name = name
+        self.log = log
+        self.file = file
+        self.identity = identity
+        self.stopping = log.etcd.stopping
+        self.fault = None
+        # Each line of this run is known in the log by it and a number, so one that stands there is answered as the first time, however often it was put.
+        self.run = secrets.token_hex(8).encode()
+        self.numbers = 0
+        self.waiting = collections.deque()
+        self.work = threading.Condition()
+        self.turns = queue.Queue(AHEAD)
+        self.coordinator = Coordinator(program, file)
+        try:
+            self.place, self.accepted = find(log, file, name)
+        except Exception:
+            self.coordinator.kill()
+            raise
+        # The last line of the log that was handed on, and the last one that was answered.
+        self.known = self.answered = self.place.last
+        self.published, self.exchanged, self.compared = None, 0, 0
+        self.threads = []
+
+    def start(self):
+        # It counts for whoever cuts off the log before its first client comes.
+        self.publish()
+        self.log.etcd.patience = PATIENCE
+        for work in (self.follow, self.run_turns):
+            self.threads.append(threading.Thread(target=self.guard, args=[work], daemon=True))
+            self.threads[-1].start()
+
+    def guard(self, work):
+        """Runs a thread. What ends it ends the replica."""
+        try:
+            work()
+        except Stopped:
+            pass
+        except Fault as fault:
+            self.fail(fault)
+        except Exception as fault:
+            self.fail(Fault("%s: %s" % (type(fault).__name__, fault), again=True))
+
+    def fail(self, fault):
+        self.fault = self.fault or fault
+        self.stopping.set()
+
+    def stop(self):
+        """Ends in order: what this run has put in the log is answered, and the place is kept."""
+        self.stopping.set()
+        with self.work:
+            self.work.notify()
+        follower, turns = self.threads
+        follower.join()
+        # Nothing is handed on any more. The mark of the end may find no room yet, and nobody who makes some where that thread has failed.
+        while turns.is_alive():
+            try:
+                self.turns.put(None, timeout=0.1)
+                break
+            except queue.Full:
+                pass
+        turns.join()
+        if not self.fault:
+            self.guard(self.end)
+
+    def end(self):
+        self.coordinator.end()
+        self.keep_place()
+        self.publish()
+
+    # ---- What sessions ask for
+
+    def submit(self, lines, replies):
+        """Has the lines of a session answered, in order."""
+        with self.work:
+            self.waiting.extend(Waiting(line, replies) for line in lines)
+            self.work.notify()
+
+    # ---- The follower
+
+    def follow(self):
+        rest = 1
+        while not self.stopping.is_set():
+            batch, before = collections.deque(), self.known.position
+            self.fill(batch, rest)
+            if any(item.is_logged for item in batch):
+                self.append(batch)
+            else:
+                self.come_to_end()
+            # All that was in the log when these questions came is handed on before them.
+            for item in batch:
+                self.hand_on(None, item)
+            rest = 1 if self.known.position - before >= AT_ONCE else min(2 * rest, REST)
+            self.publish()
+
+    def fill(self, batch, rest=0):
+        """Fills a batch with lines that wait, up to as many as one transaction puts, and with the questions between them. Where there is none it waits
+        so long for the first one."""
+        logged = sum(item.is_logged for item in batch)
+        limit = time.monotonic() + rest
+        with self.work:
+            while not self.waiting and not self.stopping.is_set() and time.monotonic() < limit:
+                self.work.wait(rest)
+            while self.waiting and logged < AT_ONCE and len(batch) < AHEAD:
+                batch.append(self.waiting.popleft())
+                if batch[-1].is_logged:
+                    logged += 1
+                    self.numbers += 1
+                    batch[-1].number = self.numbers
+
+    def append(self, batch):
+        """Puts the lines of a batch in the log, and hands on the log up to the last of them. What is left of the batch are questions behind it."""
+        found = False
+        while any(item.is_logged for item in batch):
+            if found:
+                # One transaction put all of them: where the first one was found the others follow.
+                _, entries = self.log.read(self.known)
+            elif self.stopping.is_set():
+                # None of them is in the log, or ever will be.
+                raise Stopped()
+            else:
+                # Others were there first, or this is the first time. Of what was asked for before nothing comes any more, so the batch may grow.
+                self.fill(batch)
+                lines = [(item.number, item.line) for item in batch if item.is_logged]
+                _, entries = self.log.append(self.known, self.run, lines)
+            for entry in entries:
+                own = self.placed(batch, entry) if entry.run == self.run else None
+                found = found or own is not None
+                self.hand_on(entry, own)
+
+    def placed(self, batch, entry):
+        """The line of the batch that stands in this entry. Questions that came before it are asked before it."""
+        while batch:
+            item = batch.popleft()
+            if item.number == entry.number:
+                return item
+            if item.is_logged:
+                break
+            self.hand_on(None, item)
+        raise Fault("line %d of the log bears a number that this run did not wait for" % entry.last.position, again=True)
+
+    def come_to_end(self):
+        """Hands on the log up to the end that it has at the first read."""
+        end, entries = self.log.read(self.known)
+        while True:
+            for entry in entries:
+                self.hand_on(entry, None)
+            if self.known.position >= end:
+                return
+            if self.stopping.is_set():
+                # A question may not be answered before that end.
+                raise Stopped()
+            _, entries = self.log.read(self.known)
+
+    def hand_on(self, entry, item):
+        """Hands on a line of the log with whoever waits for its reply, or a question."""
+        while True:
+            try:
+                self.turns.put((entry, item), timeout=1)
+                break
+            except queue.Full:
+                # What is in the log is handed on to its end, also where the replica is to end. Only without the other thread nothing goes on.
+                if self.fault:
+                    raise Stopped()
+        if entry:
+            self.known = entry.last
+
+    def publish(self):
+        """Puts the place that is kept, and the digests that are new, and compares digests. The log is cut off by places that are on the device already."""
+        place, digests = self.place, dict(self.accepted.digests)
+        if self.published != place:
+            self.log.put_place(self.identity, place.last.position, place.front)
+            self.published = place
+        if len(digests) > self.exchanged or digests and time.monotonic() - self.compared > COMPARE_SECONDS:
+            new = {front: digest for front, digest in digests.items() if front > EVERY * self.exchanged}
+            found = self.log.exchange_digests(self.identity, new)
+            self.exchanged, self.compared = len(digests), time.monotonic()
+            for front, replica, digest in found:
+                if digests.get(front, digest) != digest:
+                    raise Fault("the first %d accepted lines are others than those of replica %s" % (front, replica), status=4)
+
+    # ---- The turns
+
+    def run_turns(self):
+        kept = time.monotonic()
+        while True:
+            try:
+                turn = self.turns.get(timeout=PLACE_SECONDS)
+            except queue.Empty:
+                turn = None, None
+            if turn is None:
+                return
+            entry, item = turn
+            if entry or item:
+                self.coordinator.renew()
+                reply = self.coordinator.ask(entry.line if entry else item.line)
+                if entry:
+                    self.judge_reply(entry, reply)
+                elif reply.startswith((b"OK ", b"OLD ", b"SETTLED ", b"FAIL ", b"NO 17 ")):
+                    raise Fault("a question was answered %s" % reply[:40].decode(errors="replace"), again=True)
+                if item:
+                    item.replies.put(reply)
+            behind = self.answered.position - self.place.last.position
+            if behind >= PLACE_LINES or behind and time.monotonic() - kept > PLACE_SECONDS:
+                self.keep_place()
+                kept = time.monotonic()
+
+    def judge_reply(self, entry, reply):
+        """Holds the reply to a line of the log against the front. One that stands for a fault of this machine is not that of the log: the others took
+        the line, or may have."""
+        word, _, rest = reply.partition(b" ")
+        code = rest.partition(b" ")[0]
+        front = None
+        if word in (b"OK", b"SETTLED"):
+            self.accepted.add(entry.line)
+            front = int(rest.rpartition(b" ")[2])
+        elif word == b"OLD":
+            front = int(rest)
+        elif word == b"FAIL" or word == b"NO" and code in (b"16", b"17"):
+            raise Fault("line %d of the log was answered %s" % (entry.last.position, reply.decode()), again=True)
+        if front not in (None, self.accepted.front):
+            raise Fault("line %d of the log was answered front %d, and %d is right" % (entry.last.position, front, self.accepted.front), again=True)
+        self.answered = entry.last
+
+    def keep_place(self):
+        if self.answered != self.place.last:
+            place = Place(self.name, self.answered, self.accepted.front, self.accepted.hash.hexdigest())
+            place.write(self.file)
+            self.place = place

@@ -11,10 +11,10 @@ use Rattle.event_tree.specs.NormalForm.{are_equal_leaves, greatest, value_limit}
 use Rattle.event_tree.specs.Halves.{root, left, right}
 use Rattle.event_tree.specs.Norm.{lifted, lowered, normal_node}
 use Rattle.event_tree.specs.Size.{size}
-use Rattle.event_tree.specs.Entries.{entry, preorder}
-use Rattle.event_tree.specs.Walks.{restricted_from}
-use Rattle.event_tree.specs.Beside.{part_at, base_at, rooted, beside, size_beside, level, down, left_turns, leaves, width, IsHalfway}
-use Rattle.event_tree.specs.declared.entries.Entry.{Entry}
+use Rattle.event_tree.specs.working.Entries.{entry, preorder}
+use Rattle.event_tree.specs.working.Walks.{restricted_from}
+use Rattle.event_tree.specs.working.Beside.{part_at, base_at, rooted, beside, size_beside, level, down, left_turns, leaves, width, IsHalfway}
+use Rattle.event_tree.specs.declared.layout.entries.Entry.{Entry}
 use Rattle.event_tree.proofs.Normal.{equal_leaves, root_le_greatest}
 use Rattle.event_tree.proofs.Preorder.{below, preorder_root, length_preorder, some_size}
 use Rattle.event_tree.proofs.Closed.{normal_else, leaves_one, written}

@@ -6,9 +6,9 @@ use Rattle.std.proofs.lemmas.Bool.{lt-leb}
 use Rattle.event_tree.specs.EventTree.{EventTree, Leaf, Node}
 use Rattle.event_tree.specs.NormalForm.{depth}
 use Rattle.event_tree.specs.Size.{size}
-use Rattle.event_tree.specs.Entries.{entry, preorder}
-use Rattle.event_tree.specs.Pieces.{by_digit, closing_of, turned_of, closing, turned, behind, AreKept}
-use Rattle.event_tree.specs.declared.entries.Entry.{Entry}
+use Rattle.event_tree.specs.working.Entries.{entry, preorder}
+use Rattle.event_tree.specs.working.Pieces.{by_digit, closing_of, turned_of, closing, turned, behind, AreKept}
+use Rattle.event_tree.specs.declared.layout.entries.Entry.{Entry}
 use Rattle.event_tree.proofs.Preorder.{some_size}
 
 same_by : {A : Type 0} (d : ℕ) (x y z : A) → (1 ≤ d → y ≡ z) → by_digit d x y ≡ by_digit d x z

@@ -1,5 +1,5 @@
 -- A node whose halves were filled, in the order of the walk.
-use Rattle.std.proofs.Common.{◌≡◌, ◌↔◌, ℕ, Bool, true, IsTrue, [], ◌+◌, ◌≤◌, ◌<◌, max, List, ◌∷◌, ◌++◌, length, take, get_or, refl, sym, ap, subst, ◌∙◌, arith, append_assoc, append-nil, length-append}
+use Rattle.std.proofs.Common.{◌≡◌, ◌↔◌, ℕ, IsTrue, [], ◌+◌, ◌≤◌, ◌<◌, max, List, ◌∷◌, ◌++◌, length, take, get_or, refl, sym, ap, subst, ◌∙◌, arith, append_assoc, append-nil, length-append}
 use Rattle.id_tree.specs.IdTree.{IdTree, Zero, One, Pair}
 use Rattle.id_tree.specs.NormalForm.{IsNormal as IsNormalId}
 use Rattle.event_tree.specs.EventTree.{EventTree, Leaf, Node}
@@ -7,14 +7,14 @@ use Rattle.event_tree.specs.NormalForm.{least, greatest, IsNormal}
 use Rattle.event_tree.specs.Halves.{root}
 use Rattle.event_tree.specs.Norm.{normal_node}
 use Rattle.event_tree.specs.Size.{size}
-use Rattle.event_tree.specs.Entries.{entry, blank, preorder}
-use Rattle.event_tree.specs.Writing.{IsWritten}
-use Rattle.event_tree.specs.Walks.{filled, filled_node, left_raised, right_raised, AreFilled, IsFilled}
-use Rattle.event_tree.specs.Filled.{IsHere, IsMade, IsStopOf, AreMade, Tells}
-use Rattle.event_tree.specs.declared.event.Look.{Look}
-use Rattle.event_tree.specs.declared.event.Look.TheVariants.{Kept, Changed}
-use Rattle.event_tree.specs.declared.event.FilledEnd.{FilledEnd}
-use Rattle.event_tree.specs.declared.entries.Entry.{Entry}
+use Rattle.event_tree.specs.working.Entries.{entry, blank, preorder}
+use Rattle.event_tree.specs.working.Writing.{IsWritten}
+use Rattle.event_tree.specs.working.Walks.{filled, filled_node, left_raised, right_raised, AreFilled, IsFilled}
+use Rattle.event_tree.specs.working.Filled.{IsHere, IsMade, IsStopOf, AreMade, Tells}
+use Rattle.event_tree.specs.declared.event.fill_in_copy.Look.{Look}
+use Rattle.event_tree.specs.declared.event.fill_in_copy.Look.TheVariants.{Kept, Changed}
+use Rattle.event_tree.specs.declared.event.fill_in_copy.FilledEnd.{FilledEnd}
+use Rattle.event_tree.specs.declared.layout.entries.Entry.{Entry}
 use Rattle.std.specs.List.{refill}
 use Rattle.std.proofs.Math.Seq.{take-append_seam}
 use Rattle.event_tree.proofs.Preorder.{length_preorder, some_size}

@@ -7,9 +7,9 @@ use Rattle.std.proofs.lemmas.Fmt.{decimal_digit, decimal_step}
 use Rattle.std.proofs.lemmas.List.Sums.{sum_by-append, sum_by-cons}
 use Rattle.event_tree.specs.EventTree.{EventTree, Leaf, Node}
 use Rattle.event_tree.specs.Size.{size}
-use Rattle.event_tree.specs.Entries.{entry, preorder}
+use Rattle.event_tree.specs.working.Entries.{entry, preorder}
 use Rattle.event_tree.specs.Spelling.{spelling}
-use Rattle.event_tree.specs.declared.entries.Entry.{Entry}
+use Rattle.event_tree.specs.declared.layout.entries.Entry.{Entry}
 
 -- ---- the digits of a number
 

@@ -9,16 +9,16 @@ use Rattle.event_tree.specs.EventTree.{EventTree, Leaf, Node}
 use Rattle.event_tree.specs.NormalForm.{greatest, IsNormal}
 use Rattle.event_tree.specs.Halves.{root, left, right}
 use Rattle.event_tree.specs.Size.{size}
-use Rattle.event_tree.specs.Entries.{entry, preorder}
+use Rattle.event_tree.specs.working.Entries.{entry, preorder}
 use Rattle.event_tree.specs.Event.{Cost, cost, grow, grows_left}
-use Rattle.event_tree.specs.Walks.{filled, IsFilled}
-use Rattle.event_tree.specs.Beside.{half_of, part_at, base_at}
-use Rattle.event_tree.specs.OwnLeaf.{other_of, before, place_at, EndsAtLeaf, EndsAbove, EndsLow, IsBelow, IsEndOf, IsOwnLeaf, IsThere, IsOwnPart}
-use Rattle.event_tree.specs.declared.own_leaf.Found.{Found}
-use Rattle.event_tree.specs.declared.own_leaf.Found.TheVariants.{Own, Above, Low}
-use Rattle.event_tree.specs.declared.own_leaf.OwnLeaf.{OwnLeaf}
-use Rattle.event_tree.specs.declared.own_leaf.Below.{Below}
-use Rattle.event_tree.specs.declared.entries.Entry.{Entry}
+use Rattle.event_tree.specs.working.Walks.{filled, IsFilled}
+use Rattle.event_tree.specs.working.Beside.{half_of, part_at, base_at}
+use Rattle.event_tree.specs.working.OwnLeaf.{other_of, before, place_at, EndsAtLeaf, EndsAbove, EndsLow, IsBelow, IsEndOf, IsOwnLeaf, IsThere, IsOwnPart}
+use Rattle.event_tree.specs.declared.event.one_part.Found.{Found}
+use Rattle.event_tree.specs.declared.event.one_part.Found.TheVariants.{Own, Above, Low}
+use Rattle.event_tree.specs.declared.event.one_part.OwnLeaf.{OwnLeaf}
+use Rattle.event_tree.specs.declared.event.one_part.Below.{Below}
+use Rattle.event_tree.specs.declared.layout.entries.Entry.{Entry}
 use Rattle.event_tree.proofs.Preorder.{length_preorder}
 use Rattle.event_tree.proofs.Places.{refilled}
 use Rattle.event_tree.proofs.Filling.{filled_kept, kept_halves, whole_node}

@@ -6,10 +6,10 @@ use Rattle.event_tree.specs.EventTree.{EventTree, Leaf, Node}
 use Rattle.event_tree.specs.NormalForm.{IsNormal, greatest}
 use Rattle.event_tree.specs.Halves.{root}
 use Rattle.event_tree.specs.Size.{size}
-use Rattle.event_tree.specs.Entries.{first, later}
+use Rattle.event_tree.specs.working.Entries.{first, later}
 use Rattle.event_tree.specs.Tests.{is_below_from}
-use Rattle.event_tree.specs.Sequences.{halved}
-use Rattle.event_tree.specs.Pending.{bases_at, waiting, are_below, ArePairs, sizes, IsLeft}
+use Rattle.event_tree.specs.working.Sequences.{halved}
+use Rattle.event_tree.specs.working.Pending.{bases_at, waiting, are_below, ArePairs, sizes, IsLeft}
 use Rattle.event_tree.specs.declared.order.Bases.{Bases}
 use Rattle.event_tree.proofs.Trees.{root_least}
 use Rattle.event_tree.proofs.Preorder.{some_size}

@@ -8,9 +8,9 @@ use Rattle.event_tree.specs.Halves.{root, left, right}
 use Rattle.event_tree.specs.Norm.{lifted, normal_node}
 use Rattle.event_tree.specs.Join.{IsJoin}
 use Rattle.event_tree.specs.Meet.{IsMeet}
-use Rattle.event_tree.specs.Walks.{pick, clipped, combined_from}
-use Rattle.event_tree.specs.declared.pointwise.Pick.{Pick}
-use Rattle.event_tree.specs.declared.pointwise.Pick.TheVariants.{Greater, Lesser}
+use Rattle.event_tree.specs.working.Walks.{pick, clipped, combined_from}
+use Rattle.event_tree.specs.declared.joins.Pick.{Pick}
+use Rattle.event_tree.specs.declared.joins.Pick.TheVariants.{Greater, Lesser}
 use Rattle.event_tree.proofs.Trees.{value_at-nil, value_at-left, value_at-right, greatest_ge, greatest_below, least_le, root_least, equal_values}
 use Rattle.event_tree.proofs.Normal.{value_at-normal_node, IsNormal-normal_node, depth-normal_node, IsNormal-lifted, value_at-lifted}
 

@@ -10,10 +10,10 @@ use Rattle.event_tree.specs.EventTree.{EventTree, Leaf, Node}
 use Rattle.event_tree.specs.Halves.{root}
 use Rattle.event_tree.specs.Norm.{lifted, normal_node}
 use Rattle.event_tree.specs.Size.{size}
-use Rattle.event_tree.specs.Entries.{entry, blank, preorder, EndsInHalves}
-use Rattle.event_tree.specs.Writing.{IsWritten}
-use Rattle.event_tree.specs.Walks.{AreFilled}
-use Rattle.event_tree.specs.declared.entries.Entry.{Entry}
+use Rattle.event_tree.specs.working.Entries.{entry, blank, preorder, EndsInHalves}
+use Rattle.event_tree.specs.working.Writing.{IsWritten}
+use Rattle.event_tree.specs.working.Walks.{AreFilled}
+use Rattle.event_tree.specs.declared.layout.entries.Entry.{Entry}
 use Rattle.event_tree.proofs.Preorder.{below, preorder_root, preorder_lifted, length_preorder, some_size}
 use Rattle.event_tree.proofs.Closed.{HalvesAt, Read, AreLeaves, AreRaised, raises_left, raises_right, middle_within, halves_here, closes, node_closed, pushed_leaves, written}
 

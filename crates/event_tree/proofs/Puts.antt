@@ -7,10 +7,10 @@ use Rattle.std.proofs.lemmas.List.{take_more_set, drop_more}
 use Rattle.event_tree.specs.EventTree.{EventTree, Leaf, Node}
 use Rattle.event_tree.specs.NormalForm.{depth}
 use Rattle.event_tree.specs.Size.{size}
-use Rattle.event_tree.specs.Entries.{entry, blank, preorder}
+use Rattle.event_tree.specs.working.Entries.{entry, blank, preorder}
 use Rattle.event_tree.specs.Spelling.{spelling}
-use Rattle.event_tree.specs.Pieces.{closing, turned, piece, pieces, AreKept, IsPut, IsPutBut}
-use Rattle.event_tree.specs.declared.entries.Entry.{Entry}
+use Rattle.event_tree.specs.working.Pieces.{closing, turned, piece, pieces, AreKept, IsPut, IsPutBut}
+use Rattle.event_tree.specs.declared.layout.entries.Entry.{Entry}
 use Rattle.event_tree.proofs.Preorder.{some_size}
 use Rattle.event_tree.proofs.Digits.{halves_kept, closing_even, turned_first, closing_second, turned_second, behind_node}
 

@@ -11,7 +11,7 @@ use Rattle.event_tree.specs.NormalForm.{greatest, depth, IsNormal, IsEvents, val
 use Rattle.event_tree.specs.Halves.{root, left, right}
 use Rattle.event_tree.specs.Norm.{normal_node}
 use Rattle.event_tree.specs.Restricted.{IsRestricted}
-use Rattle.event_tree.specs.Walks.{restricted_from}
+use Rattle.event_tree.specs.working.Walks.{restricted_from}
 use Rattle.event_tree.proofs.Trees.{value_at-nil, value_at-left, value_at-right, greatest_ge, greatest_below}
 use Rattle.event_tree.proofs.Normal.{value_at-normal_node, IsNormal-normal_node, depth-normal_node, IsNormal-lifted, value_at-lifted, depth-lifted}
 use Rattle.event_tree.proofs.Picks.{depth-halves}

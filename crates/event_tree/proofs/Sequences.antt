@@ -4,9 +4,9 @@ use Rattle.std.proofs.Math.Seq.{take-append_seam, drop-append_seam}
 use Rattle.event_tree.specs.EventTree.{EventTree, Leaf, Node}
 use Rattle.event_tree.specs.Halves.{root}
 use Rattle.event_tree.specs.Size.{size}
-use Rattle.event_tree.specs.Entries.{entry, blank, preorder, first, later, trees_of}
-use Rattle.event_tree.specs.Sequences.{preorders, ArePreorders, halved}
-use Rattle.event_tree.specs.declared.entries.Entry.{Entry}
+use Rattle.event_tree.specs.working.Entries.{entry, blank, preorder, first, later, trees_of}
+use Rattle.event_tree.specs.working.Sequences.{preorders, ArePreorders, halved}
+use Rattle.event_tree.specs.declared.layout.entries.Entry.{Entry}
 use Rattle.event_tree.proofs.Preorder.{length_preorder, trees-preorder, first_entry, some_size}
 
 pub trees-preorders : (ts : List EventTree) → trees_of (preorders ts) ≡ ts

@@ -12,11 +12,11 @@ use Rattle.event_tree.specs.Halves.{root}
 use Rattle.event_tree.specs.NormalForm.{IsNormal, IsEvents, depth, greatest, least, are_equal_leaves}
 use Rattle.event_tree.specs.Size.{size}
 use Rattle.event_tree.specs.Spelling.{IsNumeral, spelling}
-use Rattle.event_tree.specs.Entries.{entry, blank, preorder, tree_of}
-use Rattle.event_tree.specs.Taking.{is_leaf, are_halves, IsClosed, around_at, IsFirstRead, IsInnermost, AreOpen, IsUnread, IsTreeRead, IsBegun, IsLeafTaken, IsWhole, IsHalted, IsWidened}
-use Rattle.event_tree.specs.declared.entries.Entry.{Entry}
-use Rattle.event_tree.specs.declared.straight.Around.{Around}
-use Rattle.event_tree.specs.declared.straight.Halted.{Halted}
+use Rattle.event_tree.specs.working.Entries.{entry, blank, preorder, tree_of}
+use Rattle.event_tree.specs.working.Taking.{is_leaf, are_halves, IsClosed, around_at, IsFirstRead, IsInnermost, AreOpen, IsUnread, IsTreeRead, IsBegun, IsLeafTaken, IsWhole, IsHalted, IsWidened}
+use Rattle.event_tree.specs.declared.layout.entries.Entry.{Entry}
+use Rattle.event_tree.specs.declared.reading.into_entries.Around.{Around}
+use Rattle.event_tree.specs.declared.reading.into_entries.Halted.{Halted}
 use Rattle.event_tree.proofs.Trees.{root_least}
 use Rattle.event_tree.proofs.Preorder.{length_preorder, tree_of_preorder, is_preorder, some_size}
 use Rattle.event_tree.proofs.Closed.{seen, HalvesAt, middle_within, one_seen, other_seen, written}

@@ -24,28 +24,23 @@ ghost use Rattle.event_tree.specs.Norm.{norm};
 ghost use Rattle.event_tree.specs.Event.{IsEventStep, PassesLimit, fill, cost, grow};
 ghost use Rattle.event_tree.specs.Ways.{CanGrow, CostsNoMore, way, IsAtOrRightOf};
 
-mod closing;
-mod entries;
 mod event;
 mod fault;
+mod joins;
+mod layout;
 mod node;
-mod one_way;
 mod order;
-mod own_leaf;
-mod part;
-mod pointwise;
-mod reader;
-mod restricted;
-mod sequence;
-mod straight;
-mod text;
-mod written;
+mod reading;
+mod restriction;
+mod writing;
 
 pub use fault::{EventFault, EventsFault};
 use id_tree::{Id, IdPart};
+use joins::joined;
+use joins::meet::met;
 use node::Node;
-use pointwise::{joined, met};
-use reader::Part;
+use reading::first_fault::Part;
+use reading::{first_fault, into_entries};
 use std::alloc::{AllocError, Global};
 use std::marker::Model;
 
@@ -142,7 +137,7 @@ impl Events {
         ensures { IfOk result (λ bound. IsRestricted id.now self.now bound) }
     {
         id.known();
-        let node = restricted::restricted(alloc, id, &self.node)?;
+        let node = restriction::restricted(alloc, id, &self.node)?;
         Ok(Events { node })
     }
 
@@ -176,10 +171,10 @@ impl Events {
         ensures only { (t : EventTree) → IsEvents t → bytes.now ≡ spelling t → MatchResult result (λ e. e ≡ t) (λ fault. fault ≡ EventsFault.Memory) }
     {
         // What is spelled right is read so, if there is memory; which fault a text has, the reader says.
-        if let Some(node) = straight::read(alloc, bytes) {
+        if let Some(node) = into_entries::read(alloc, bytes) {
             return Ok(Events { node });
         }
-        match reader::read(alloc, bytes)? {
+        match first_fault::read(alloc, bytes)? {
             Part::Normal(_, _, Some(_)) => Err(EventsFault::Memory),
             Part::Normal(_, depth, None) => {
                 if depth > 40 {

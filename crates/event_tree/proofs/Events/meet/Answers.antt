@@ -1,6 +1,6 @@
 use Rattle.std.proofs.Common.{◌≡◌, rules}
-use Rattle.event_tree.specs.Walks.{combined_from}
-use Rattle.event_tree.specs.declared.pointwise.Pick.TheVariants.{Lesser}
+use Rattle.event_tree.specs.working.Walks.{combined_from}
+use Rattle.event_tree.specs.declared.joins.Pick.TheVariants.{Lesser}
 use Rattle.event_tree.proofs.Picks.{meet_is_pointwise, IsEvents_combined}
 use Rattle.event_tree.proofs.Events.meet.Goals as goal
 

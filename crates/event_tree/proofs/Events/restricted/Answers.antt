@@ -1,5 +1,5 @@
 use Rattle.std.proofs.Common.{◌≡◌, rules}
-use Rattle.event_tree.specs.Walks.{restricted_from}
+use Rattle.event_tree.specs.working.Walks.{restricted_from}
 use Rattle.event_tree.proofs.Restrictions.{is_restricted, IsEvents_restricted}
 use Rattle.event_tree.proofs.Events.restricted.Goals as goal
 

@@ -1,6 +1,6 @@
 use Rattle.event_tree.specs.Size.{size}
 use Rattle.event_tree.specs.Tests.{is_below_from}
-use Rattle.event_tree.specs.Pending.{sizes, IsLeft}
+use Rattle.event_tree.specs.working.Pending.{sizes, IsLeft}
 use Rattle.event_tree.proofs.order.+are_nodes_below.Given as goal
 
 abbrev pub invariant-loop-one : goal.invariant-loop-one

@@ -1,5 +1,0 @@
-use Rattle.id_tree.specs.NormalForm.{depth}
-use Rattle.event_tree.proofs.event.+filled_onto.Given as goal
-
-abbrev pub decreases-filled_onto : goal.decreases-filled_onto
-decreases-filled_onto l = depth l.id.now

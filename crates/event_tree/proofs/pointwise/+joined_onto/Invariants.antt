@@ -1,5 +1,0 @@
-use Rattle.event_tree.specs.Size.{size}
-use Rattle.event_tree.proofs.pointwise.+joined_onto.Given as goal
-
-abbrev pub decreases-joined_onto : goal.decreases-joined_onto
-decreases-joined_onto l = size l.e

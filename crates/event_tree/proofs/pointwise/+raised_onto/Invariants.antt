@@ -1,5 +1,0 @@
-use Rattle.event_tree.specs.Size.{size}
-use Rattle.event_tree.proofs.pointwise.+raised_onto.Given as goal
-
-abbrev pub decreases-raised_onto : goal.decreases-raised_onto
-decreases-raised_onto l = size l.f

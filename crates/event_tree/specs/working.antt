@@ -1,0 +1,13 @@
+pub mod Stepping
+pub mod Entries
+pub mod Parts
+pub mod Reading
+pub mod Walks
+pub mod Beside
+pub mod OwnLeaf
+pub mod Taking
+pub mod Sequences
+pub mod Pending
+pub mod Writing
+pub mod Pieces
+pub mod Filled

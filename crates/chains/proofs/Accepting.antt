@@ -12,8 +12,8 @@ use Rattle.report_line.specs.declared.report.Report.TheVariants.{Numbered}
 use Rattle.chains.specs.Processes.{Name, child_of, first_of, is_numbered_of, is_birth_of, is_absorb_of, reports_of}
 use Rattle.chains.specs.Elements.{lasting_made, lasting_by, lasting_of, only_if}
 use Rattle.chains.specs.LastRun.{last_run}
-use Rattle.chains.specs.Keeping.{KeptProcess, kept_of, last_index, indexes_from}
-use Rattle.chains.specs.Noting.{noted, taken, is_check}
+use Rattle.chains.specs.working.Keeping.{KeptProcess, kept_of, last_index, indexes_from}
+use Rattle.chains.specs.working.Noting.{noted, taken, is_check}
 use Rattle.chains.proofs.Lists.{last_index-push}
 use Rattle.chains.proofs.Stepping.{absorbed-push, same_bytes, other_bytes, doing}
 

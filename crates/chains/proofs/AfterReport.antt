@@ -17,10 +17,10 @@ use Rattle.chains.specs.Admission.{report_limit, process_limit}
 use Rattle.chains.specs.Folded.{IsFit, IsFolded, one_folded}
 use Rattle.chains.specs.Kept.{Kept, HasRoomFor}
 use Rattle.chains.specs.Answers.{IsNumberOf}
-use Rattle.chains.specs.Keeping.{KeptProcess, kept_of, view_of}
-use Rattle.chains.specs.Noting.{noted, born, is_check, changed_at, names_after, IsKeptBy, IsKeptByAction}
-use Rattle.chains.specs.Room.{element_room, HasNoteRoom, MayBeKept}
-use Rattle.chains.specs.Inside.{AreInOrder}
+use Rattle.chains.specs.working.Keeping.{KeptProcess, kept_of, view_of}
+use Rattle.chains.specs.working.Noting.{noted, born, is_check, changed_at, names_after, IsKeptBy, IsKeptByAction}
+use Rattle.chains.specs.working.Room.{element_room, HasNoteRoom, MayBeKept}
+use Rattle.chains.specs.working.Inside.{AreInOrder}
 use Rattle.chains.proofs.Keeps.{as_many, kept_there}
 use Rattle.chains.proofs.Stepping.{same_bytes}
 use Rattle.chains.proofs.Distinct.{distinct_known}

@@ -10,8 +10,8 @@ use Rattle.std.proofs.lemmas.List.{map_push, take_more, get_or-map, get_or-take,
 use Rattle.std.proofs.lemmas.Slice.Eq.{bytes_eq-Decides}
 use Rattle.chains.specs.declared.process.Process.{Process}
 use Rattle.chains.specs.Processes.{Name}
-use Rattle.chains.specs.Inside.{AreDistinctNames}
-use Rattle.chains.specs.Keeping.{KeptProcess, view_of}
+use Rattle.chains.specs.working.Inside.{AreDistinctNames}
+use Rattle.chains.specs.working.Keeping.{KeptProcess, view_of}
 
 pub views_more : (ks copy : List Process) (i : ℕ) (k same : Process) → i < length ks → k ≡ get_or ks i k → view_of same ≡ view_of k → map view_of copy ≡ take i (map view_of ks)
     → map view_of (copy ++ same ∷ []) ≡ take (i + 1) (map view_of ks)

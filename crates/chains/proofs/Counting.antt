@@ -20,7 +20,7 @@ use Rattle.chains.specs.Admission.{report_limit}
 use Rattle.chains.specs.declared.position.Position.{Position}
 use Rattle.chains.specs.declared.position.Position.TheVariants.{At, Retired}
 use Rattle.chains.specs.declared.process.Process.{Process}
-use Rattle.chains.specs.Keeping.{KeptProcess, indexes_from}
+use Rattle.chains.specs.working.Keeping.{KeptProcess, indexes_from}
 use Rattle.chains.proofs.Stepping.{doing}
 use Rattle.chains.proofs.LookUps.{known_from}
 use Rattle.chains.proofs.Keeps.{AreKept, looked_up, any_birth}

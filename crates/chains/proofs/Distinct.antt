@@ -12,7 +12,7 @@ use Rattle.report_line.specs.declared.report.Report.{Report}
 use Rattle.report_line.specs.declared.report.Report.TheVariants.{Begin, Numbered}
 use Rattle.chains.specs.Processes.{Name, newborn, child_of, known, IsKnown}
 use Rattle.chains.specs.Folded.{IsFitAction, IsFit, IsFolded, nothing_folded, one_folded}
-use Rattle.chains.specs.Inside.{AreDistinctNames}
+use Rattle.chains.specs.working.Inside.{AreDistinctNames}
 use Rattle.chains.proofs.Stepping.{none_some, some_name, known-push}
 
 -- ---- lists of names

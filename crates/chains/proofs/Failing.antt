@@ -1,26 +1,21 @@
 -- Sets of failed processes, as they are found.
-use Rattle.std.proofs.Common.{◌≡◌, ◌≢◌, ◌⊎◌, inl, inr, ℕ, ◌+◌, ◌<◌, ◌≤◌, Bool, true, false, List, [], ◌∷◌, ◌++◌, length, get_or, set, take, replicate, Some, All, Contains, IsTrue, ◌↔◌, sym, ap, subst, ◌∙◌, arith}
+use Rattle.std.proofs.Common.{◌≡◌, ◌≢◌, ◌⊎◌, inl, inr, ℕ, ◌+◌, ◌<◌, ◌≤◌, Bool, true, false, List, [], ◌∷◌, ◌++◌, length, get_or, set, take, replicate, Some, All, Contains, IsTrue, ◌↔◌, sym, ap, subst, ◌∙◌, arith, append_assoc}
 use Rattle.std.specs.Prelude.{slice_index_or}
-use Rattle.std.proofs.lemmas.Bool.{cases_eq}
-use Rattle.std.proofs.lemmas.List.{get_or_default, take_more, take_all, length-set, get_or-set_same, get_or-set_other, length-replicate, get_or-replicate}
-use Rattle.std.proofs.lemmas.List.Elements.{Contains-push, Contains-push_cases, Contains-append_left, All-get_or, All-from_get_or}
+use Rattle.std.proofs.lemmas.Bool.{cases_eq, true≢false}
+use Rattle.std.proofs.lemmas.List.{append-nil, get_or_default, take_more, take_all, length-set, get_or-set_same, get_or-set_other, length-replicate, get_or-replicate}
+use Rattle.std.proofs.lemmas.List.Elements.{All-push, All-from_recursion, Contains-push, Contains-push_cases, Contains-append_left, All-from_get_or}
 use Rattle.std.proofs.lemmas.Option.{same_Some, slice_get_within, get_or_from_slice_get}
 use Rattle.report_line.specs.declared.report.Report.{Report}
 use Rattle.chains.specs.Processes.{Name, known, IsKnown}
 use Rattle.chains.specs.Elements.{name_of}
-use Rattle.chains.specs.Failures.{IsFailedSet, AreMarked, AreNumbersOf, AreFlagged}
-use Rattle.chains.specs.Inside.{AreDistinctNames}
+use Rattle.chains.specs.Failures.{IsFailedSet, IsFirstUnknown, AreMarked, AreNumbersOf, AreFlagged}
+use Rattle.chains.specs.working.Inside.{AreDistinctNames}
 use Rattle.chains.proofs.LookUps.{known_from}
 use Rattle.chains.proofs.Listing.{AreListedTo}
 
 -- the place of a set flag
 abbrev pub IsSet : List Bool → ℕ → Type 0
 IsSet flags p = IsTrue (slice_index_or flags p false)
-
--- a flag for each known process, set for just those that are among the first i names
-pub record IsMarkedTo (accepted : List Report) (names : List Name) (i : ℕ) (flags : List Bool) : Type 0 where
-  pub complete : length flags ≡ length (known accepted)
-  pub named : (p : ℕ) (name : Name) → name_of accepted p ≡ Some name → (IsTrue (slice_index_or flags p false) ↔ Contains (take i names) name)
 
 -- ---- the places of set flags
 
@@ -47,42 +42,118 @@ new_item xs i x lt is = subst (λ l. Contains l x) (sym (take_more xs i x lt)) (
 old_item : {X : Type 0} (xs : List X) (i : ℕ) (x y : X) → i < length xs → Contains (take i xs) y → Contains (take (i + 1) xs) y
 old_item xs i x y lt there = subst (λ l. Contains l y) (sym (take_more xs i x lt)) (Contains-append_left (take i xs) (get_or xs i x ∷ []) y there)
 
-marked_at : (accepted : List Report) (names : List Name) (i j p : ℕ) (q name : Name) (flags : List Bool) → IsMarkedTo accepted names i flags → AreDistinctNames (known accepted) → i < length names → q ≡ get_or names i q → name_of accepted j ≡ Some q → name_of accepted p ≡ Some name
-    → (p ≡ j) ⊎ (p ≢ j) → (IsTrue (slice_index_or (set flags j true) p false) ↔ Contains (take (i + 1) names) name)
-marked_at accepted names i j p q name flags h distinct lt is found named (inl e) =
+-- ---- names, one after the other
+
+-- flags for just the names that were taken, with those that are left
+pub record IsMarkedBefore (accepted : List Report) (names left : List Name) (flags : List Bool) : Type 0 where
+  pub front : List Name
+  pub parts : names ≡ front ++ left
+  pub marked : AreMarked accepted front flags
+
+none_marked_first : (accepted : List Report) (flags : List Bool) (n : ℕ) → flags ≡ replicate n false → n ≡ length (known accepted) → AreMarked accepted [] flags
+none_marked_first accepted flags n e is = record {
+  complete = ap (λ (l : List Bool). length l) e ∙ length-replicate n false ∙ is;
+  named = λ p name named. (
+    λ holds. let lt = slice_get_within (known accepted) p name named in absurd (true≢false (sym holds ∙ ap (λ (l : List Bool). get_or l p false) e ∙ get_or-replicate n p false false (omega (arith, lt, is)))),
+    λ there. absurd (omega (arith, there.1)),
+  );
+}
+
+pub none_marked : (accepted : List Report) (names left : List Name) (flags : List Bool) (n : ℕ) → left ≡ names → flags ≡ replicate n false → n ≡ length (known accepted) → IsMarkedBefore accepted names left flags
+none_marked accepted names left flags n all e is = record { front = []; parts = sym all; marked = none_marked_first accepted flags n e is }
+
+pub all_marked_before : (accepted : List Report) (names left : List Name) (flags : List Bool) → left ≡ [] → IsMarkedBefore accepted names left flags → AreMarked accepted names flags
+all_marked_before accepted names left flags none h = subst (λ (l : List Name). AreMarked accepted l flags) (sym (h.parts ∙ ap (λ (l : List Name). h.front ++ l) none ∙ append-nil h.front)) h.marked
+
+-- a list that goes on with a name has it behind its front
+moved : (names front left : List Name) (q : Name) (behind : List Name) → names ≡ front ++ left → left ≡ q ∷ behind → names ≡ (front ++ q ∷ []) ++ behind
+moved names front left q behind parts is = parts ∙ ap (λ (l : List Name). front ++ l) is ∙ sym (append_assoc front (q ∷ []) behind)
+
+-- a name that no process has marks none
+pub marked_unknown : (accepted : List Report) (names left : List Name) (q : Name) (behind : List Name) (flags : List Bool) → IsMarkedBefore accepted names left flags → left ≡ q ∷ behind → ¬ IsKnown accepted q → IsMarkedBefore accepted names behind flags
+marked_unknown accepted names left q behind flags h is new = record {
+  front = h.front ++ q ∷ [];
+  parts = moved names h.front left q behind h.parts is;
+  marked = record {
+    complete = h.marked.complete;
+    named = λ p name named. (
+      λ holds. Contains-append_left h.front (q ∷ []) name ((h.marked.named p name named).0 holds),
+      λ there. elim (Contains-push_cases h.front q name there) [
+        | inl old ↦ (h.marked.named p name named).1 old
+        | inr e ↦ absurd (new (subst (IsKnown accepted) (sym e) (known_from accepted p name named)))
+      ],
+    );
+  };
+}
+
+marked_here : (accepted : List Report) (front : List Name) (j p : ℕ) (q name : Name) (flags : List Bool) → AreMarked accepted front flags → AreDistinctNames (known accepted) → name_of accepted j ≡ Some q → name_of accepted p ≡ Some name → (p ≡ j) ⊎ (p ≢ j)
+    → (IsTrue (slice_index_or (set flags j true) p false) ↔ Contains (front ++ q ∷ []) name)
+marked_here accepted front j p q name flags h distinct found named (inl e) =
     let within = slice_get_within (known accepted) j q found in
     let there : j < length flags = omega (arith, h.complete) in
     let same : name ≡ q = same_Some name q (sym named ∙ ap (λ (k : ℕ). name_of accepted k) e ∙ found) in (
-      λ holds. subst (λ (n : Name). Contains (take (i + 1) names) n) (sym same) (new_item names i q lt is),
+      λ holds. subst (λ (n : Name). Contains (front ++ q ∷ []) n) (sym same) (Contains-push front q),
       λ there'. ap (λ (k : ℕ). get_or (set flags j true) k false) e ∙ get_or-set_same flags j true false there,
     )
-marked_at accepted names i j p q name flags h distinct lt is found named (inr other) =
+marked_here accepted front j p q name flags h distinct found named (inr other) =
     let unchanged = get_or-set_other flags j p true false other in (
-      λ holds. old_item names i q name lt ((h.named p name named).0 (sym unchanged ∙ holds)),
-      λ there. elim (more_items names i q name lt is there) [
+      λ holds. Contains-append_left front (q ∷ []) name ((h.named p name named).0 (sym unchanged ∙ holds)),
+      λ there. elim (Contains-push_cases front q name there) [
         | inl old ↦ unchanged ∙ (h.named p name named).1 old
         | inr e ↦ absurd (other (same_number accepted p j q distinct (named ∙ ap (λ (n : Name). Some n) (sym e)) found))
       ],
     )
 
-pub marked_more : (accepted : List Report) (names : List Name) (i j : ℕ) (q : Name) (flags : List Bool) → IsMarkedTo accepted names i flags → AreDistinctNames (known accepted) → i < length names → q ≡ get_or names i q → name_of accepted j ≡ Some q → IsMarkedTo accepted names (i + 1) (set flags j true)
-marked_more accepted names i j q flags h distinct lt is found = record {
-  complete = length-set flags j true ∙ h.complete;
-  named = λ p name named. marked_at accepted names i j p q name flags h distinct lt is found named (cases_eq p j);
+-- a name that a process has marks it
+pub marked_known : (accepted : List Report) (names left : List Name) (q : Name) (behind : List Name) (j : ℕ) (flags : List Bool) → IsMarkedBefore accepted names left flags → left ≡ q ∷ behind → AreDistinctNames (known accepted) → name_of accepted j ≡ Some q → IsMarkedBefore accepted names behind (set flags j true)
+marked_known accepted names left q behind j flags h is distinct found = record {
+  front = h.front ++ q ∷ [];
+  parts = moved names h.front left q behind h.parts is;
+  marked = record {
+    complete = length-set flags j true ∙ h.marked.complete;
+    named = λ p name named. marked_here accepted h.front j p q name flags h.marked distinct found named (cases_eq p j);
+  };
 }
 
-pub all_marked : (accepted : List Report) (names : List Name) (i : ℕ) (flags : List Bool) → length names ≤ i → IsMarkedTo accepted names i flags → AreMarked accepted names flags
-all_marked accepted names i flags le h = record {
-  complete = h.complete;
-  named = λ p name named. subst (λ (l : List Name). IsTrue (slice_index_or flags p false) ↔ Contains l name) (take_all i names le) (h.named p name named);
+-- flags for just the names that were taken, all of which are known, with those that are left
+pub record AreFoundBefore (accepted : List Report) (names left : List Name) (flags : List Bool) : Type 0 where
+  pub front : List Name
+  pub parts : names ≡ front ++ left
+  pub known_front : All (IsKnown accepted) front
+  pub marked : AreMarked accepted front flags
+
+pub none_found : (accepted : List Report) (names left : List Name) (flags : List Bool) (n : ℕ) → left ≡ names → flags ≡ replicate n false → n ≡ length (known accepted) → AreFoundBefore accepted names left flags
+none_found accepted names left flags n all e is = record {
+  front = [];
+  parts = sym all;
+  known_front = All-from_recursion (IsKnown accepted) [] tt;
+  marked = (none_marked_first accepted flags n e is);
 }
 
-pub flag_there : (accepted : List Report) (names : List Name) (i j : ℕ) (q : Name) (flags : List Bool) → IsMarkedTo accepted names i flags → name_of accepted j ≡ Some q → j < length flags
-flag_there accepted names i j q flags h found = omega (arith, slice_get_within (known accepted) j q found, h.complete)
+pub one_found : (accepted : List Report) (names left : List Name) (q : Name) (behind : List Name) (j : ℕ) (flags : List Bool) → AreFoundBefore accepted names left flags → left ≡ q ∷ behind → AreDistinctNames (known accepted) → name_of accepted j ≡ Some q → AreFoundBefore accepted names behind (set flags j true)
+one_found accepted names left q behind j flags h is distinct found = record {
+  front = h.front ++ q ∷ [];
+  parts = moved names h.front left q behind h.parts is;
+  known_front = All-push (IsKnown accepted) h.front q h.known_front (known_from accepted j q found);
+  marked = record {
+    complete = length-set flags j true ∙ h.marked.complete;
+    named = λ p name named. marked_here accepted h.front j p q name flags h.marked distinct found named (cases_eq p j);
+  };
+}
 
--- a name among known ones is known
-pub known_there : (accepted : List Report) (names : List Name) (i : ℕ) (q : Name) → All (IsKnown accepted) names → i < length names → q ≡ get_or names i q → IsKnown accepted q
-known_there accepted names i q all lt is = subst (IsKnown accepted) (sym is) (All-get_or (IsKnown accepted) names i q lt all)
+pub not_found : (accepted : List Report) (names left : List Name) (q : Name) (behind : List Name) (flags : List Bool) → AreFoundBefore accepted names left flags → left ≡ q ∷ behind → ¬ IsKnown accepted q → IsFirstUnknown accepted names q
+not_found accepted names left q behind flags h is new = record { front = h.front; rest = behind; parts = h.parts ∙ ap (λ (l : List Name). h.front ++ l) is; known_front = h.known_front; unknown = new }
+
+pub all_found : (accepted : List Report) (names left : List Name) (flags : List Bool) → left ≡ [] → AreFoundBefore accepted names left flags → All (IsKnown accepted) names × AreMarked accepted names flags
+all_found accepted names left flags none h =
+    let whole = sym (h.parts ∙ ap (λ (l : List Name). h.front ++ l) none ∙ append-nil h.front) in
+    (subst (λ (l : List Name). All (IsKnown accepted) l) whole h.known_front, subst (λ (l : List Name). AreMarked accepted l flags) whole h.marked)
+
+pub flag_found : (accepted : List Report) (names left : List Name) (j : ℕ) (q : Name) (flags : List Bool) → AreFoundBefore accepted names left flags → name_of accepted j ≡ Some q → j < length flags
+flag_found accepted names left j q flags h found = omega (arith, slice_get_within (known accepted) j q found, h.marked.complete)
+
+pub flag_before : (accepted : List Report) (names left : List Name) (j : ℕ) (q : Name) (flags : List Bool) → IsMarkedBefore accepted names left flags → name_of accepted j ≡ Some q → j < length flags
+flag_before accepted names left j q flags h found = omega (arith, slice_get_within (known accepted) j q found, h.marked.complete)
 
 -- ---- the set
 

@@ -24,9 +24,9 @@ use Rattle.report_line.specs.declared.marked.MarkedReport.{MarkedReport}
 use Rattle.chains.specs.Held.{Held}
 use Rattle.chains.specs.Admission.{Passes, report_limit, process_limit}
 use Rattle.chains.specs.Folded.{IsFitReport, IsFolded}
-use Rattle.chains.specs.Keeping.{KeptProcess, kept_of, last_index, indexes_from}
-use Rattle.chains.specs.Noting.{noted, taken, born, is_check, changed_at, names_with, TakenAt, IsKeptByAction}
-use Rattle.chains.specs.Inside.{AreDistinctNames}
+use Rattle.chains.specs.working.Keeping.{KeptProcess, kept_of, last_index, indexes_from}
+use Rattle.chains.specs.working.Noting.{noted, taken, born, is_check, changed_at, names_with, TakenAt, IsKeptByAction}
+use Rattle.chains.specs.working.Inside.{AreDistinctNames}
 use Rattle.stamp.specs.declared.stamp.Stamp.{Stamp}
 use Rattle.chains.proofs.Lists.{last_index-push}
 use Rattle.chains.proofs.Counting.{indexes-length}

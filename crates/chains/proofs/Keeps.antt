@@ -13,7 +13,7 @@ use Rattle.report_line.specs.declared.report.Report.{Report}
 use Rattle.chains.specs.declared.process.Process.{Process}
 use Rattle.chains.specs.Processes.{Name, known, newborn, first_of, last_passing, is_numbered_of, is_birth_of, last_report, last_epoch, birth_report}
 use Rattle.chains.specs.Elements.{name_of}
-use Rattle.chains.specs.Keeping.{KeptProcess, kept_of, view_of, last_index}
+use Rattle.chains.specs.working.Keeping.{KeptProcess, kept_of, view_of, last_index}
 use Rattle.chains.proofs.LookUps.{known_from}
 use Rattle.chains.proofs.Lists.{IsWithin, last_index-within, last_index-get}
 

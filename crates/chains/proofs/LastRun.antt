@@ -18,8 +18,8 @@ use Rattle.chains.specs.Processes.{Name, child_of, last_report, is_numbered_of}
 use Rattle.chains.specs.Elements.{name_of, lasting_made, lasting_by, lasting_of, present_in, elements_of}
 use Rattle.chains.specs.LastRun.{same_id, last_run, run_by, run_after}
 use Rattle.chains.specs.Admission.{report_limit}
-use Rattle.chains.specs.Keeping.{KeptProcess}
-use Rattle.chains.specs.Noting.{is_check}
+use Rattle.chains.specs.working.Keeping.{KeptProcess}
+use Rattle.chains.specs.working.Noting.{is_check}
 use Rattle.chains.proofs.Keeps.{AreKept, looked_up}
 use Rattle.chains.proofs.Counting.{one_present, made_within}
 use Rattle.chains.proofs.Stepping.{same_bytes, other_bytes, same_or_other}

@@ -16,8 +16,8 @@ use Rattle.chains.specs.Processes.{Name, known, IsKnown, is_birth_of, is_numbere
 use Rattle.chains.specs.Elements.{name_of, elements, elements_of, lasting_made, lasting_of, present_in}
 use Rattle.chains.specs.Positions.{rank, position_in, positions_of, IsChosen, IsCut}
 use Rattle.chains.specs.Folded.{IsFolded}
-use Rattle.chains.specs.Inside.{first_stamp}
-use Rattle.chains.specs.Settling.{ListsEach, HasElementsTo}
+use Rattle.chains.specs.working.Inside.{first_stamp}
+use Rattle.chains.specs.working.Settling.{ListsEach, HasElementsTo}
 use Rattle.chains.proofs.Counting.{elements_is}
 use Rattle.chains.proofs.Reaching.{well_made}
 use Rattle.chains.proofs.InOrder.{unknown_none, nothing_made}

@@ -8,7 +8,7 @@ use Rattle.chains.specs.Positions.{positions_of}
 use Rattle.chains.specs.Held.{Held}
 use Rattle.chains.specs.Folded.{IsFolded}
 use Rattle.chains.specs.Settled.{Limits, limits_of, settled_by, settled, CanBeKept}
-use Rattle.chains.specs.Settling.{limits_in, ListsEach, AreLimits, IsKeptTo, HaveElements}
+use Rattle.chains.specs.working.Settling.{limits_in, ListsEach, AreLimits, IsKeptTo, HaveElements}
 use Rattle.chains.proofs.LineReports.{same_limits}
 
 -- what is within the limits of a line is what it settles

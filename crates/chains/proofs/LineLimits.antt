@@ -14,7 +14,7 @@ use Rattle.chains.specs.Elements.{name_of}
 use Rattle.chains.specs.Folded.{IsFolded}
 use Rattle.chains.specs.Positions.{position_in}
 use Rattle.chains.specs.Settled.{position_for, limit}
-use Rattle.chains.specs.Settling.{limits_in, AreLimits}
+use Rattle.chains.specs.working.Settling.{limits_in, AreLimits}
 use Rattle.chains.proofs.Stepping.{other_bytes}
 use Rattle.chains.proofs.Certain.{known_or_not}
 use Rattle.chains.proofs.Distinct.{distinct_known}

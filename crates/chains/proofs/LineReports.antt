@@ -16,7 +16,7 @@ use Rattle.chains.specs.Held.{Held, held_of, counting, with_report}
 use Rattle.chains.specs.Admission.{report_limit, process_limit}
 use Rattle.chains.specs.Folded.{IsFit, IsFolded}
 use Rattle.chains.specs.Settled.{Limits, limits_of, is_settled, settled_by, settled, beside, kept_at}
-use Rattle.chains.specs.Settling.{counted_from, IsKeptTo}
+use Rattle.chains.specs.working.Settling.{counted_from, IsKeptTo}
 use Rattle.chains.proofs.Reaching.{fit_before}
 
 -- ---- parts of lists

@@ -5,7 +5,7 @@ use Rattle.std.specs.Option.{option_map}
 use Rattle.std.proofs.lemmas.Option.{slice_get-get_or}
 use Rattle.std.proofs.lemmas.Bool.{true≢false}
 use Rattle.chains.specs.Processes.{first_of, last_passing}
-use Rattle.chains.specs.Keeping.{last_index}
+use Rattle.chains.specs.working.Keeping.{last_index}
 
 -- an index is within a length, if there is one
 abbrev pub IsWithin : Option ℕ → ℕ → Type 0

@@ -1,13 +1,13 @@
 -- Looking a process up by its name.
-use Rattle.std.proofs.Common.{◌≡◌, ℕ, ◌+◌, ◌<◌, ◌≤◌, ◌∷◌, ◌++◌, false, List, length, get_or, take, drop, All, Some, position, sym, ap, subst, ◌∙◌}
+use Rattle.std.proofs.Common.{◌≡◌, ℕ, ◌<◌, ◌∷◌, ◌++◌, false, List, [], length, get_or, All, Some, position, sym, ap, subst, ◌∙◌, append_assoc}
 use Rattle.std.specs.Prelude.{nat_eq}
 use Rattle.std.specs.List.{list_any}
 use Rattle.std.specs.Cmp.Lexicographic.{pointwise, nat_list_eq_equiv}
 use Rattle.std.proofs.lemmas.Bool.{true≢false}
 use Rattle.std.proofs.lemmas.Map.Views.{list_any-from_Contains}
 use Rattle.std.proofs.lemmas.List.Quantifiers.{position-Some}
-use Rattle.std.proofs.lemmas.List.{take-append-drop, drop_more, take_all}
-use Rattle.std.proofs.lemmas.List.Elements.{All-more}
+use Rattle.std.proofs.lemmas.List.{append-nil}
+use Rattle.std.proofs.lemmas.List.Elements.{All-push, All-from_recursion}
 use Rattle.std.proofs.lemmas.Option.{slice_get_within, get_or_from_slice_get}
 use Rattle.std.proofs.lemmas.Slice.Eq.{bytes_eq-Decides}
 use Rattle.report_line.specs.declared.report.Report.{Report}
@@ -29,18 +29,26 @@ found_name keys accepted p i e at =
 pub known_from : (accepted : List Report) (i : ℕ) (p : Name) → name_of accepted i ≡ Some p → IsKnown accepted p
 known_from accepted i p h = (i, slice_get_within (known accepted) i p h, get_or_from_slice_get (known accepted) i p p h)
 
--- the first unknown name, behind known ones
-pub first_unknown_at : (accepted : List Report) (names : List Name) (i : ℕ) (p : Name) → i < length names → p ≡ get_or names i p → All (IsKnown accepted) (take i names) → ¬ IsKnown accepted p → IsFirstUnknown accepted names p
-first_unknown_at accepted names i p lt is before new = record {
-  front = take i names;
-  rest = drop (i + 1) names;
-  parts = sym (take-append-drop i names) ∙ ap (λ (l : List Name). take i names ++ l) (drop_more names i p lt ∙ ap (λ (q : Name). q ∷ drop (i + 1) names) (sym is));
-  known_front = before;
-  unknown = new;
+-- ---- names, one after the other
+
+-- the names that were taken are known, with those that are left
+pub record AreKnownBefore (accepted : List Report) (names left : List Name) : Type 0 where
+  pub front : List Name
+  pub parts : names ≡ front ++ left
+  pub known_front : All (IsKnown accepted) front
+
+pub none_taken : (accepted : List Report) (names left : List Name) → left ≡ names → AreKnownBefore accepted names left
+none_taken accepted names left all = record { front = []; parts = sym all; known_front = All-from_recursion (IsKnown accepted) [] tt }
+
+pub one_taken : (accepted : List Report) (names left : List Name) (q : Name) (behind : List Name) → AreKnownBefore accepted names left → left ≡ q ∷ behind → IsKnown accepted q → AreKnownBefore accepted names behind
+one_taken accepted names left q behind h is new = record {
+  front = h.front ++ q ∷ [];
+  parts = h.parts ∙ ap (λ (l : List Name). h.front ++ l) is ∙ sym (append_assoc h.front (q ∷ []) behind);
+  known_front = All-push (IsKnown accepted) h.front q h.known_front new;
 }
 
-pub known_more : (accepted : List Report) (names : List Name) (i : ℕ) (p : Name) → i < length names → p ≡ get_or names i p → All (IsKnown accepted) (take i names) → IsKnown accepted p → All (IsKnown accepted) (take (i + 1) names)
-known_more accepted names i p lt is before new = All-more (IsKnown accepted) names i p lt before (subst (IsKnown accepted) is new)
+pub unknown_next : (accepted : List Report) (names left : List Name) (q : Name) (behind : List Name) → AreKnownBefore accepted names left → left ≡ q ∷ behind → ¬ IsKnown accepted q → IsFirstUnknown accepted names q
+unknown_next accepted names left q behind h is new = record { front = h.front; rest = behind; parts = h.parts ∙ ap (λ (l : List Name). h.front ++ l) is; known_front = h.known_front; unknown = new }
 
-pub all_known : (accepted : List Report) (names : List Name) (i : ℕ) → length names ≤ i → All (IsKnown accepted) (take i names) → All (IsKnown accepted) names
-all_known accepted names i le h = subst (λ (ns : List Name). All (IsKnown accepted) ns) (take_all i names le) h
+pub all_taken : (accepted : List Report) (names left : List Name) → AreKnownBefore accepted names left → left ≡ [] → All (IsKnown accepted) names
+all_taken accepted names left h none = subst (λ (l : List Name). All (IsKnown accepted) l) (sym (h.parts ∙ ap (λ (l : List Name). h.front ++ l) none ∙ append-nil h.front)) h.known_front

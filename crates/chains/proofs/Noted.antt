@@ -6,8 +6,8 @@ use Rattle.std.specs.Cmp.Lexicographic.{pointwise}
 use Rattle.std.proofs.lemmas.List.{map-set, get_or-map}
 use Rattle.chains.specs.declared.process.Process.{Process}
 use Rattle.chains.specs.Processes.{Name}
-use Rattle.chains.specs.Keeping.{KeptProcess, view_of}
-use Rattle.chains.specs.Noting.{noted, taken, born, changed_at, TakenAt, IsTakenBy}
+use Rattle.chains.specs.working.Keeping.{KeptProcess, view_of}
+use Rattle.chains.specs.working.Noting.{noted, taken, born, changed_at, TakenAt, IsTakenBy}
 
 -- a process that was looked up and changed, as it is kept
 pub changed : (processes : List Process) (i : ℕ) (old new : Process) (f : KeptProcess → KeptProcess) → i < length processes → old ≡ get_or processes i old → view_of new ≡ f (view_of old)

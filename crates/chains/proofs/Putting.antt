@@ -7,7 +7,7 @@ use Rattle.chains.specs.Held.{held_of}
 use Rattle.chains.specs.Admission.{process_limit}
 use Rattle.chains.specs.Answers.{MayBeAccepted}
 use Rattle.chains.specs.Folded.{IsFolded}
-use Rattle.chains.specs.Fitting.{MayBePut}
+use Rattle.chains.specs.working.Fitting.{MayBePut}
 use Rattle.chains.proofs.Folding.{fit_of}
 use Rattle.chains.proofs.Passed.{present_epoch}
 use Rattle.chains.proofs.InOrder.{few_after, few_known_after}

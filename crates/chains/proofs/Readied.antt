@@ -8,8 +8,8 @@ use Rattle.chains.specs.Held.{Held}
 use Rattle.chains.specs.Admission.{IsReportReply}
 use Rattle.chains.specs.Kept.{Kept, HasRoomFor}
 use Rattle.chains.specs.Answers.{IsNumberOf}
-use Rattle.chains.specs.Testing.{IsNumberIn}
-use Rattle.chains.specs.Noting.{IsFound, HasPlace}
+use Rattle.chains.specs.working.Testing.{IsNumberIn}
+use Rattle.chains.specs.working.Noting.{IsFound, HasPlace}
 use Rattle.chains.proofs.Passed.{passed_tests}
 
 pub readied : (k : Kept) (accepted : List Report) (r : Report) (number : Option ℕ) → k.accepted ≡ accepted → IsNumberIn accepted r number → IsFound r number → HasPlace number k.rooms

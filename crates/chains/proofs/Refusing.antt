@@ -8,7 +8,7 @@ use Rattle.chains.specs.Processes.{Name}
 use Rattle.chains.specs.Held.{Held}
 use Rattle.chains.specs.Turns.{IsSettling}
 use Rattle.chains.specs.Answers.{IsSettleRefusal}
-use Rattle.chains.specs.Testing.{IsRefusalWith}
+use Rattle.chains.specs.working.Testing.{IsRefusalWith}
 
 pub refused_with : (held : Held) (front : ℕ) (names : List Name) (refusal : No) (code : Code) (told n : ℕ) → told ≡ n → IsRefusalWith refusal code told
     → IsSettling held front names (replies.No code None (Some (decimal n))) → IsSettleRefusal held front names refusal

@@ -4,9 +4,9 @@ use Rattle.std.specs.Prelude.{OnOk, vec_len, vec_capacity}
 use Rattle.std.proofs.lemmas.List.{map-set, get_or-set_same, length-map}
 use Rattle.std.proofs.Math.Seq.{map-set_same}
 use Rattle.chains.specs.declared.process.Process.{Process}
-use Rattle.chains.specs.Keeping.{view_of}
-use Rattle.chains.specs.Noting.{HasPlace}
-use Rattle.chains.specs.Room.{element_room}
+use Rattle.chains.specs.working.Keeping.{view_of}
+use Rattle.chains.specs.working.Noting.{HasPlace}
+use Rattle.chains.specs.working.Room.{element_room}
 
 -- a process whose room alone changed is kept as before
 pub kept_same : (processes : List Process) (i : ℕ) (old new : Process) → old ≡ get_or processes i old → view_of new ≡ view_of old → map view_of (set processes i new) ≡ map view_of processes

@@ -9,7 +9,7 @@ use Rattle.report_line.specs.declared.report.Report.{Report}
 use Rattle.chains.specs.Processes.{Name, last_report}
 use Rattle.chains.specs.Elements.{name_of, lasting_made, makes_lasting, lasting_of, present_in, elements_of, elements}
 use Rattle.chains.specs.declared.process.Process.{Process}
-use Rattle.chains.specs.Keeping.{KeptProcess, indexes_from}
+use Rattle.chains.specs.working.Keeping.{KeptProcess, indexes_from}
 use Rattle.chains.proofs.Keeps.{AreKept, looked_up}
 use Rattle.chains.proofs.Counting.{lasting_there, elements_is, one_present}
 

@@ -18,14 +18,14 @@ use Rattle.report_line.specs.declared.report.Report.{Report}
 use Rattle.report_line.specs.declared.report.Report.TheVariants.{Numbered}
 use Rattle.report_line.specs.declared.reply.Reply.{Reply}
 use Rattle.report_line.specs.declared.reply.Reply.TheVariants as replies
-use Rattle.chains.specs.declared.tests.Verdict.{Verdict}
-use Rattle.chains.specs.declared.tests.Verdict.TheVariants.{Old, Fits}
+use Rattle.chains.specs.declared.admission.Verdict.{Verdict}
+use Rattle.chains.specs.declared.admission.Verdict.TheVariants.{Old, Fits}
 use Rattle.chains.specs.declared.refusal.No.{No}
 use Rattle.chains.specs.Processes.{Name, last_report, last_epoch, registered_id, expected_id}
 use Rattle.chains.specs.Held.{Held}
 use Rattle.chains.specs.Admission.{Decides, TakesMemory, IsStampReply, IsWaitingReply, IsStandingReply, IsEpochReply, IsNumberedReply, IsRepeated, IsReportReply}
-use Rattle.chains.specs.Keeping.{Tests}
-use Rattle.chains.specs.Testing.{RefusesWith, IsFull, IsNoAbsorb}
+use Rattle.chains.specs.working.Keeping.{Tests}
+use Rattle.chains.specs.working.Testing.{RefusesWith, IsFull, IsNoAbsorb}
 
 -- the test does not apply, and the later ones decide
 pub passed_on : (F : Type 0) (reply : Reply) (P : Reply → Type 0) (front : ℕ) (r : Result Verdict No)

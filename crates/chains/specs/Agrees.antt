@@ -3,8 +3,8 @@ use Rattle.std.specs.Prelude.{◌≡◌, List, ◌++◌, Contains}
 use Rattle.report_line.specs.declared.report.NumberedReport.{NumberedReport}
 use Rattle.report_line.specs.declared.report.Report.{Report}
 use Rattle.report_line.specs.declared.report.Report.TheVariants.{Begin, Numbered}
-use Rattle.report_line.specs.History.{Name, History, Event}
-use Rattle.report_line.specs.StepReports.{reports, IsReportOf}
+use Rattle.report_line.specs.histories.History.{Name, History, Event}
+use Rattle.report_line.specs.histories.StepReports.{reports, IsReportOf}
 use Rattle.chains.specs.Processes.{reports_by}
 
 -- BEGIN names the root

@@ -2,7 +2,7 @@
 use Rattle.std.specs.Prelude.{ℕ, refl}
 use Rattle.std.specs.Coded.{Coded, code_by, coded×, coded_ℕ}
 use Rattle.report_line.specs.declared.marked.MarkedReport.{MarkedReport}
-use Rattle.report_line.specs.SessionCodes.{marked_code}
+use Rattle.report_line.specs.working.SessionCodes.{marked_code}
 
 -- the report, and the number of its process, where one is known
 pub record ReadyReport : Type 0 where

@@ -16,20 +16,21 @@ ghost use Rattle.chains.specs.States.{IsStateOf};
 ghost use Rattle.chains.specs.Held.{held_of, counting, with_report};
 ghost use Rattle.chains.specs.Admission.{IsAdmission, report_limit, process_limit};
 ghost use Rattle.chains.specs.Folded.{IsFolded};
-ghost use Rattle.chains.specs.Fitting.{MayBePut};
+ghost use Rattle.chains.specs.working.Fitting.{MayBePut};
 ghost use Rattle.chains.specs.Kept.{Kept, HasRoomFor};
-ghost use Rattle.chains.specs.Inside.{first_stamp};
+ghost use Rattle.chains.specs.working.Inside.{first_stamp};
 ghost use Rattle.chains.specs.Answers.{IsReady, MayBeAccepted, Prepares, Commits, IsNumberOf, reply_of};
 ghost use Rattle.chains.specs.Turns.{Fate, IsDeviceFree, IsReportTurn};
-ghost use Rattle.chains.specs.Keeping.{kept_of, view_of, Tests};
+ghost use Rattle.chains.specs.working.Keeping.{kept_of, view_of, Tests};
 ghost use Rattle.chains.specs.Laws.{ArePartsOfAll, NeverFall};
-ghost use Rattle.chains.specs.Testing.{IsNumberIn};
-ghost use Rattle.chains.specs.Noting.{noted, born, is_check, names_after, changed_at, IsTakenBy, IsKeptBy, IsFound, IsPlaceWithin, HasPlace};
-ghost use Rattle.chains.specs.Room.{element_room, HasNoteRoom, MayBeKept};
+ghost use Rattle.chains.specs.working.Testing.{IsNumberIn};
+ghost use Rattle.chains.specs.working.Noting.{noted, born, is_check, names_after, changed_at, IsTakenBy, IsKeptBy, IsFound, IsPlaceWithin, HasPlace};
+ghost use Rattle.chains.specs.working.Room.{element_room, HasNoteRoom, MayBeKept};
 ghost use Rattle.chains.specs.declared.process.Process.{Process as AnyProcess};
 ghost use Rattle.indexmap.specs.IndexSet.{spare, insert_key};
 ghost use Rattle.std.specs.Cmp.Lexicographic.{pointwise};
 
+use crate::admission::{Verdict, is_birth, out_of_memory};
 use crate::copies::{copy_names, copy_processes, share_all};
 use crate::elements::{Element, Elements};
 use crate::failed::Failed;
@@ -39,7 +40,6 @@ use crate::process::Process;
 use crate::refusal::{Admitted, No};
 use crate::reports::{at_index, nth_by, number_at};
 use crate::state::State;
-use crate::tests::{Verdict, is_birth, out_of_memory};
 use event_tree::Events;
 use id_tree::Id;
 use indexmap::IndexSet;
@@ -72,13 +72,13 @@ pub struct Chains {
 
 impl Model for Chains {
     ghost use Rattle.chains.specs.Kept.{Kept};
-    ghost use Rattle.chains.specs.Codes.{kept_code};
+    ghost use Rattle.chains.specs.working.Codes.{kept_code};
 
     ghost Value = { Kept };
 
     ghost coded = { kept_code };
 
-    ghost use Rattle.chains.specs.Inside.{kept_in, IsInOrder};
+    ghost use Rattle.chains.specs.working.Inside.{kept_in, IsInOrder};
 
     ghost view = { kept_in };
 

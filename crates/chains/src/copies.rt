@@ -1,8 +1,8 @@
 //! Copies of what chains keep.
 
 ghost use Rattle.std.specs.Prelude.{◌≡◌, IfOk, map};
-ghost use Rattle.chains.specs.Inside.{AreDistinctNames};
-ghost use Rattle.chains.specs.Keeping.{view_of};
+ghost use Rattle.chains.specs.working.Inside.{AreDistinctNames};
+ghost use Rattle.chains.specs.working.Keeping.{view_of};
 
 use crate::process::Process;
 use indexmap::IndexSet;

@@ -31,7 +31,7 @@ impl<'a> Model for Elements<'a> {
     ghost use Rattle.std.specs.Prelude.{◌<◌, List, length};
     ghost use Rattle.std.specs.Coded.{coded_list};
     ghost use Rattle.stamp.specs.declared.stamp.Stamp.{Stamp};
-    ghost use Rattle.report_line.specs.Codes.{stamp_code};
+    ghost use Rattle.report_line.specs.working.Codes.{stamp_code};
     ghost use Rattle.chains.specs.Processes.{known};
     ghost use Rattle.chains.specs.Elements.{elements};
 

@@ -1,12 +1,12 @@
 //! Sets of failed processes.
 
-ghost use Rattle.std.specs.Prelude.{◌≡◌, ◌<◌, ◌^◌, ◌↔◌, List, ℕ, IfOk, IsTrue, MatchOption, All, Contains, length};
+ghost use Rattle.std.specs.Prelude.{◌≡◌, ◌<◌, ◌^◌, ◌↔◌, List, ℕ, Err, IfOk, IfErr, OnOk, IsTrue, MatchOption, All, Contains, length};
 ghost use Rattle.std.specs.List.Sorted.{IsStrictlyIncreasing};
 ghost use Rattle.chains.specs.Processes.{known, IsKnown};
 ghost use Rattle.chains.specs.Failures.{IsFailedSet, IsFirstUnknown, FailsAs, AreMarked, AreFlagged, AreNumbersOf};
 
 use crate::chains::Chains;
-use report_line::Name;
+use report_line::{Name, Names};
 use std::alloc::{AllocError, Global};
 use std::marker::Model;
 use thiserror::Error;
@@ -41,14 +41,11 @@ pub enum FailedFault {
 
 impl Failed {
     /// The failed processes of these names, whose order and repeats do not matter.
-    pub fn from_names(chains: &Chains, names: &[Name]) -> Result<Failed, FailedFault>
+    pub fn from_names(chains: &Chains, names: &Names) -> Result<Failed, FailedFault>
         ensures { FailsAs result chains.now.accepted names.now }
     {
-        match first_unknown(chains, names) {
-            Some(name) => return Err(FailedFault::Unknown(name.copy())),
-            None => {}
-        }
-        match numbers_of(chains, names) {
+        let flags = flags_of(chains, names)?;
+        match marked(chains.alloc(), &flags) {
             Ok(numbers) => Ok(Failed { numbers }),
             Err(_) => Err(FailedFault::Memory),
         }
@@ -99,11 +96,12 @@ impl Failed {
 }
 
 /// The first of these names that no process has. It takes no memory.
-pub fn first_unknown<'a>(chains: &Chains, names: &'a [Name]) -> Option<&'a Name>
-    ensures { MatchOption result (All (IsKnown chains.now.accepted) names.now) (λ name. IsFirstUnknown chains.now.accepted names.now name.now) }
+pub fn first_unknown(chains: &Chains, names: &Names) -> Option<Name>
+    ensures { MatchOption result (All (IsKnown chains.now.accepted) names.now) (λ name. IsFirstUnknown chains.now.accepted names.now name) }
 {
-    for name in names {
-        match chains.number_of(name) {
+    let mut left = names.left();
+    while let Some(name) = left.next() {
+        match chains.number_of(&name) {
             None => return Some(name),
             Some(_) => {}
         }
@@ -111,26 +109,47 @@ pub fn first_unknown<'a>(chains: &Chains, names: &'a [Name]) -> Option<&'a Name>
     None
 }
 
-/// The numbers of the processes of these names, in order of birth.
-fn numbers_of(chains: &Chains, names: &[Name]) -> Result<Vec<u32>, AllocError>
-    requires { All (IsKnown chains.now.accepted) names.now }
-    ensures { IfOk result (λ ns. IsFailedSet chains.now.accepted names.now ns.items) }
-{
-    chains.lawful();
-    let flags = flags_of(chains, names)?;
-    marked(chains.alloc(), &flags)
-}
-
-/// Which processes have one of these names.
-fn flags_of(chains: &Chains, names: &[Name]) -> Result<Vec<bool>, AllocError>
-    requires { All (IsKnown chains.now.accepted) names.now }
+/// Which processes are named, in order of birth. Names that no process has are passed over.
+pub fn which_are_named(chains: &Chains, names: &Names) -> Result<Vec<bool>, AllocError>
     ensures { IfOk result (λ flags. AreMarked chains.now.accepted names.now flags.items) }
 {
     chains.lawful();
     let mut flags = Vec::from_elem(chains.alloc(), false, chains.count() as usize)?;
-    for name in names {
-        let Some(number) = chains.number_of(name) else {
-            unreachable!();
+    let mut left = names.left();
+    while let Some(name) = left.next() {
+        match chains.number_of(&name) {
+            None => {}
+            Some(number) => flags[number as usize] = true,
+        }
+    }
+    Ok(flags)
+}
+
+/// Why there is no set of these names where no memory is left: the first unknown one comes first.
+fn without_memory(chains: &Chains, names: &Names) -> FailedFault
+    ensures { FailsAs (Err result) chains.now.accepted names.now }
+{
+    match first_unknown(chains, names) {
+        Some(name) => FailedFault::Unknown(name),
+        None => FailedFault::Memory,
+    }
+}
+
+/// Which processes have one of these names.
+fn flags_of(chains: &Chains, names: &Names) -> Result<Vec<bool>, FailedFault>
+    ensures known { OnOk result (All (IsKnown chains.now.accepted) names.now) }
+    ensures marked { IfOk result (λ flags. AreMarked chains.now.accepted names.now flags.items) }
+    ensures fault { IfErr result (λ fault. FailsAs (Err fault) chains.now.accepted names.now) }
+    ensures few { IfOk result (λ flags. length flags.items < 2 ^ 32) }
+{
+    chains.lawful();
+    let Ok(mut flags) = Vec::from_elem(chains.alloc(), false, chains.count() as usize) else {
+        return Err(without_memory(chains, names));
+    };
+    let mut left = names.left();
+    while let Some(name) = left.next() {
+        let Some(number) = chains.number_of(&name) else {
+            return Err(FailedFault::Unknown(name));
         };
         flags[number as usize] = true;
     }

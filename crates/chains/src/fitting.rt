@@ -9,12 +9,12 @@ ghost use Rattle.chains.specs.Admission.{report_limit, process_limit};
 ghost use Rattle.report_line.specs.View.{action_of, numbered_of};
 ghost use Rattle.chains.specs.Elements.{name_of};
 ghost use Rattle.chains.specs.Folded.{IsFitReport, IsFit};
-ghost use Rattle.chains.specs.Fitting.{HasFitStamp, HasOwnStamp};
-ghost use Rattle.chains.specs.Testing.{IsNumberIn, IsNoAbsorb};
+ghost use Rattle.chains.specs.working.Fitting.{HasFitStamp, HasOwnStamp};
+ghost use Rattle.chains.specs.working.Testing.{IsNumberIn, IsNoAbsorb};
 
+use crate::admission::is_split;
 use crate::chains::Chains;
 use crate::keeping::KeepFault;
-use crate::tests::is_split;
 use report_line::{ActionView, Forked, MarkedReport, Name, NumberedView, PackedReport, ReportView};
 use std::alloc::AllocError;
 

@@ -12,7 +12,7 @@ ghost use Rattle.chains.specs.Admission.{report_limit};
 ghost use Rattle.chains.specs.Positions.{rank, positions_of, IsChosen, IsCut};
 ghost use Rattle.chains.specs.Folded.{IsFolded};
 ghost use Rattle.chains.specs.Settled.{number_for, limit, is_settled, settled_by, kept_at, CanBeKept};
-ghost use Rattle.chains.specs.Settling.{counted_from, limits_in, ListsEach, AreLimits, IsKeptTo, HasElementsTo, HaveElements};
+ghost use Rattle.chains.specs.working.Settling.{counted_from, limits_in, ListsEach, AreLimits, IsKeptTo, HasElementsTo, HaveElements};
 
 use crate::chains::Chains;
 use crate::elements::{Element, Elements};

@@ -1,6 +1,7 @@
 //! The accepted reports, and what they say of processes.
 #![tactic(auto)]
 
+mod admission;
 mod chains;
 mod copies;
 mod elements;
@@ -16,11 +17,10 @@ mod refusal;
 mod reports;
 mod settling;
 mod state;
-mod tests;
 
 pub use chains::Chains;
 pub use elements::{Element, Elements};
-pub use failed::{Failed, FailedFault, first_unknown};
+pub use failed::{Failed, FailedFault, first_unknown, which_are_named};
 pub use keeping::KeepFault;
 pub use laws::{
     folded_lists_are_lawful, makers_make_the_elements, reachable_lists_are_folded,

@@ -19,7 +19,7 @@ impl Model for Places {
     ghost use Rattle.std.specs.Prelude.{List};
     ghost use Rattle.std.specs.Coded.{coded_list};
     ghost use Rattle.chains.specs.declared.position.Place.{Place};
-    ghost use Rattle.chains.specs.Codes.{place_code};
+    ghost use Rattle.chains.specs.working.Codes.{place_code};
 
     ghost Value = { List Place };
 

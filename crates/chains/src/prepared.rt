@@ -21,7 +21,7 @@ impl Model for Ready {
 
     ghost coded = { ready_code };
 
-    ghost use Rattle.chains.specs.Birth.{ready_in, HasBirthRoom};
+    ghost use Rattle.chains.specs.working.Birth.{ready_in, HasBirthRoom};
 
     ghost view = { ready_in };
 

@@ -1,7 +1,7 @@
 //! What is kept of a process.
 
 ghost use Rattle.std.specs.Prelude.{◌≡◌, IfOk};
-ghost use Rattle.chains.specs.Keeping.{view_of};
+ghost use Rattle.chains.specs.working.Keeping.{view_of};
 
 use std::alloc::{AllocError, Global};
 

@@ -5,13 +5,13 @@ ghost use Rattle.std.specs.Fmt.{decimal};
 ghost use Rattle.chains.specs.Held.{held_of};
 ghost use Rattle.chains.specs.Turns.{PassesSettle};
 ghost use Rattle.chains.specs.Answers.{IsSettleRefusal};
-ghost use Rattle.chains.specs.Testing.{IsRefusalWith};
+ghost use Rattle.chains.specs.working.Testing.{IsRefusalWith};
 
+use crate::admission::{REPORT_LIMIT, number_text, out_of_memory};
 use crate::chains::Chains;
 use crate::failed::first_unknown;
 use crate::refusal::No;
-use crate::tests::{REPORT_LIMIT, number_text, out_of_memory};
-use report_line::{Code, Name};
+use report_line::{Code, Name, Names};
 use std::alloc::Global;
 
 /// A refusal that has nothing to name.
@@ -26,12 +26,12 @@ fn unnamed(code: Code) -> No
 }
 
 /// A refusal of a process that is unknown.
-fn unknown(name: &Name) -> No
-    ensures { result ≡ record { code = Code.UnknownProcess; name = Some name.now; value = None } }
+fn unknown(name: Name) -> No
+    ensures { result ≡ record { code = Code.UnknownProcess; name = Some name; value = None } }
 {
     No {
         code: Code::UnknownProcess,
-        name: Some(name.copy()),
+        name: Some(name),
         value: None,
     }
 }
@@ -53,7 +53,7 @@ fn with_number(alloc: Global, code: Code, number: u32) -> No
 impl Chains {
     /// Tests a settlement on the line of these failed processes at this front: that something has begun, the processes are known, the
     /// front is the present one, and there is room for one more line. It takes memory for the value of a refusal alone.
-    pub fn may_settle(&self, front: u32, names: &[Name]) -> Result<(), No>
+    pub fn may_settle(&self, front: u32, names: &Names) -> Result<(), No>
         ensures ok { OnOk result (PassesSettle (held_of self.now) front names.now) }
         ensures err { IfErr result (IsSettleRefusal (held_of self.now) front names.now) }
     {

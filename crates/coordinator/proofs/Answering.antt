@@ -20,7 +20,7 @@ use Rattle.desk.specs.Records.{IsOpened}
 use Rattle.line_text.specs.Questions.{IsAnswer, IsChosenFor}
 use Rattle.line_text.proofs.Texts.{shows_taken}
 use Rattle.coordinator.specs.Passes.{PassEntry, PassState, IsAnswered, IsOneEntry, IsShownOver, Sees}
-use Rattle.coordinator.specs.Parts.{IsShownInstead, LastTaken, MayShowLine, with_line}
+use Rattle.coordinator.specs.working.Parts.{IsShownInstead, LastTaken, MayShowLine, with_line}
 use Rattle.coordinator.specs.Calls.{IsTurnFor, IsTakenFor}
 
 -- the text of a certificate that certifies is right

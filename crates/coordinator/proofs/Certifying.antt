@@ -1,6 +1,6 @@
 -- The certificate of which a text is the text.
 use Rattle.std.proofs.Common.{◌≡◌, ◌≢◌, inl, inr, ℕ, ◌+◌, ◌<◌, ◌≤◌, Bool, true, false, IsTrue, List, [], ◌∷◌, length, map, get_or, Option, Some, None, Result, Ok, Err, refl, sym, ap, ◌∙◌, subst, arith}
-use Rattle.std.specs.Prelude.{◌⊎◌, ◌↔◌, IfSome, All, Contains}
+use Rattle.std.specs.Prelude.{◌⊎◌, ◌↔◌, IfSome, All, Contains, slice_index_or}
 use Rattle.std.specs.List.{range_with_len}
 use Rattle.std.proofs.lemmas.List.{get_or-map, length-map}
 use Rattle.std.proofs.lemmas.List.Elements.{All-cons, All-from_recursion, All-weaker, All-contains_itself}
@@ -13,6 +13,7 @@ use Rattle.chains.specs.declared.position.Position.{Position}
 use Rattle.chains.specs.declared.position.Position.TheVariants.{At, Retired}
 use Rattle.chains.specs.Processes.{Name, known}
 use Rattle.chains.specs.Elements.{name_of}
+use Rattle.chains.specs.Failures.{AreMarked}
 use Rattle.chains.specs.Positions.{IsChosen, IsSurviving, position_in}
 use Rattle.chains.specs.Knowledge.{Knows}
 use Rattle.chains.specs.Held.{Held}
@@ -144,12 +145,27 @@ told_all accepted names failed c n is whole told = (
   λ _. refl,
 )
 
-pub told_not : (accepted : List Report) (names : List Name) (failed : List ℕ) (c : Certificate) (p : ℕ) (b : Bool) → failed ≡ c.failed
-    → (IsTrue b ↔ ((name : Name) → name_of accepted p ≡ Some name → (Contains failed p ↔ Contains names name))) → b ≡ false → (IsTrue false ↔ IsForNames accepted names c)
-told_not accepted names failed c p b is told none = (
-  λ never. absurd (true≢false (sym never)),
-  λ for. absurd (true≢false (sym (told.1 (λ name at. subst (λ (fs : List ℕ). Contains fs p ↔ Contains names name) (sym is) (for p name at))) ∙ none)),
-)
+-- the failed numbers below n are just those with a flag
+abbrev pub AreFlaggedTo : List ℕ → List Bool → ℕ → Type 0
+AreFlaggedTo failed named n = (p : ℕ) → p < n → (Contains failed p ↔ IsTrue (slice_index_or named p false))
+
+pub flagged_all : (accepted : List Report) (failed : List ℕ) (named : List Bool) (c : Certificate) (n : ℕ) → failed ≡ c.failed → length (known accepted) ≤ n → AreFlaggedTo failed named n
+    → (names : List Name) → AreMarked accepted names named → (IsTrue true ↔ IsForNames accepted names c)
+flagged_all accepted failed named c n is whole flagged names marks =
+    told_all accepted names failed c n is whole (λ p name lt at. (λ x. (marks.named p name at).0 ((flagged p lt).0 x), λ y. (flagged p lt).1 ((marks.named p name at).1 y)))
+
+-- one that has a flag and did not fail, or the other way round
+pub flagged_not : (accepted : List Report) (failed : List ℕ) (named : List Bool) (c : Certificate) (p : ℕ) (b : Bool) → failed ≡ c.failed → p < length (known accepted)
+    → (IsTrue b ↔ (Contains failed p ↔ IsTrue (slice_index_or named p false))) → b ≡ false
+    → (names : List Name) → AreMarked accepted names named → (IsTrue false ↔ IsForNames accepted names c)
+flagged_not accepted failed named c p b is within told none names marks =
+    let name : Name = get_or (known accepted) p [] in
+    let at : name_of accepted p ≡ Some name = slice_get-get_or (known accepted) p [] within in (
+      λ never. absurd (true≢false (sym never)),
+      λ for.
+          let here : Contains failed p ↔ Contains names name = subst (λ (fs : List ℕ). Contains fs p ↔ Contains names name) (sym is) (for p name at) in
+          absurd (true≢false (sym (told.1 (λ x. (marks.named p name at).1 (here.0 x), λ y. here.1 ((marks.named p name at).0 y))) ∙ none)),
+    )
 
 -- whether all are failed
 pub below_more : (failed : List ℕ) (n : ℕ) → ((p : ℕ) → p < n → Contains failed p) → Contains failed n → (p : ℕ) → p < n + 1 → Contains failed p

@@ -32,8 +32,8 @@ use Rattle.line_text.specs.Asking.{AsksForLine}
 use Rattle.line_text.specs.Questions.{IsLineFor}
 use Rattle.coordinator.specs.Passes.{PassEntry, PassState}
 use Rattle.coordinator.specs.Closing.{IsCause, ShowsRightly}
-use Rattle.coordinator.specs.Marks.{owner_at}
-use Rattle.coordinator.specs.Checks.{HaveSame, RightOver, IsEntryOf, IsCheckedOver, IsWrongOver, AreCheckedTo, IsWrongThere}
+use Rattle.coordinator.specs.working.Marks.{owner_at}
+use Rattle.coordinator.specs.working.Checks.{HaveSame, RightOver, IsEntryOf, IsCheckedOver, IsWrongOver, AreCheckedTo, IsWrongThere}
 
 -- ---- neither the epochs nor whether the store is stopped matter for a line
 

@@ -7,18 +7,18 @@ use Rattle.chains.specs.Held.{Held}
 use Rattle.desk.specs.declared.turn.Receipt.{Receipt}
 use Rattle.desk.specs.declared.turn.Turn.{Turn}
 use Rattle.desk.specs.Desks.{DeskState, records_of}
-use Rattle.desk.specs.Lawful.{IsLawful}
+use Rattle.desk.specs.Lawful.{IsLawfulDesk}
 use Rattle.desk.specs.Records.{recorded}
 use Rattle.desk.proofs.Turning.{records_more}
 use Rattle.coordinator.specs.Passes.{PassState}
-use Rattle.coordinator.specs.Parts.{MayShowLine, with_line}
+use Rattle.coordinator.specs.working.Parts.{MayShowLine, with_line}
 use Rattle.coordinator.specs.Calls.{IsOneTurn, IsTurnFor}
 use Rattle.coordinator.specs.Standing.{IsAcknowledgement, StandsInEachFile, IsMade}
 use Rattle.coordinator.proofs.Acknowledged.{acknowledged}
 use Rattle.coordinator.proofs.Answering.{one_shown}
 
 module _ {D : Type 0} (keeps : D → Type 0) (view : D → View) where
-  in_each_file : (before after : DeskState D) (call : Call) (receipt : Receipt) → IsLawful keeps view after → IsOneTurn before call receipt after → IsAcknowledgement receipt.reply
+  in_each_file : (before after : DeskState D) (call : Call) (receipt : Receipt) → IsLawfulDesk keeps view after → IsOneTurn before call receipt after → IsAcknowledgement receipt.reply
       → StandsInEachFile keeps view before after call receipt.reply
   in_each_file before after call receipt lawful turn told =
       let has = acknowledged before.held after.held call receipt.reply turn.step told in
@@ -32,7 +32,7 @@ module _ {D : Type 0} (keeps : D → Type 0) (view : D → View) where
       }
 
   -- a turn that a desk made for a pass
-  pub is_made : (before after : DeskState D) (old : PassState) (call : Call) (new : PassState) → IsLawful keeps view before → IsLawful keeps view after → IsTurnFor before after old call new
+  pub is_made : (before after : DeskState D) (old : PassState) (call : Call) (new : PassState) → IsLawfulDesk keeps view before → IsLawfulDesk keeps view after → IsTurnFor before after old call new
       → IsMade keeps view old call new
   is_made before after old call new was now made = record {
     before = before;

@@ -9,7 +9,7 @@ use Rattle.desk.specs.declared.turn.Turn.{Turn}
 use Rattle.coordinator.specs.Passes.{PassEntry, PassState, Rises}
 use Rattle.chains.specs.Held.{Held}
 use Rattle.coordinator.specs.Closing.{turn_of, entries_of, times, IsAtTurn, IsStrange}
-use Rattle.coordinator.specs.Marks.{IsMarked}
+use Rattle.coordinator.specs.working.Marks.{IsMarked}
 
 -- 1 where the entry has this turn
 pub one_if : ℕ → PassEntry → ℕ

@@ -8,8 +8,8 @@ use Rattle.desk.specs.declared.turn.Turn.{Turn}
 use Rattle.coordinator.specs.declared.marking.Owner.{Owner}
 use Rattle.coordinator.specs.Passes.{PassEntry, PassState}
 use Rattle.coordinator.specs.Closing.{IsAtTurn, ShowsRightly}
-use Rattle.coordinator.specs.Marks.{owner, owner_at, AreOwned}
-use Rattle.coordinator.specs.Checks.{IsEntryOf, AreCheckedTo}
+use Rattle.coordinator.specs.working.Marks.{owner, owner_at, AreOwned}
+use Rattle.coordinator.specs.working.Checks.{IsEntryOf, AreCheckedTo}
 
 -- what an entry that is owned has
 abbrev pub IsOwned : List Turn → List ℕ → List Owner → ℕ → ℕ → PassEntry → Type 0

@@ -22,7 +22,7 @@ use Rattle.desk.specs.Lawful.{unstopped}
 use Rattle.desk.specs.Records.{IsOpened}
 use Rattle.desk.proofs.Recording.{settles_so}
 use Rattle.coordinator.specs.Passes.{front_of, epoch_of, IsShownOver, MayShow}
-use Rattle.coordinator.specs.Parts.{first_shown}
+use Rattle.coordinator.specs.working.Parts.{first_shown}
 
 -- ---- the replies of admission
 

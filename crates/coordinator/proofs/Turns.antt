@@ -9,7 +9,7 @@ use Rattle.desk.specs.Desks.{DeskState}
 use Rattle.desk.specs.Lawful.{unstopped}
 use Rattle.desk.specs.Records.{IsOpened}
 use Rattle.coordinator.specs.Passes.{PassEntry, PassState, Rises, last_turn, front_of}
-use Rattle.coordinator.specs.Parts.{first_shown, LastTaken}
+use Rattle.coordinator.specs.working.Parts.{first_shown, LastTaken}
 use Rattle.coordinator.specs.Calls.{IsOneTurn, IsTurnFor}
 use Rattle.coordinator.proofs.Rising.{rises-below}
 use Rattle.coordinator.proofs.Telling.{tells, shown_first}

@@ -4,14 +4,14 @@ use Rattle.line_disk.specs.Disk.{View, Leaves}
 use Rattle.chains.specs.Held.{Held}
 use Rattle.desk.specs.Desks.{DeskState, records_of}
 use Rattle.desk.specs.Files.{MayStandFor}
-use Rattle.desk.specs.Lawful.{IsLawful}
+use Rattle.desk.specs.Lawful.{IsLawfulDesk}
 use Rattle.desk.specs.Records.{Opens}
 use Rattle.desk.specs.Replays.{Replays}
 use Rattle.coordinator.specs.Passes.{PassState}
 use Rattle.coordinator.specs.Closing.{IsAudited, IsEnded}
 
 pub ended : {D : Type 0} (keeps : D → Type 0) (view : D → View) (opening : Held) (passes : List PassState) (desk : DeskState D) (disk : D) (turns front : ℕ)
-    → IsLawful keeps view desk → desk.opening ≡ opening → IsAudited desk.opening desk.turns passes → turns ≡ length desk.turns → front ≡ desk.held.front → disk ≡ desk.disk
+    → IsLawfulDesk keeps view desk → desk.opening ≡ opening → IsAudited desk.opening desk.turns passes → turns ≡ length desk.turns → front ≡ desk.held.front → disk ≡ desk.disk
     → (keeps disk → (c : List ℕ) → Leaves (view disk) c → MayStandFor (records_of desk) desk.held.epoch desk.turns c) → IsEnded keeps view opening passes turns front disk
 ended keeps view opening passes desk disk turns front lawful same audited made counted is left = record {
   list = desk.turns;

@@ -9,7 +9,7 @@ use Rattle.desk.specs.Desks.{DeskState}
 use Rattle.record_file.specs.File.{Said, Stands}
 use Rattle.desk.specs.Files.{MayStandFor, IsPending}
 use Rattle.desk.specs.Records.{Admits, Opens, recorded}
-use Rattle.desk.specs.Lawful.{IsLawful, unstopped}
+use Rattle.desk.specs.Lawful.{IsLawfulDesk, unstopped}
 use Rattle.desk.specs.Replays.{Replays}
 use Rattle.coordinator.specs.declared.fault.CloseFault.{CloseFault}
 use Rattle.coordinator.specs.declared.fault.CloseFault.TheVariants.{Stranger, Missing, Memory}
@@ -90,7 +90,7 @@ IsAuditCause opening desk passes Memory = ⊤
 -- Why a coordinator does not end: some desk, as the one under its lock may be, does not go with these passes, or memory was wanting.
 pub record IsRefused {D : Type 0} (keeps : D → Type 0) (view : D → View) (opening : Held) (passes : List PassState) (fault : CloseFault) : Type 0 where
   pub desk : DeskState D
-  pub lawful : IsLawful keeps view desk
+  pub lawful : IsLawfulDesk keeps view desk
   pub cause : IsAuditCause opening desk passes fault
 
 -- The coordinator has ended. Its turns replay from what was held at the opening and are those of the passes. A crash leaves a file of

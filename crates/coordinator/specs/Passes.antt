@@ -116,6 +116,10 @@ line_call names = calls.Line names
 abbrev pub pass_limit : ℕ
 pass_limit = 8192
 
+-- the parts of a ledger: one for each pass, and one that the coordinator keeps
+abbrev pub ledger_parts : ℕ
+ledger_parts = pass_limit + 1
+
 -- a pass without entries
 abbrev pub new_pass : ℕ → PassState
 new_pass number = record { number = number; front = 0; share = 0; entries = [] }

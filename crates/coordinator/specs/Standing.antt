@@ -6,7 +6,7 @@ use Rattle.report_line.specs.declared.call.Call.{Call}
 use Rattle.report_line.specs.declared.reply.Reply.{Reply}
 use Rattle.report_line.specs.declared.reply.Reply.TheVariants.{Accepted, Settled}
 use Rattle.desk.specs.Desks.{DeskState, records_of}
-use Rattle.desk.specs.Lawful.{IsLawful}
+use Rattle.desk.specs.Lawful.{IsLawfulDesk}
 use Rattle.desk.specs.Records.{recorded_by}
 use Rattle.coordinator.specs.Passes.{PassEntry, PassState, IsOneEntry}
 use Rattle.coordinator.specs.Calls.{IsOneTurn}
@@ -29,8 +29,8 @@ pub record StandsInEachFile {D : Type 0} (keeps : D → Type 0) (view : D → Vi
 pub record IsMade {D : Type 0} (keeps : D → Type 0) (view : D → View) (old : PassState) (call : Call) (new : PassState) : Type 0 where
   pub before : DeskState D
   pub after : DeskState D
-  pub was_lawful : IsLawful keeps view before
-  pub lawful : IsLawful keeps view after
+  pub was_lawful : IsLawfulDesk keeps view before
+  pub lawful : IsLawfulDesk keeps view after
   pub entry : PassEntry
   pub one : IsOneEntry old call entry new
   pub turn : IsOneTurn before call entry.receipt after

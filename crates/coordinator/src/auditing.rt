@@ -4,7 +4,8 @@ ghost use Rattle.std.specs.Prelude.{◌≡◌, ◌^◌, ◌≤◌, ◌<◌, [], 
 ghost use Rattle.chains.specs.Held.{Held, held_of};
 ghost use Rattle.desk.specs.Replays.{Replays};
 ghost use Rattle.coordinator.specs.Closing.{IsAudited, IsCause, IsAuditCause, entries_of};
-ghost use Rattle.coordinator.specs.Marks.{IsMarked, AreOwned};
+ghost use Rattle.coordinator.specs.working.Marks.{IsMarked, AreOwned};
+ghost use Rattle.desk.specs.Lawful.{turn_limit};
 
 use crate::fault::CloseFault;
 use crate::marking::{Owner, mark};
@@ -108,7 +109,7 @@ fn audit_marked<L: Ledger>(
     owners: &mut [Owner],
 ) -> Result<(), CloseFault>
     requires same { held_of chains.old ≡ held_of opening.now }
-    requires few { length turns.now ≤ 65536 }
+    requires few { length turns.now ≤ turn_limit }
     requires replays { (end : Held) × Replays (held_of opening.now) turns.now end }
     requires length { length marks.old ≡ length turns.now }
     requires owners_length { length owners.old ≡ length turns.now }
@@ -143,7 +144,7 @@ fn audit_turns<L: Ledger>(
     passes: &[Pass<L>],
 ) -> Result<(), CloseFault>
     requires same { held_of chains.old ≡ held_of opening.now }
-    requires few { length turns.now ≤ 65536 }
+    requires few { length turns.now ≤ turn_limit }
     requires replays { (end : Held) × Replays (held_of opening.now) turns.now end }
     ensures ok { OnOk result (IsAudited (held_of opening.now) turns.now passes.now) }
     ensures err { IfErr result (IsCause (held_of opening.now) turns.now passes.now) }

@@ -5,7 +5,7 @@ ghost use Rattle.report_line.specs.declared.call.Call.TheVariants as calls;
 ghost use Rattle.chains.specs.Held.{held_of};
 ghost use Rattle.desk.specs.Files.{IsShort};
 ghost use Rattle.desk.specs.Records.{IsReadOff};
-ghost use Rattle.coordinator.specs.Passes.{IsPlain, IsAnswered, IsNewPass, line_call};
+ghost use Rattle.coordinator.specs.Passes.{IsPlain, IsAnswered, IsNewPass, line_call, ledger_parts};
 ghost use Rattle.coordinator.specs.Calls.{IsForeignOnly};
 ghost use Rattle.coordinator.specs.Standing.{IsMade};
 ghost use Rattle.coordinator.specs.Closing.{IsAuditCause, IsEnded, IsRefused};
@@ -87,7 +87,7 @@ pub struct Coordinator<L: Ledger, D: Disk> {
 impl<L: Ledger, D: Disk> Model for Coordinator<L, D> {
     ghost use Rattle.std.specs.Prelude.{◌<◌, ◌≤◌};
     ghost use Rattle.chains.specs.Held.{Held, held_of};
-    ghost use Rattle.desk.specs.Codes.{held_code};
+    ghost use Rattle.desk.specs.working.Codes.{held_code};
 
     ghost Value = { Held };
 
@@ -104,7 +104,7 @@ impl<L: Ledger, D: Disk> Coordinator<L, D> {
     /// is computed by the thread that asks for it.
     pub fn new(alloc: Global, blank: Blank, desk: Desk<D>) -> Result<Coordinator<L, D>, Refused<D>>
         requires name { blank.name ≡ L.name }
-        requires parts { (blank.parts ≡ L.parts) × (blank.parts ≡ 8193) }
+        requires parts { (blank.parts ≡ L.parts) × (blank.parts ≡ ledger_parts) }
         requires fresh { desk.turns ≡ [] }
         ensures ok { IfOk result (λ c. c ≡ desk.opening) }
         ensures err { IfErr result (λ r. (r.blank ≡ blank) × (r.desk ≡ desk)) }
@@ -120,7 +120,7 @@ impl<L: Ledger, D: Disk> Coordinator<L, D> {
         workers: usize,
     ) -> Result<Coordinator<L, D>, Refused<D>>
         requires name { blank.name ≡ L.name }
-        requires parts { (blank.parts ≡ L.parts) × (blank.parts ≡ 8193) }
+        requires parts { (blank.parts ≡ L.parts) × (blank.parts ≡ ledger_parts) }
         requires fresh { desk.turns ≡ [] }
         requires workers { (0 < workers) × (workers ≤ 64) }
         ensures ok { IfOk result (λ c. c ≡ desk.opening) }

@@ -3,7 +3,7 @@
 ghost use Rattle.std.specs.Prelude.{◌≡◌, ℕ};
 ghost use Rattle.report_line.specs.declared.reply.Reply.TheVariants.{Taken};
 ghost use Rattle.coordinator.specs.Passes.{MayShow};
-ghost use Rattle.coordinator.specs.Parts.{in_place_of, first_shown, with_line};
+ghost use Rattle.coordinator.specs.working.Parts.{in_place_of, first_shown, with_line};
 
 use desk::Receipt;
 use report_line::{Call, Code, Reply, Text};
@@ -20,8 +20,8 @@ pub struct Entry {
 
 impl Model for Entry {
     ghost use Rattle.coordinator.specs.Passes.{PassEntry, MayShow};
-    ghost use Rattle.coordinator.specs.Codes.{entry_code};
-    ghost use Rattle.coordinator.specs.Parts.{in_place_of};
+    ghost use Rattle.coordinator.specs.working.Codes.{entry_code};
+    ghost use Rattle.coordinator.specs.working.Parts.{in_place_of};
 
     ghost Value = { PassEntry };
 

@@ -11,12 +11,6 @@ fn same_name(a: &Name, b: &Name) -> bool
     a.as_bytes() == b.as_bytes()
 }
 
-fn same_names(a: &[Name], b: &[Name]) -> bool
-    ensures { IsTrue result ↔ (a.now ≡ b.now) }
-{
-    a == b
-}
-
 fn same_text(a: &Text, b: &Text) -> bool
     ensures { IsTrue result ↔ (a.now ≡ b.now) }
 {
@@ -48,7 +42,7 @@ pub(crate) fn same_call(a: &Call, b: &Call) -> bool
 {
     match (a, b) {
         (Call::Report(a), Call::Report(b)) => a.equal(b),
-        (Call::Line(a), Call::Line(b)) => same_names(a.as_slice(), b.as_slice()),
+        (Call::Line(a), Call::Line(b)) => a.equal(b),
         (Call::Garbage, Call::Garbage) => true,
         (
             Call::Settle { front, names },
@@ -56,7 +50,7 @@ pub(crate) fn same_call(a: &Call, b: &Call) -> bool
                 front: other_front,
                 names: other_names,
             },
-        ) => *front == *other_front && same_names(names.as_slice(), other_names.as_slice()),
+        ) => *front == *other_front && names.equal(other_names),
         (Call::State(a), Call::State(b)) => same_name(a, b),
         (Call::Bye, Call::Bye) => true,
         (Call::Bad(a), Call::Bad(b)) => *a == *b,

@@ -3,7 +3,7 @@
 ghost use Rattle.std.specs.Prelude.{◌<◌, ◌≤◌, ℕ, IfSome};
 ghost use Rattle.chains.specs.Held.{held_of};
 ghost use Rattle.line_text.specs.Questions.{IsAnswer};
-ghost use Rattle.coordinator.specs.Parts.{LastTaken, MayShowLine};
+ghost use Rattle.coordinator.specs.working.Parts.{LastTaken, MayShowLine};
 
 use crate::pass::Pass;
 use chains::Chains;

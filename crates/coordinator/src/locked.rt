@@ -5,7 +5,7 @@ ghost use Rattle.chains.specs.Turns.{IsTurn};
 ghost use Rattle.desk.specs.Files.{IsShort};
 ghost use Rattle.desk.specs.Lawful.{turn_limit};
 ghost use Rattle.desk.specs.Records.{IsReadOff};
-ghost use Rattle.coordinator.specs.Passes.{front_of};
+ghost use Rattle.coordinator.specs.Passes.{front_of, ledger_parts, pass_limit};
 
 use crate::entry::Entry;
 use crate::fault::CallFault;
@@ -29,8 +29,8 @@ pub struct Locked<L: Ledger, D: Disk> {
     passes: u32,
     ghost counted: { book.total ≡ length desk.turns },
     ghost unused: { rest.amount ≡ 0 },
-    ghost parts: { rest.parts + passes ≡ 8193 },
-    ghost few: { passes ≤ 8192 },
+    ghost parts: { rest.parts + passes ≡ ledger_parts },
+    ghost few: { passes ≤ pass_limit },
 }
 
 impl<L: Ledger, D: Disk> Locked<L, D> {
@@ -44,7 +44,7 @@ impl<L: Ledger, D: Disk> Locked<L, D> {
     /// The desk under a new book.
     pub fn new(blank: Blank, desk: Desk<D>) -> Locked<L, D>
         requires name { blank.name ≡ L.name }
-        requires parts { (blank.parts ≡ L.parts) × (blank.parts ≡ 8193) }
+        requires parts { (blank.parts ≡ L.parts) × (blank.parts ≡ ledger_parts) }
         requires fresh { desk.turns ≡ [] }
         ensures { result.desk ≡ desk }
     {
@@ -81,7 +81,7 @@ impl<L: Ledger, D: Disk> Locked<L, D> {
     pub fn pass(&mut self, alloc: Global) -> Option<Pass<L>>
         ensures some { IfSome result (λ p. p ≡ new_pass (self.old.passes + 1)) }
         ensures counted { OnSome result (self.new.passes ≡ self.old.passes + 1) }
-        ensures none { IfNone result ((self.old.passes ≡ 8192) × (self.new ≡ self.old)) }
+        ensures none { IfNone result ((self.old.passes ≡ pass_limit) × (self.new ≡ self.old)) }
         ensures desk { self.new.desk ≡ self.old.desk }
     {
         if self.passes >= PASSES {

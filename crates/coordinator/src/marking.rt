@@ -4,7 +4,7 @@ ghost use Rattle.std.specs.Prelude.{◌≡◌, ◌+◌, ◌≤◌, ◌<◌, leng
 ghost use Rattle.desk.specs.declared.turn.Turn.{Turn as AnyTurn};
 ghost use Rattle.chains.specs.Held.{Held};
 ghost use Rattle.coordinator.specs.Closing.{IsAtTurn, IsCause, entries_of};
-ghost use Rattle.coordinator.specs.Marks.{IsMarked, AreOwned};
+ghost use Rattle.coordinator.specs.working.Marks.{IsMarked, AreOwned};
 
 use crate::entry::Entry;
 use crate::equal::{same_call, same_receipt};

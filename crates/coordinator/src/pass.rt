@@ -2,7 +2,7 @@
 
 ghost use Rattle.std.specs.Prelude.{◌≡◌, ◌<◌, ℕ, length, option_copied, IfSome};
 ghost use Rattle.coordinator.specs.Passes.{Rises, last_turn, LastShown};
-ghost use Rattle.coordinator.specs.Parts.{LastTaken, IsShownInstead};
+ghost use Rattle.coordinator.specs.working.Parts.{LastTaken, IsShownInstead};
 
 use crate::entry::Entry;
 use report_line::{Reply, Text};
@@ -21,7 +21,7 @@ pub struct Pass<L: Ledger> {
 impl<L: Ledger> Model for Pass<L> {
     ghost use Rattle.std.specs.Prelude.{◌≡◌, ◌<◌, length};
     ghost use Rattle.coordinator.specs.Passes.{PassState, Rises};
-    ghost use Rattle.coordinator.specs.Codes.{pass_code};
+    ghost use Rattle.coordinator.specs.working.Codes.{pass_code};
 
     ghost Value = { PassState };
 

@@ -7,7 +7,7 @@ ghost use Rattle.report_line.specs.declared.call.Call.TheVariants as calls;
 ghost use Rattle.chains.specs.Settled.{IsSettled};
 ghost use Rattle.chains.specs.Turns.{IsTurn};
 ghost use Rattle.desk.specs.Replays.{Replays};
-ghost use Rattle.coordinator.specs.Checks.{HaveSame, IsCheckedOver, IsWrongOver, AreCheckedTo, IsWrongThere};
+ghost use Rattle.coordinator.specs.working.Checks.{HaveSame, IsCheckedOver, IsWrongOver, AreCheckedTo, IsWrongThere};
 
 use crate::fault::CloseFault;
 use crate::marking::Owner;
@@ -63,10 +63,10 @@ fn accept_again(chains: &mut Chains, report: &MarkedReport) -> Result<(), AllocE
 fn settle_again(chains: &mut Chains, names: &Names) -> Result<(), AllocError>
     ensures { OnOk result (IsSettled (held_of chains.old) names.now (held_of chains.new)) }
 {
-    let Ok(()) = chains.may_settle(chains.front(), names.as_slice()) else {
+    let Ok(()) = chains.may_settle(chains.front(), names) else {
         return Err(AllocError);
     };
-    *chains = settle_named(chains, names.as_slice())?;
+    *chains = settle_named(chains, names)?;
     Ok(())
 }
 

@@ -1,8 +1,8 @@
 //! Whether a line that was shown is the one that was asked for.
 
-ghost use Rattle.std.specs.Prelude.{◌≡◌, ◌≢◌, ◌↔◌, ◌<◌, false, Some, None, Contains, IfOk, IfSome, IsTrue, length};
+ghost use Rattle.std.specs.Prelude.{◌≡◌, ◌≢◌, ◌↔◌, ◌<◌, false, Some, None, List, Contains, IfOk, IfSome, IsTrue, length};
 ghost use Rattle.chains.specs.Processes.{Name as AnyName, known};
-ghost use Rattle.chains.specs.Elements.{name_of};
+ghost use Rattle.chains.specs.Failures.{AreMarked};
 ghost use Rattle.chains.specs.Held.{held_of};
 ghost use Rattle.reasons.specs.declared.certificate.Certificate.{Certificate as AnyCertificate};
 ghost use Rattle.reasons.specs.declared.fault.CertificateFault.TheVariants as faults;
@@ -10,13 +10,13 @@ ghost use Rattle.reasons.specs.Certificates.{Certifies, IsForNames};
 ghost use Rattle.reasons.specs.CertificateText.{certificate_text};
 ghost use Rattle.reasons.specs.Shown.{IsLineText};
 ghost use Rattle.line_text.specs.Questions.{IsLineFor};
-ghost use Rattle.coordinator.specs.Checks.{RightOver, WrongOver};
+ghost use Rattle.coordinator.specs.working.Checks.{RightOver, WrongOver};
 
 use crate::entry::Entry;
-use chains::Chains;
+use chains::{Chains, which_are_named};
 use reason_check::{Verdict, check};
 use reasons::{Certificate, CertificateFault, from_json, to_json, written_certificates_are_read};
-use report_line::{Call, Name, Reply};
+use report_line::{Call, Names, Reply};
 use std::alloc::AllocError;
 
 fn certifies(chains: &Chains, certificate: &Certificate) -> bool
@@ -77,37 +77,43 @@ fn certified_in(chains: &Chains, text: &[u8]) -> Result<Option<Certificate>, All
     Ok(Some(certificate))
 }
 
-fn has_name(names: &[Name], name: &Name) -> bool
-    ensures { IsTrue result ↔ Contains names.now name.now }
-{
-    names.contains(name)
-}
-
 fn has_number(numbers: &[u32], number: u32) -> bool
     ensures { IsTrue result ↔ Contains numbers.now number }
 {
     numbers.contains(&number)
 }
 
-/// Whether a process is failed just where it is named.
-fn is_told(chains: &Chains, names: &[Name], failed: &[u32], process: u32) -> bool
-    requires { process < length (known chains.now.accepted) }
-    ensures { IsTrue result ↔ ((name : AnyName) → name_of chains.now.accepted process ≡ Some name → (Contains failed.now process ↔ Contains names.now name)) }
+/// Whether the process failed just where it is named.
+fn is_told(failed: &[u32], process: u32, named: bool) -> bool
+    ensures { IsTrue result ↔ (Contains failed.now process ↔ IsTrue named) }
 {
-    has_number(failed, process) == has_name(names, chains.name_of(process))
+    has_number(failed, process) == named
 }
 
-/// Whether the failed processes are just those that are named.
-fn is_for_names(chains: &Chains, names: &[Name], certificate: &Certificate) -> bool
-    ensures { IsTrue result ↔ IsForNames chains.now.accepted names.now certificate.now }
+/// Whether the failed processes are just those that are named, of which each process has a flag.
+fn are_told(chains: &Chains, named: &[bool], certificate: &Certificate) -> bool
+    requires { length named.now ≡ length (known chains.now.accepted) }
+    ensures { (names : List AnyName) → AreMarked chains.now.accepted names named.now → (IsTrue result ↔ IsForNames chains.now.accepted names certificate.now) }
 {
     let failed = certificate.failed.as_slice();
     for process in 0..chains.count() {
-        if !is_told(chains, names, failed, process) {
+        if !is_told(failed, process, named[process as usize]) {
             return false;
         }
     }
     true
+}
+
+/// Whether the failed processes are just those that are named. Each name is looked up once.
+fn is_for_names(
+    chains: &Chains,
+    names: &Names,
+    certificate: &Certificate,
+) -> Result<bool, AllocError>
+    ensures { IfOk result (λ b. IsTrue b ↔ IsForNames chains.now.accepted names.now certificate.now) }
+{
+    let named = which_are_named(chains, names)?;
+    Ok(are_told(chains, &named, certificate))
 }
 
 /// Whether all processes failed.
@@ -124,12 +130,12 @@ fn is_for_all(chains: &Chains, certificate: &Certificate) -> bool
 }
 
 /// Whether the text is that of the line for these names.
-fn is_line_of(chains: &Chains, names: &[Name], text: &[u8]) -> Result<bool, AllocError>
+fn is_line_of(chains: &Chains, names: &Names, text: &[u8]) -> Result<bool, AllocError>
     ensures { IfOk result (λ b. IsTrue b ↔ IsLineText (held_of chains.now) names.now text.now) }
 {
     match certified_in(chains, text)? {
         None => Ok(false),
-        Some(certificate) => Ok(is_for_names(chains, names, &certificate)),
+        Some(certificate) => is_for_names(chains, names, &certificate),
     }
 }
 
@@ -148,7 +154,7 @@ fn is_line_for(chains: &Chains, call: &Call, text: &[u8]) -> Result<bool, AllocE
     ensures { IfOk result (λ b. IsTrue b ↔ IsLineFor (held_of chains.now) call.now text.now) }
 {
     match call {
-        Call::Line(names) => is_line_of(chains, names.as_slice(), text),
+        Call::Line(names) => is_line_of(chains, names, text),
         Call::Garbage => is_garbage_line(chains, text),
         Call::Report(_)
         | Call::Settle { .. }

@@ -23,7 +23,7 @@ use Rattle.chains.proofs.Certain.{sure_number}
 use Rattle.chains.specs.Held.{Held}
 use Rattle.desk.specs.Records.{marked, IsBegin, IsRecorded, IsLineOf, Admits, Opens, one_more}
 use Rattle.desk.specs.Openings.{Reaches, IsReportRefusedBy, IsSettlementRefusedBy, IsRefusedWithEpoch, IsCallRefusedBy, RefusesRecords, RefusesFile}
-use Rattle.desk.specs.Reading.{IsUnread, RefusesCall, RefusesRecord, IsFaultOf}
+use Rattle.desk.specs.working.Reading.{IsUnread, RefusesCall, RefusesRecord, IsFaultOf}
 use Rattle.desk.specs.declared.fault.DeskFault.{DeskFault}
 use Rattle.desk.specs.declared.fault.DeskFault.TheVariants.{Foreign, Damaged, Line, Refused, Device, Memory}
 

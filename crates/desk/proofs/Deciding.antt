@@ -12,7 +12,7 @@ use Rattle.chains.specs.Held.{Held, with_stop}
 use Rattle.chains.specs.Turns.{Fate, fine, memory, before, unknown, IsQuestionTurn, IsReported, IsSettleAnswered, IsTurn}
 use Rattle.chains.proofs.Turning.{unchanged, after_report_turn}
 use Rattle.chains.proofs.Unfailing.{failure_is_other, of_admission, of_settling, no_failure}
-use Rattle.desk.specs.Parts.{MayBeLeftBy}
+use Rattle.desk.specs.working.Parts.{MayBeLeftBy}
 use Rattle.desk.proofs.Recording.{failed_records}
 
 -- nothing changes then

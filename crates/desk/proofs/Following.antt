@@ -17,7 +17,7 @@ use Rattle.chains.specs.Turns.{Fate, fine, memory, before, unknown, IsReported}
 use Rattle.chains.proofs.Unfailing.{failure_is_other, of_admission}
 use Rattle.desk.specs.Files.{UsesDevice}
 use Rattle.desk.specs.Records.{said_of, IsRecordOf, Admits}
-use Rattle.desk.specs.Parts.{IsFollowed}
+use Rattle.desk.specs.working.Parts.{IsFollowed}
 
 passed_unknown : (fate : Fate) (held after : Held) (m : MarkedReport) → IsReported false fate held m (Fail Unknown) after → Passes held m
 passed_unknown fine held after m t = absurd (of_admission (Fail Unknown) (failure_is_other Unknown) held m t.0)

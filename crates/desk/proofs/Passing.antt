@@ -14,7 +14,7 @@ use Rattle.chains.specs.Settled.{IsSettled}
 use Rattle.chains.specs.Turns.{Fate, fine, memory, before, unknown, no_memory, PassesSettle, LeavesSettled, IsSettling, IsSettleTurn}
 use Rattle.chains.proofs.Certain.{sure_number}
 use Rattle.desk.specs.Records.{said_settled, settlement_recorded}
-use Rattle.desk.specs.Parts.{IsFollowed}
+use Rattle.desk.specs.working.Parts.{IsFollowed}
 
 -- ---- what was tested
 

@@ -16,10 +16,10 @@ use Rattle.chains.specs.Kept.{Kept}
 use Rattle.chains.specs.Held.{Held, held_of, held_with}
 use Rattle.chains.specs.Turns.{Fate, IsReported, IsSettleAnswered, IsTurn}
 use Rattle.desk.specs.Desks.{DeskState, records_of}
-use Rattle.desk.specs.Lawful.{IsLawful, turn_limit}
+use Rattle.desk.specs.Lawful.{IsLawfulDesk, turn_limit}
 use Rattle.desk.specs.Records.{IsRecordOf, IsRecordedCall, recorded_by, recorded}
 use Rattle.desk.specs.Files.{UsesDevice}
-use Rattle.desk.specs.Parts.{IsFollowed, WritesBy}
+use Rattle.desk.specs.working.Parts.{IsFollowed, WritesBy}
 use Rattle.desk.specs.Placed.{IsPlaced, IsPlacedBy}
 use Rattle.desk.specs.declared.turn.Turn.{Turn}
 use Rattle.desk.proofs.Recording.{acknowledges}
@@ -34,7 +34,7 @@ ran_before true c stays runs = absurd (true≢false (sym (stays refl) ∙ runs))
 ran_before false c stays runs = refl
 
 module _ {D : Type 0} {g : Ghosts D} (keeps : D → Type 0) (view : D → View) (failed : D → ℕ) (chains after : Kept) (opening : Held) (store new : Store D g) (turns : List Turn) (t : Turn)
-    (lawful : IsLawful keeps view (state chains opening store turns))
+    (lawful : IsLawfulDesk keeps view (state chains opening store turns))
     (rest : is_stopped store ≡ false → keeps (disk_of store) → HasRecords view store (records_of (state chains opening store turns)))
     (fewer : length turns < turn_limit) (number : t.receipt.turn ≡ length turns + 1)
     (step : IsTurn (held_with chains (is_stopped store)) t.call t.receipt.reply (held_with after (is_stopped new)))
@@ -55,9 +55,9 @@ module _ {D : Type 0} {g : Ghosts D} (keeps : D → Type 0) (view : D → View) 
       subst (λ (found : List Said). HasRecords view new (found ++ recorded (turns ++ t ∷ []))) (sym writes.found)
       (subst (λ (s : List Said). HasRecords view new s) (sym (records_more (found_records store) turns t)) (at_rest runs here))
 
-  pub lawful_then : IsLawful keeps view (state after opening new (turns ++ t ∷ []))
+  pub lawful_then : IsLawfulDesk keeps view (state after opening new (turns ++ t ∷ []))
   lawful_then =
-      subst (λ (found : List Said). IsLawful keeps view (record { held = held_with after (is_stopped new); opening = opening; found = found; turns = turns ++ t ∷ []; disk = disk_of new })) (sym writes.found)
+      subst (λ (found : List Said). IsLawfulDesk keeps view (record { held = held_with after (is_stopped new); opening = opening; found = found; turns = turns ++ t ∷ []; disk = disk_of new })) (sym writes.found)
       (lawful_more keeps view (state chains opening store turns) lawful (held_with after (is_stopped new)) (disk_of new) t fewer number step
       (acknowledges (held_with chains (is_stopped store)) (held_with after (is_stopped new)) t.call t.receipt.reply step spelled) writes.premise.0
       (λ one runs is says. followed (held_of chains) one t.receipt.reply says (follows runs one is))

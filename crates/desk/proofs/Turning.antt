@@ -16,10 +16,10 @@ use Rattle.chains.specs.Kept.{Kept}
 use Rattle.chains.specs.Held.{Held, held_of, held_with, with_stop}
 use Rattle.chains.specs.Turns.{IsTurn}
 use Rattle.desk.specs.Desks.{DeskState, records_of}
-use Rattle.desk.specs.Lawful.{IsLawful, turn_limit, unstopped}
+use Rattle.desk.specs.Lawful.{IsLawfulDesk, turn_limit, unstopped}
 use Rattle.desk.specs.Records.{said_settled, IsRecordOf, Admits, Opens, recorded_by, recorded}
 use Rattle.desk.specs.Files.{IsPending, MayStandFor, StandsWhile}
-use Rattle.desk.specs.Parts.{IsFollowed, StandsBy, MayBeLeftBy}
+use Rattle.desk.specs.working.Parts.{IsFollowed, StandsBy, MayBeLeftBy}
 use Rattle.desk.specs.Placed.{IsPlacedBy}
 use Rattle.desk.specs.Replays.{ReplaysFrom, Replays}
 use Rattle.desk.specs.declared.turn.Turn.{Turn}
@@ -82,7 +82,7 @@ none_recorded found turns none = ap (λ (ts : List Turn). found ++ recorded ts) 
 
 -- a desk that was opened
 pub lawful_open : {D : Type 0} (keeps : D → Type 0) (view : D → View) (desk : DeskState D) → desk.held ≡ desk.opening → desk.opening.stopped ≡ false → desk.turns ≡ []
-    → Opens desk.found desk.opening → (keeps desk.disk → (c : List ℕ) → Leaves (view desk.disk) c → Stands desk.found c) → IsLawful keeps view desk
+    → Opens desk.found desk.opening → (keeps desk.disk → (c : List ℕ) → Leaves (view desk.disk) c → Stands desk.found c) → IsLawfulDesk keeps view desk
 lawful_open keeps view desk same goes none opened stands =
     let all : records_of desk ≡ desk.found = none_recorded desk.found desk.turns none in
     record {
@@ -97,7 +97,7 @@ lawful_open keeps view desk same goes none opened stands =
     }
 
 -- what is left where the disk is the desk's
-pub left_same : {D : Type 0} (keeps : D → Type 0) (view : D → View) (desk : DeskState D) → IsLawful keeps view desk → (disk : D) → disk ≡ desk.disk
+pub left_same : {D : Type 0} (keeps : D → Type 0) (view : D → View) (desk : DeskState D) → IsLawfulDesk keeps view desk → (disk : D) → disk ≡ desk.disk
     → keeps disk → (c : List ℕ) → Leaves (view disk) c → MayStandFor (records_of desk) desk.held.epoch desk.turns c
 left_same keeps view desk lawful disk same here c left =
     lawful.left (subst keeps same here) c (subst (λ d. Leaves (view d) c) same left)
@@ -105,7 +105,7 @@ left_same keeps view desk lawful disk same here c left =
 pub followed : (held : Held) (one : Said) (reply : Reply) → reply ≡ Fail Unknown → IsFollowed held one reply → (after : Held) × Admits held one after
 followed held one reply says next = subst (λ (x : Reply). IsFollowed held one x) says next
 
-module _ {D : Type 0} (keeps : D → Type 0) (view : D → View) (desk : DeskState D) (lawful : IsLawful keeps view desk) where
+module _ {D : Type 0} (keeps : D → Type 0) (view : D → View) (desk : DeskState D) (lawful : IsLawfulDesk keeps view desk) where
   pub always_still : (call : Call) → keeps desk.disk → LeavesAlways (StandsWhile (records_of desk) desk.held.epoch desk.turns call) (view desk.disk) (view desk.disk)
   always_still call here = starts (StandsWhile (records_of desk) desk.held.epoch desk.turns call) (view desk.disk) (λ c left. inl (lawful.left here c left))
 
@@ -177,7 +177,7 @@ module _ {D : Type 0} (keeps : D → Type 0) (view : D → View) (desk : DeskSta
             let old = of_epoch held.epoch desk.held.epoch p.0.call one p.2 in
             absurd (true≢false (sym (lawful.pending old.0 (p.0, p.1, old.1, p.3)).0 ∙ is))
 
-    pub lawful_more : IsLawful keeps view (record { held = held; opening = desk.opening; found = desk.found; turns = desk.turns ++ t ∷ []; disk = disk })
+    pub lawful_more : IsLawfulDesk keeps view (record { held = held; opening = desk.opening; found = desk.found; turns = desk.turns ++ t ∷ []; disk = disk })
     lawful_more = record {
       replays = replays_more 0 desk.opening desk.held held desk.turns t lawful.replays (omega (arith, number)) step;
       goes = lawful.goes;

@@ -19,7 +19,7 @@ use Rattle.chains.specs.Processes.{Name}
 use Rattle.desk.specs.Records.{said_of, said_settled, IsRecordOf, report_recorded, settlement_recorded, recorded_by}
 use Rattle.desk.specs.Files.{UsesDevice, CountsReply}
 use Rattle.desk.specs.Placed.{IsPlaced}
-use Rattle.desk.specs.Parts.{StandsWith, Writes, StandsBy, WritesBy}
+use Rattle.desk.specs.working.Parts.{StandsWith, Writes, StandsBy, WritesBy}
 
 pub always_weaker : (P Q : List ℕ → Type 0) (a b : View) → ((c : List ℕ) → P c → Q c) → LeavesAlways P a b → LeavesAlways Q a b
 always_weaker P Q a b f always = record {

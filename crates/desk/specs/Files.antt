@@ -1,7 +1,7 @@
 -- What a record file says of turns.
 use Rattle.std.specs.Prelude.{◌≡◌, ◌⊎◌, ℕ, ◌≤◌, List, [], ◌∷◌, ◌++◌, length, Contains, false, ⊤}
 use Rattle.line_disk.specs.Disk.{one_more}
-use Rattle.record_file.specs.File.{Said, Stands}
+use Rattle.record_file.specs.File.{Said, Stands, line_limit}
 use Rattle.report_line.specs.declared.call.Call.{Call}
 use Rattle.report_line.specs.declared.call.Call.TheVariants as calls
 use Rattle.report_line.specs.declared.reply.Outcome.TheVariants.{Before, Unknown}
@@ -14,8 +14,8 @@ use Rattle.desk.specs.Records.{line_of, settle_line, IsRecordOf}
 
 -- a report or a settlement whose line, without a mark, is no longer than a record holds, or another call
 abbrev pub IsShort : Call → Type 0
-IsShort (calls.Report m) = length (line_of m.report) ≤ 8192
-IsShort (calls.Settle front names) = length (settle_line front names) ≤ 8192
+IsShort (calls.Report m) = length (line_of m.report) ≤ line_limit
+IsShort (calls.Settle front names) = length (settle_line front names) ≤ line_limit
 IsShort _ = ⊤
 
 -- The calls of which memory may be wanting without a turn: a question for the state of a process that is known, over a store that

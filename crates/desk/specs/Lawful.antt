@@ -19,7 +19,7 @@ unstopped held = record { accepted = held.accepted; epochs = held.epochs; front 
 -- The turns replay from what was held at the opening to what is held; opening the records that were found comes to the one, and opening
 -- all records to the other. A crash leaves a file of all records, or after FAIL unknown of these, or of these and the one that is
 -- pending, which opening admits behind them.
-pub record IsLawful {D : Type 0} (keeps : D → Type 0) (view : D → View) (desk : DeskState D) : Type 0 where
+pub record IsLawfulDesk {D : Type 0} (keeps : D → Type 0) (view : D → View) (desk : DeskState D) : Type 0 where
   pub replays : Replays desk.opening desk.turns desk.held
   pub goes : desk.opening.stopped ≡ false
   pub opened : Opens desk.found desk.opening

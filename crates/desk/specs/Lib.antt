@@ -7,8 +7,5 @@ pub mod Lawful
 pub mod Openings
 pub mod OneOpening
 pub mod OfHistories
-pub mod Codes
-pub mod Faults
-pub mod Reading
-pub mod Parts
 pub mod Inside
+pub mod working

@@ -6,7 +6,7 @@ use Rattle.report_line.specs.declared.call.Call.{Call}
 use Rattle.report_line.specs.declared.call.Call.TheVariants as calls
 use Rattle.report_line.specs.declared.reply.Reply.{Reply}
 use Rattle.report_line.specs.declared.reply.Reply.TheVariants.{Accepted}
-use Rattle.report_line.specs.History.{Name, History}
+use Rattle.report_line.specs.histories.History.{Name, History}
 use Rattle.chains.specs.Held.{Held, with_report}
 use Rattle.lawful_reports.specs.HandedOver.{handed_over, IsNext, IsTargetBorn, IsReportable}
 use Rattle.lawful_reports.specs.Accepting.{IsRefusalForRoom}

@@ -8,7 +8,7 @@ ghost use Rattle.chains.specs.Processes.{IsKnown};
 ghost use Rattle.chains.specs.Turns.{fine, IsGarbageReply, IsLineReply, IsStateReply, IsQuestionTurn, IsTurn};
 ghost use Rattle.desk.specs.Records.{IsRecordOf, IsRecordedCall, IsReadOff};
 ghost use Rattle.desk.specs.Files.{IsShort, MayWantMemory, UsesDevice};
-ghost use Rattle.desk.specs.Parts.{WritesBy, IsFollowed};
+ghost use Rattle.desk.specs.working.Parts.{WritesBy, IsFollowed};
 
 use crate::placing::report_placed;
 use crate::returning::settlement_placed;
@@ -17,10 +17,10 @@ use crate::twice::{Twice, bad, bye, failed, garbage_taken, line_taken, refused, 
 use chains::Chains;
 use line_disk::Disk;
 use record_file::Store;
-use report_line::{Call, Code, Name, Outcome};
+use report_line::{Call, Code, Name, Names, Outcome};
 
 /// The turn of a question for a line.
-fn line_asked(chains: &Chains, stopped: bool, names: &[Name]) -> Twice
+fn line_asked(chains: &Chains, stopped: bool, names: &Names) -> Twice
     ensures { IsQuestionTurn stopped fine (held_with chains.now stopped) (IsLineReply (held_with chains.now stopped) names.now) result (held_with chains.now stopped) }
 {
     if stopped {
@@ -71,7 +71,7 @@ pub(crate) fn answered<D: Disk>(
 {
     match call {
         Call::Report(report) => Ok(report_placed(chains, store, report, line)),
-        Call::Line(names) => Ok(line_asked(chains, store.stopped(), names.as_slice())),
+        Call::Line(names) => Ok(line_asked(chains, store.stopped(), names)),
         Call::Garbage => Ok(garbage_asked(chains, store.stopped())),
         Call::Settle { front, names } => Ok(settlement_placed(chains, store, *front, names)),
         Call::State(name) => state_asked(chains, store.stopped(), name),

@@ -7,7 +7,7 @@ ghost use Rattle.record_file.specs.Kept.{said_in};
 ghost use Rattle.report_line.specs.declared.reply.Outcome.TheVariants as outcomes;
 ghost use Rattle.report_line.specs.declared.reply.Reply.TheVariants.{Fail};
 ghost use Rattle.chains.specs.Held.{held_of};
-ghost use Rattle.desk.specs.Faults.{from_store};
+ghost use Rattle.desk.specs.working.Faults.{from_store};
 ghost use Rattle.desk.specs.Records.{Opens};
 ghost use Rattle.desk.specs.Desks.{records_of};
 ghost use Rattle.desk.specs.Lawful.{turn_limit};
@@ -40,10 +40,10 @@ pub struct Desk<D: Disk> {
 impl<D: Disk> Model for Desk<D> {
     ghost use Rattle.std.specs.Prelude.{◌≡◌, ◌≤◌, false, vec_capacity};
     ghost use Rattle.record_file.specs.Store.{disk_of, is_stopped, HasRecords};
-    ghost use Rattle.desk.specs.Codes.{desk_code};
+    ghost use Rattle.desk.specs.working.Codes.{desk_code};
     ghost use Rattle.desk.specs.Desks.{DeskState, records_of};
     ghost use Rattle.desk.specs.Inside.{desk_in};
-    ghost use Rattle.desk.specs.Lawful.{IsLawful, turn_limit};
+    ghost use Rattle.desk.specs.Lawful.{IsLawfulDesk, turn_limit};
 
     ghost Value = { DeskState D };
 
@@ -52,7 +52,7 @@ impl<D: Disk> Model for Desk<D> {
     ghost view = { desk_in };
 
     ghost invariant = { λ desk.
-        IsLawful D.keeps D.view (desk_in desk)
+        IsLawfulDesk D.keeps D.view (desk_in desk)
         × (is_stopped desk.store ≡ false → D.keeps (disk_of desk.store) → HasRecords D.view desk.store (records_of (desk_in desk)))
         × (turn_limit ≤ vec_capacity desk.turns) };
 }
@@ -92,7 +92,7 @@ impl<D: Disk> Desk<D> {
     ghost use Rattle.chains.specs.Folded.{IsReached};
     ghost use Rattle.chains.specs.Turns.{IsTurn};
     ghost use Rattle.desk.specs.Files.{MayStandFor, StandsWhile, IsShort, MayWantMemory, UsesDevice, CountsReply};
-    ghost use Rattle.desk.specs.Lawful.{IsLawful, unstopped};
+    ghost use Rattle.desk.specs.Lawful.{IsLawfulDesk, unstopped};
     ghost use Rattle.desk.specs.Records.{IsReadOff};
     ghost use Rattle.desk.specs.OfHistories.{IsTurnOfHistories, AreTurnsOfHistories};
     ghost use Rattle.desk.specs.Placed.{IsPlacedBy};
@@ -135,7 +135,7 @@ impl<D: Disk> Desk<D> {
 
     /// Tells a proof what holds of each desk.
     pub fn lawful(&self)
-        ensures lawful { IsLawful D.keeps D.view self.now }
+        ensures lawful { IsLawfulDesk D.keeps D.view self.now }
         ensures reached { IsReached self.now.held }
         ensures opening { IsReached self.now.opening }
         // The reports of a lawful history, handed over in order, are accepted up to the first refusal; those of other epochs are set aside.

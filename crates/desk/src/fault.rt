@@ -29,7 +29,7 @@ pub enum DeskFault {
 }
 
 impl From<OpenFault> for DeskFault {
-    ghost use Rattle.desk.specs.Faults.{from_store};
+    ghost use Rattle.desk.specs.working.Faults.{from_store};
 
     ghost from_gives = { λ o e. e ≡ from_store o };
 

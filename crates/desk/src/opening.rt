@@ -8,7 +8,7 @@ ghost use Rattle.report_line.specs.Replies.{code_number};
 ghost use Rattle.chains.specs.Held.{held_of};
 ghost use Rattle.desk.specs.Records.{AdmitsCall, Admits, IsRecorded, IsBegin, Opens};
 ghost use Rattle.desk.specs.Openings.{RefusesRecords};
-ghost use Rattle.desk.specs.Reading.{IsUnread, RefusesCall, RefusesRecord, IsFaultOf};
+ghost use Rattle.desk.specs.working.Reading.{IsUnread, RefusesCall, RefusesRecord, IsFaultOf};
 
 use crate::fault::DeskFault;
 use chains::{Admitted, Chains, No};
@@ -93,11 +93,11 @@ fn admit_settlement(
     if epoch != chains.epoch() {
         return Err(other_epoch(number));
     }
-    match chains.may_settle(front, names.as_slice()) {
+    match chains.may_settle(front, names) {
         Ok(()) => {}
         Err(refusal) => return Err(fault_of(number, refusal)),
     }
-    match settle_named(chains, names.as_slice()) {
+    match settle_named(chains, names) {
         Ok(returned) => {
             *chains = returned;
             Ok(())

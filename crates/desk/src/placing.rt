@@ -10,7 +10,8 @@ ghost use Rattle.chains.specs.Answers.{Prepares, IsReady, MayBeAccepted};
 ghost use Rattle.chains.specs.Turns.{Fate, IsReportTurn, IsReported};
 ghost use Rattle.desk.specs.Records.{line_of, said_of, report_recorded, IsUnmarkedLine};
 ghost use Rattle.desk.specs.Files.{UsesDevice};
-ghost use Rattle.desk.specs.Parts.{Writes};
+ghost use Rattle.desk.specs.working.Parts.{Writes};
+ghost use Rattle.record_file.specs.File.{line_limit};
 
 use crate::twice::{Twice, accepted, failed, old, refused, refused_by};
 use chains::{Chains, No, Prepared, Ready};
@@ -22,7 +23,7 @@ use report_line::{Code, MarkedReport, Outcome, write_line};
 fn append<D: Disk>(chains: &mut Chains, store: &mut Store<D>, ready: Ready, line: &[u8]) -> Twice
     requires ready { MayBeAccepted chains.old ready }
     requires line { line.now ≡ line_of ready.report.report }
-    requires short { length (line_of ready.report.report) ≤ 8192 }
+    requires short { length (line_of ready.report.report) ≤ line_limit }
     requires running { is_stopped store.old ≡ false }
     ensures turn { (fate : Fate) × IsReportTurn fate (held_of chains.old) ready.report result (held_with chains.new (is_stopped store.new)) }
     ensures spelled { UsesDevice result → HasSpelling (calls.Report (unmarked ready.report.report)) }
@@ -49,7 +50,7 @@ fn record<D: Disk>(
 ) -> Twice
     requires ready { MayBeAccepted chains.old ready }
     requires read { IfSome line (λ l. IsUnmarkedLine l.now ready.report) }
-    requires short { length (line_of ready.report.report) ≤ 8192 }
+    requires short { length (line_of ready.report.report) ≤ line_limit }
     requires running { is_stopped store.old ≡ false }
     ensures turn { (fate : Fate) × IsReportTurn fate (held_of chains.old) ready.report result (held_with chains.new (is_stopped store.new)) }
     ensures spelled { UsesDevice result → HasSpelling (calls.Report (unmarked ready.report.report)) }
@@ -77,7 +78,7 @@ fn place<D: Disk>(
     requires ready { IsReady prepared chains.old }
     requires answer { Prepares (held_of chains.old) report.now (Ok prepared) }
     requires read { IfSome line (λ l. IsUnmarkedLine l.now report.now) }
-    requires short { length (line_of report.now.report) ≤ 8192 }
+    requires short { length (line_of report.now.report) ≤ line_limit }
     requires running { is_stopped store.old ≡ false }
     ensures turn { (fate : Fate) × IsReportTurn fate (held_of chains.old) report.now result (held_with chains.new (is_stopped store.new)) }
     ensures spelled { UsesDevice result → HasSpelling (calls.Report (unmarked report.now.report)) }
@@ -109,7 +110,7 @@ fn reported<D: Disk>(
     line: Option<&[u8]>,
 ) -> Twice
     requires read { IfSome line (λ l. IsUnmarkedLine l.now report.now) }
-    requires short { length (line_of report.now.report) ≤ 8192 }
+    requires short { length (line_of report.now.report) ≤ line_limit }
     requires running { is_stopped store.old ≡ false }
     ensures turn { (fate : Fate) × IsReportTurn fate (held_of chains.old) report.now result (held_with chains.new (is_stopped store.new)) }
     ensures spelled { UsesDevice result → HasSpelling (calls.Report (unmarked report.now.report)) }
@@ -129,7 +130,7 @@ pub(crate) fn report_placed<D: Disk>(
     line: Option<&[u8]>,
 ) -> Twice
     requires read { IfSome line (λ l. IsUnmarkedLine l.now report.now) }
-    requires short { length (line_of report.now.report) ≤ 8192 }
+    requires short { length (line_of report.now.report) ≤ line_limit }
     ensures turn { (fate : Fate) × IsReported (is_stopped store.old) fate (held_with chains.old (is_stopped store.old)) report.now result (held_with chains.new (is_stopped store.new)) }
     ensures spelled { UsesDevice result → HasSpelling (calls.Report (unmarked report.now.report)) }
     ensures writes { Writes D.keeps D.view D.failed store.old store.new (said_of report.now) (report_recorded report.now result) result }

@@ -8,7 +8,8 @@ ghost use Rattle.chains.specs.Held.{held_of, held_with};
 ghost use Rattle.chains.specs.Turns.{Fate, PassesSettle, IsSettleTurn, IsSettleAnswered};
 ghost use Rattle.desk.specs.Records.{settle_line, said_settled, settlement_recorded};
 ghost use Rattle.desk.specs.Files.{UsesDevice};
-ghost use Rattle.desk.specs.Parts.{Writes, IsFollowed};
+ghost use Rattle.desk.specs.working.Parts.{Writes, IsFollowed};
+ghost use Rattle.record_file.specs.File.{line_limit};
 
 use crate::twice::{Twice, failed, refused, refused_by, settled};
 use chains::Chains;
@@ -26,7 +27,7 @@ fn return_all<D: Disk>(
     names: &Names,
 ) -> Twice
     requires passes { PassesSettle (held_of chains.old) front names.now }
-    requires short { length (settle_line front names.now) ≤ 8192 }
+    requires short { length (settle_line front names.now) ≤ line_limit }
     requires running { is_stopped store.old ≡ false }
     ensures turn { (fate : Fate) × IsSettleTurn fate (held_of chains.old) front names.now result (held_with chains.new (is_stopped store.new)) }
     ensures spelled { UsesDevice result → HasSpelling (calls.Settle front names.now) }
@@ -34,7 +35,8 @@ fn return_all<D: Disk>(
     ensures writes { Writes D.keeps D.view D.failed store.old store.new (said_settled chains.old.epoch front names.now) (settlement_recorded front names.now result) result }
 {
     chains.lawful();
-    let Ok(returned) = settle_named(chains, names.as_slice()) else {
+    names.known();
+    let Ok(returned) = settle_named(chains, names) else {
         return refused(Code::OutOfMemory);
     };
     let Ok(line) = write_settle(chains.alloc(), front, names) else {
@@ -58,7 +60,7 @@ pub(crate) fn settlement_placed<D: Disk>(
     front: u32,
     names: &Names,
 ) -> Twice
-    requires short { length (settle_line front names.now) ≤ 8192 }
+    requires short { length (settle_line front names.now) ≤ line_limit }
     ensures turn { (fate : Fate) × IsSettleAnswered (is_stopped store.old) fate (held_with chains.old (is_stopped store.old)) front names.now result (held_with chains.new (is_stopped store.new)) }
     ensures spelled { UsesDevice result → HasSpelling (calls.Settle front names.now) }
     ensures followed { is_stopped store.old ≡ false → IsFollowed (held_of chains.old) (said_settled chains.old.epoch front names.now) result }
@@ -67,7 +69,7 @@ pub(crate) fn settlement_placed<D: Disk>(
     if store.stopped() {
         return failed(Outcome::Stopped);
     }
-    match chains.may_settle(front, names.as_slice()) {
+    match chains.may_settle(front, names) {
         Err(refusal) => refused_by(chains.alloc(), refusal),
         Ok(()) => return_all(chains, store, front, names),
     }

@@ -5,11 +5,11 @@ ghost use Rattle.chains.specs.Admission.{TakesMemory};
 ghost use Rattle.chains.specs.Held.{held_of};
 ghost use Rattle.chains.specs.Processes.{IsKnown};
 ghost use Rattle.chains.specs.Turns.{no_memory, IsGarbageReply, IsLineReply, IsStateReply};
-ghost use Rattle.desk.specs.Parts.{id_text};
+ghost use Rattle.desk.specs.working.Parts.{id_text};
 
 use chains::{Chains, No, State, first_unknown};
 use id_tree::Id;
-use report_line::{Code, Name, Outcome, Reply, Text};
+use report_line::{Code, Name, Names, Outcome, Reply, Text};
 use std::alloc::{AllocError, Global};
 use std::marker::Model;
 
@@ -23,7 +23,7 @@ pub(crate) struct Twice {
 impl Model for Twice {
     ghost use Rattle.std.specs.Prelude.{◌≡◌};
     ghost use Rattle.report_line.specs.declared.reply.Reply.{Reply};
-    ghost use Rattle.report_line.specs.SessionCodes.{reply_code};
+    ghost use Rattle.report_line.specs.working.SessionCodes.{reply_code};
 
     ghost Value = { Reply };
 
@@ -190,14 +190,14 @@ pub(crate) fn garbage_taken(chains: &Chains) -> Twice
 }
 
 /// The reply to a question for a line. It takes no memory.
-pub(crate) fn line_taken(chains: &Chains, names: &[Name]) -> Twice
+pub(crate) fn line_taken(chains: &Chains, names: &Names) -> Twice
     ensures { IsLineReply (held_of chains.now) names.now result }
 {
     if chains.is_empty() {
         return refused(Code::NothingBegun);
     }
     match first_unknown(chains, names) {
-        Some(name) => refused_named(Code::UnknownProcess, name.copy()),
+        Some(name) => refused_named(Code::UnknownProcess, name),
         None => taken(chains.front()),
     }
 }

@@ -8,9 +8,9 @@ use Rattle.id_tree.specs.IdTree.{IdTree}
 use Rattle.report_line.specs.declared.step.Deed.{Deed}
 use Rattle.report_line.specs.declared.step.Deed.TheVariants.{Work, Check, Present, Send, Receive, Fork, Retire, Absorb}
 use Rattle.report_line.specs.declared.step.Step.{Step}
-use Rattle.report_line.specs.History.{Name, History, Event, Status, Unborn, Living, Retired, status_of_other, status}
-use Rattle.report_line.specs.Lawful.{IsAllowed, IsLawfulAbsorption, IsLawful, start, next}
-use Rattle.report_line.specs.StepReports.{report_by}
+use Rattle.report_line.specs.histories.History.{Name, History, Event, Status, Unborn, Living, Retired, status_of_other, status}
+use Rattle.report_line.specs.histories.Lawful.{IsAllowed, IsLawfulAbsorption, IsLawful, start, next}
+use Rattle.report_line.specs.histories.StepReports.{report_by}
 use Rattle.histories.proofs.Bytes.{bytes_other, cases_name}
 use Rattle.histories.proofs.Status.{root_born, unborn_after, status_others}
 use Rattle.chains.specs.Processes.{known, IsKnown, newborn}

@@ -7,9 +7,9 @@ use Rattle.id_tree.specs.IdTree.{IdTree}
 use Rattle.report_line.specs.declared.step.Deed.{Deed}
 use Rattle.report_line.specs.declared.step.Deed.TheVariants.{Send, Receive, Fork, Absorb}
 use Rattle.report_line.specs.declared.step.Step.{Step}
-use Rattle.report_line.specs.History.{Name, Message, History, Event, event_of, birth_by, Status, Unborn, Living, Retired, Absorbed, status_of_other, last_of, status, sends, sending}
-use Rattle.report_line.specs.Lawful.{IsAllowed, IsLawful, start, next}
-use Rattle.report_line.specs.Events.{Edge, to_next, to_birth, to_receive, to_absorption, earlier}
+use Rattle.report_line.specs.histories.History.{Name, Message, History, Event, event_of, birth_by, Status, Unborn, Living, Retired, Absorbed, status_of_other, last_of, status, sends, sending}
+use Rattle.report_line.specs.histories.Lawful.{IsAllowed, IsLawful, start, next}
+use Rattle.report_line.specs.histories.Events.{Edge, to_next, to_birth, to_receive, to_absorption, earlier}
 use Rattle.histories.proofs.Bytes.{bytes_are, bytes_other, cases_name}
 use Rattle.histories.proofs.Status.{status_acts, status_others, first_holds, held_process, held_occurs, number_within}
 use Rattle.histories.proofs.Steps.{fork_of}

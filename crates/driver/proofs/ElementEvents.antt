@@ -12,8 +12,8 @@ use Rattle.report_line.specs.declared.report.Report.TheVariants.{Begin}
 use Rattle.report_line.specs.declared.step.Deed.{Deed}
 use Rattle.report_line.specs.declared.step.Deed.TheVariants.{Work, Check, Present, Send, Receive, Fork, Retire, Absorb}
 use Rattle.report_line.specs.declared.step.Step.{Step}
-use Rattle.report_line.specs.History.{Name, History, Event, birth_of_root, event_of, birth_by}
-use Rattle.report_line.specs.StepReports.{report_by, reports}
+use Rattle.report_line.specs.histories.History.{Name, History, Event, birth_of_root, event_of, birth_by}
+use Rattle.report_line.specs.histories.StepReports.{report_by, reports}
 use Rattle.chains.specs.Processes.{is_numbered_of, last_report, target_after, target_of}
 use Rattle.chains.specs.Elements.{only_if, lasting_made, lasting_of, present_in, elements_of}
 use Rattle.chains.proofs.Stepping.{passing, failing}

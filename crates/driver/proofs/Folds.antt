@@ -20,9 +20,9 @@ use Rattle.report_line.specs.declared.report.Report.TheVariants.{Begin, Numbered
 use Rattle.report_line.specs.declared.step.Deed.{Deed}
 use Rattle.report_line.specs.declared.step.Deed.TheVariants.{Work, Check, Present, Send, Receive, Fork, Retire, Absorb}
 use Rattle.report_line.specs.declared.step.Step.{Step}
-use Rattle.report_line.specs.History.{Name, History, Event, Unborn, Living, Retired, status, last_of}
-use Rattle.report_line.specs.Lawful.{IsSameId, IsAllowed, IsLawful}
-use Rattle.report_line.specs.StepReports.{id_of, report_by, report_of, reports}
+use Rattle.report_line.specs.histories.History.{Name, History, Event, Unborn, Living, Retired, status, last_of}
+use Rattle.report_line.specs.histories.Lawful.{IsSameId, IsAllowed, IsLawful}
+use Rattle.report_line.specs.histories.StepReports.{id_of, report_by, report_of, reports}
 use Rattle.chains.specs.Processes.{last_events, registered_id, expected_id}
 use Rattle.chains.specs.Admission.{AreGrown}
 use Rattle.chains.specs.Folded.{IsFitAction, IsFitReport, IsFit, IsFolded, nothing_folded, one_folded}

@@ -10,10 +10,10 @@ use Rattle.event_tree.specs.EventTree.{EventTree}
 use Rattle.report_line.specs.declared.step.Deed.{Deed}
 use Rattle.report_line.specs.declared.step.Deed.TheVariants.{Work, Check, Present, Send, Receive, Fork, Retire, Absorb}
 use Rattle.report_line.specs.declared.step.Step.{Step as Taken}
-use Rattle.report_line.specs.History.{Name, Message, History, Event, event_of, Status, Unborn, Living, Retired, Absorbed, status, sending}
-use Rattle.report_line.specs.Lawful.{IsAllowed, IsLawfulReceive, IsLawful, start, next}
-use Rattle.report_line.specs.Events.{Edge}
-use Rattle.report_line.specs.StepReports.{reporting_steps}
+use Rattle.report_line.specs.histories.History.{Name, Message, History, Event, event_of, Status, Unborn, Living, Retired, Absorbed, status, sending}
+use Rattle.report_line.specs.histories.Lawful.{IsAllowed, IsLawfulReceive, IsLawful, start, next}
+use Rattle.report_line.specs.histories.Events.{Edge}
+use Rattle.report_line.specs.histories.StepReports.{reporting_steps}
 use Rattle.chains.specs.declared.position.Position.{Position}
 use Rattle.chains.specs.declared.position.Position.TheVariants.{At, Retired as Gone}
 use Rattle.settled_histories.specs.Kept.{Cut, IsClosed, kept}
@@ -25,12 +25,12 @@ use Rattle.driver.specs.declared.known.Known.{Known}
 use Rattle.driver.specs.declared.known.Known.TheVariants.{Born, Lives, Waits, Gone as Away}
 use Rattle.driver.specs.declared.mark.Mark.{Mark}
 use Rattle.driver.specs.declared.tables.Tables.{Tables}
-use Rattle.driver.specs.Made.{Made}
-use Rattle.driver.specs.Tables.{AreSound, history_in, Standing, LivesWith, WaitsWith, standing, shown, events_at, carried, reports_after, kept_of_other}
-use Rattle.driver.specs.Making.{IsNotAlive, IsSame, IsReady, HasLineOf, Adds}
+use Rattle.driver.specs.working.Made.{Made}
+use Rattle.driver.specs.working.Tables.{AreSound, history_in, Standing, LivesWith, WaitsWith, standing, shown, events_at, carried, reports_after, kept_of_other}
+use Rattle.driver.specs.working.Making.{IsNotAlive, IsSame, IsReady, HasLineOf, Adds}
 use Rattle.driver.specs.Verdicts.{HasRetired}
-use Rattle.driver.specs.Marks.{Marks, last_kept, reaches, reaches_at, reached, cut_by}
-use Rattle.driver.specs.Keeping.{AreKept, IsRemade, is_waiting, is_due, bears}
+use Rattle.driver.specs.working.Marks.{Marks, last_kept, reaches, reaches_at, reached, cut_by}
+use Rattle.driver.specs.working.Keeping.{AreKept, IsRemade, is_waiting, is_due, bears}
 use Rattle.report_line.proofs.Cutting.{and_both}
 use Rattle.driver.proofs.Born.{absorption_of}
 use Rattle.driver.proofs.Places.{not_shown}

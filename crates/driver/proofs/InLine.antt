@@ -11,8 +11,8 @@ use Rattle.std.proofs.lemmas.List.{length-map, get_or-map}
 use Rattle.std.proofs.lemmas.Map.Views.{list_any-from_Contains, Contains-from_any}
 use Rattle.std.proofs.lemmas.Option.{slice_get-get_or, get_or_from_slice_get, slice_get_within}
 use Rattle.report_line.specs.declared.report.Report.{Report}
-use Rattle.report_line.specs.History.{Name, History, Event}
-use Rattle.report_line.specs.Lawful.{IsLawful}
+use Rattle.report_line.specs.histories.History.{Name, History, Event}
+use Rattle.report_line.specs.histories.Lawful.{IsLawful}
 use Rattle.histories.proofs.Bytes.{bytes_are}
 use Rattle.chains.specs.declared.position.Position.{Position}
 use Rattle.chains.specs.declared.position.Position.TheVariants.{At, Retired}
@@ -28,7 +28,7 @@ use Rattle.settled_lists.specs.Agreeing.{HasEventsOf}
 use Rattle.driver.specs.declared.line.NamedPosition.{NamedPosition}
 use Rattle.driver.specs.declared.mark.Mark.{Mark}
 use Rattle.driver.specs.Lines.{position_of, positions_by}
-use Rattle.driver.specs.Marks.{Marks, fresh, wanted, named, failing, rooted, walked, marks_of, stands, stands_at, reaches, reaches_at, reached, cut_by, is_kept_at, is_kept_in}
+use Rattle.driver.specs.working.Marks.{Marks, fresh, wanted, named, failing, rooted, walked, marks_of, stands, stands_at, reaches, reaches_at, reached, cut_by, is_kept_at, is_kept_in}
 use Rattle.driver.proofs.ElementEvents.{reported_of}
 use Rattle.driver.proofs.Standing.{IsMarkOf, chosen_by, chosen_stands, reached_up_to}
 use Rattle.driver.proofs.Walked.{IsFresh, walked_noted}

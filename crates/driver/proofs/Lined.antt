@@ -13,15 +13,15 @@ use Rattle.report_line.specs.declared.report.Action.TheVariants as acts
 use Rattle.report_line.specs.declared.step.Deed.{Deed}
 use Rattle.report_line.specs.declared.step.Deed.TheVariants.{Work, Check, Present, Send, Receive, Fork, Retire, Absorb}
 use Rattle.report_line.specs.declared.step.Step.{Step as Taken}
-use Rattle.report_line.specs.History.{Name, History, Event, Living, status}
+use Rattle.report_line.specs.histories.History.{Name, History, Event, Living, status}
 use Rattle.report_line.specs.Names.{is_name}
 use Rattle.report_line.specs.Spelling.{IsAction, AreFields}
-use Rattle.report_line.specs.StepReports.{is_reported, reporting_steps, id_of, numbered, report_by}
+use Rattle.report_line.specs.histories.StepReports.{is_reported, reporting_steps, id_of, numbered, report_by}
 use Rattle.lawful_reports.specs.HandedOver.{HasLine}
 use Rattle.driver.specs.declared.step.Act.{Act}
-use Rattle.driver.specs.Made.{Made}
+use Rattle.driver.specs.working.Made.{Made}
 use Rattle.driver.specs.Stamping.{stamp_of}
-use Rattle.driver.specs.Making.{Makes, IsReady, HasLineOf, HasParts, HasWholeParts, HasLineIfCounted}
+use Rattle.driver.specs.working.Making.{Makes, IsReady, HasLineOf, HasParts, HasWholeParts, HasLineIfCounted}
 
 none_report : (y : Report) → None ≢ Some y
 none_report y is = cc

@@ -8,18 +8,18 @@ use Rattle.stamp.specs.Operations.{IsFork, IsNormalJoin}
 use Rattle.report_line.specs.declared.report.Action.TheVariants as acts
 use Rattle.report_line.specs.declared.step.Deed.{Deed}
 use Rattle.report_line.specs.declared.step.Deed.TheVariants as deeds
-use Rattle.report_line.specs.History.{Name, History, Event, Unborn, Retired, status, sending}
-use Rattle.report_line.specs.Lawful.{IsOwnWork}
-use Rattle.report_line.specs.StepReports.{reporting_steps, id_of}
+use Rattle.report_line.specs.histories.History.{Name, History, Event, Unborn, Retired, status, sending}
+use Rattle.report_line.specs.histories.Lawful.{IsOwnWork}
+use Rattle.report_line.specs.histories.StepReports.{reporting_steps, id_of}
 use Rattle.histories.proofs.Status.{root_born}
 use Rattle.driver.specs.declared.step.Act.TheVariants.{Work, Check, Present, Send, Receive, Fork, Retire, Absorb}
 use Rattle.driver.specs.declared.known.Known.TheVariants.{Born, Gone}
-use Rattle.driver.specs.Made.{Made, step_of, silently, openly}
+use Rattle.driver.specs.working.Made.{Made, step_of, silently, openly}
 use Rattle.driver.specs.declared.making.Alive.{Alive}
 use Rattle.driver.specs.declared.making.NextReport.{NextReport}
 use Rattle.driver.specs.declared.making.ForkParts.{ForkParts}
 use Rattle.driver.specs.Stamping.{stamp_of}
-use Rattle.driver.specs.Making.{IsAlive, IsEventMade, IsForkMade, IsReceiveMade, IsAbsorbMade, report_after, parts_after, Makes}
+use Rattle.driver.specs.working.Making.{IsAlive, IsEventMade, IsForkMade, IsReceiveMade, IsAbsorbMade, report_after, parts_after, Makes}
 use Rattle.driver.proofs.Verdicts.{passed}
 
 -- an event on the own stamp is the own work

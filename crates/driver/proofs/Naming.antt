@@ -9,13 +9,13 @@ use Rattle.std.proofs.lemmas.Bool.{cases_Bool, cond-true, cond-false, true≢fal
 use Rattle.std.proofs.lemmas.List.{map-append, take_more, take_all, take-append-drop, length-map, length-take-le}
 use Rattle.std.proofs.lemmas.List.Folds.{list_any-append}
 use Rattle.std.proofs.lemmas.Option.{slice_get-map, slice_get-get_or, slice_get_within}
-use Rattle.report_line.specs.History.{Name}
+use Rattle.report_line.specs.histories.History.{Name}
 use Rattle.histories.proofs.Bytes.{bytes_are, bytes_same}
 use Rattle.history_law.proofs.Listed.{at_front}
 use Rattle.driver.specs.declared.line.NamedPosition.{NamedPosition}
 use Rattle.driver.specs.declared.mark.Mark.{Mark}
 use Rattle.driver.specs.Lines.{names_of, IsNamedOnce}
-use Rattle.driver.specs.Marks.{fresh, named, failing}
+use Rattle.driver.specs.working.Marks.{fresh, named, failing}
 use Rattle.driver.proofs.Walked.{after_one}
 use Rattle.driver.proofs.Sound.{flipped}
 

@@ -4,9 +4,9 @@ use Rattle.std.specs.Prelude.{reverse}
 use Rattle.std.specs.Option.{option_map}
 use Rattle.std.proofs.lemmas.List.{take_more, take_all, reverse-append, length-reverse, length-take-le}
 use Rattle.report_line.specs.declared.step.Step.{Step as Taken}
-use Rattle.report_line.specs.History.{Name, History}
+use Rattle.report_line.specs.histories.History.{Name, History}
 use Rattle.driver.specs.declared.mark.Mark.{Mark}
-use Rattle.driver.specs.Marks.{seen, walked}
+use Rattle.driver.specs.working.Marks.{seen, walked}
 use Rattle.driver.proofs.Naming.{mapped}
 
 module _ (steps : List Taken) (i : ℕ) (s : Taken) (lt : i < length steps) (is : s ≡ get_or steps i s) where

@@ -3,14 +3,14 @@ use Rattle.std.proofs.Common.{◌≡◌, ◌≢◌, sym, ◌∙◌, ap, subst}
 use Rattle.std.specs.Prelude.{IsTrue}
 use Rattle.id_tree.specs.Points.{owns, OwnsSome, Overlap}
 use Rattle.stamp.specs.declared.stamp.Stamp.{Stamp}
-use Rattle.report_line.specs.History.{Name, Event, Living, Retired, last_of, status}
+use Rattle.report_line.specs.histories.History.{Name, Event, Living, Retired, last_of, status}
 use Rattle.histories.proofs.Owners.{holder_owns}
 use Rattle.histories.proofs.Chain.{one_holder}
 use Rattle.driver.specs.declared.tables.Tables.{Tables}
 use Rattle.driver.specs.declared.making.Alive.{Alive}
-use Rattle.driver.specs.Tables.{AreSound, history_in}
+use Rattle.driver.specs.working.Tables.{AreSound, history_in}
 use Rattle.driver.specs.Stamping.{stamp_of}
-use Rattle.driver.specs.Making.{IsAlive}
+use Rattle.driver.specs.working.Making.{IsAlive}
 
 pub owner : (t : Tables) (p : Name) (a : Alive) → AreSound t → IsAlive t.root (history_in t) p a → OwnsSome a.stamp.now.id
 owner t p a sound alive = subst (λ (x : Stamp). OwnsSome x.id) (sym alive.stamp) (holder_owns sound.lawful p alive.last (ap last_of alive.lives))

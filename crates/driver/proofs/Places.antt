@@ -5,11 +5,11 @@ use Rattle.std.specs.Option.{option_map}
 use Rattle.std.proofs.lemmas.Option.{none-some, same_Some}
 use Rattle.event_tree.specs.EventTree.{EventTree}
 use Rattle.report_line.specs.declared.step.Step.{Step as Taken}
-use Rattle.report_line.specs.History.{Event, Status, Unborn, Living, Retired, Absorbed}
+use Rattle.report_line.specs.histories.History.{Event, Status, Unborn, Living, Retired, Absorbed}
 use Rattle.driver.specs.declared.known.Known.{Known}
 use Rattle.driver.specs.declared.known.Known.TheVariants.{Born, Lives, Waits, Gone}
 use Rattle.driver.specs.Stamping.{stamp_of}
-use Rattle.driver.specs.Tables.{Standing, LivesWith, WaitsWith, IsGone, standing, shown, events_at, carried}
+use Rattle.driver.specs.working.Tables.{Standing, LivesWith, WaitsWith, IsGone, standing, shown, events_at, carried}
 
 -- a step more leaves what stands at the earlier places
 stays : (X : Type 0) (f : Taken → X) (steps : List Taken) (s : Taken) (i : ℕ) (x : X) → option_map f (slice_get steps i) ≡ Some x → option_map f (slice_get (steps ++ s ∷ []) i) ≡ Some x

@@ -6,8 +6,8 @@ use Rattle.std.proofs.lemmas.Bool.{cond-true, cond-false}
 use Rattle.std.proofs.lemmas.List.Elements.{All-contains}
 use Rattle.histories.proofs.Bytes.{bytes_same, bytes_other}
 use Rattle.report_line.specs.declared.report.Report.{Report}
-use Rattle.report_line.specs.History.{Name}
-use Rattle.report_line.specs.Lawful.{IsLawful}
+use Rattle.report_line.specs.histories.History.{Name}
+use Rattle.report_line.specs.histories.Lawful.{IsLawful}
 use Rattle.chains.specs.declared.position.Position.{Position}
 use Rattle.chains.specs.Folded.{IsFolded}
 use Rattle.chains.specs.Greatest.{IsConsistentCut}

@@ -7,14 +7,14 @@ use Rattle.std.proofs.lemmas.Option.{get_or_from_slice_get}
 use Rattle.indexmap.specs.IndexMap.{get}
 use Rattle.stamp.specs.declared.stamp.Stamp.{Stamp}
 use Rattle.report_line.specs.declared.step.Step.{Step as Taken}
-use Rattle.report_line.specs.History.{Name, Event, Status, Unborn, Living, Retired, Absorbed, status}
-use Rattle.report_line.specs.StepReports.{reporting_steps}
+use Rattle.report_line.specs.histories.History.{Name, Event, Status, Unborn, Living, Retired, Absorbed, status}
+use Rattle.report_line.specs.histories.StepReports.{reporting_steps}
 use Rattle.histories.proofs.Bytes.{bytes_are}
 use Rattle.driver.specs.declared.known.Known.{Known}
 use Rattle.driver.specs.declared.known.Known.TheVariants.{Waits}
 use Rattle.driver.specs.declared.tables.Tables.{Tables}
 use Rattle.driver.specs.Stamping.{stamp_of}
-use Rattle.driver.specs.Tables.{AreSound, history_in, Standing, WaitsWith, standing, shown}
+use Rattle.driver.specs.working.Tables.{AreSound, history_in, Standing, WaitsWith, standing, shown}
 use Rattle.driver.proofs.Places.{not_shown}
 
 -- what is kept, as it is shown

@@ -6,8 +6,8 @@ use Rattle.std.specs.Option.{option_map_or}
 use Rattle.std.proofs.lemmas.Bool.{cases_Bool, true≢false}
 use Rattle.std.proofs.lemmas.List.{get_or_default}
 use Rattle.report_line.proofs.Cutting.{and_both}
-use Rattle.report_line.specs.History.{Name}
-use Rattle.report_line.specs.Lawful.{IsLawful}
+use Rattle.report_line.specs.histories.History.{Name}
+use Rattle.report_line.specs.histories.Lawful.{IsLawful}
 use Rattle.chains.specs.Processes.{IsKnown}
 use Rattle.chains.specs.Failures.{IsFailedSet}
 use Rattle.chains.specs.Positions.{IsCut}
@@ -21,10 +21,10 @@ use Rattle.driver.specs.declared.line.NamedPosition.{NamedPosition}
 use Rattle.driver.specs.declared.mark.Mark.{Mark}
 use Rattle.driver.specs.declared.tables.Tables.{Tables}
 use Rattle.driver.specs.Chronicle.{Chronicle}
-use Rattle.driver.specs.Keeping.{AreKept}
+use Rattle.driver.specs.working.Keeping.{AreKept}
 use Rattle.driver.specs.Lines.{reported, names_of, IsNamedOnce, positions_by}
-use Rattle.driver.specs.Marks.{Marks, named, stands, all_stand, cut_by, marks_of, is_kept_in}
-use Rattle.driver.specs.Seen.{chronicle_in}
+use Rattle.driver.specs.working.Marks.{Marks, named, stands, all_stand, cut_by, marks_of, is_kept_in}
+use Rattle.driver.specs.working.Seen.{chronicle_in}
 use Rattle.driver.specs.Settling.{HasUnknownName, IsClosedLine, Settles, RefusesLine}
 use Rattle.driver.proofs.Born.{born_is_known}
 use Rattle.driver.proofs.InLine.{cases_mark, set_of, root_kept, root_left, all_chosen, stands_if_cut, has_events, closed_by_cut, cut_by_closed}

@@ -11,12 +11,12 @@ use Rattle.event_tree.specs.EventTree.{EventTree, Leaf}
 use Rattle.report_line.specs.declared.step.Deed.{Deed}
 use Rattle.report_line.specs.declared.step.Deed.TheVariants.{Work, Check, Present, Send, Receive, Fork, Retire, Absorb}
 use Rattle.report_line.specs.declared.step.Step.{Step as Taken}
-use Rattle.report_line.specs.History.{Name, History, Event, Status, Unborn, Living, Absorbed, status_of_actor, status_of_other, status, event_of, birth_by, sends, sending, birth_of_root}
+use Rattle.report_line.specs.histories.History.{Name, History, Event, Status, Unborn, Living, Absorbed, status_of_actor, status_of_other, status, event_of, birth_by, sends, sending, birth_of_root}
 use Rattle.std.proofs.lemmas.List.{reverse-append}
 use Rattle.std.proofs.lemmas.List.Elements.{All-nil, All-push}
 use Rattle.indexmap.specs.IndexMap.{get}
-use Rattle.report_line.specs.Lawful.{IsAllowed, IsLawful, start, next}
-use Rattle.report_line.specs.StepReports.{is_reported, reporting_steps, report_of}
+use Rattle.report_line.specs.histories.Lawful.{IsAllowed, IsLawful, start, next}
+use Rattle.report_line.specs.histories.StepReports.{is_reported, reporting_steps, report_of}
 use Rattle.report_line.specs.Names.{is_name}
 use Rattle.report_line.specs.declared.report.Report.{Report}
 use Rattle.report_line.specs.declared.report.Report.TheVariants.{Begin}
@@ -30,9 +30,9 @@ use Rattle.driver.specs.declared.known.Known.{Known}
 use Rattle.driver.specs.declared.known.Known.TheVariants.{Born, Gone}
 use Rattle.driver.specs.declared.tables.Tables.{Tables}
 use Rattle.driver.specs.declared.tables.Other.{Other}
-use Rattle.driver.specs.Made.{Made}
-use Rattle.driver.specs.Making.{IsReady, HasLineOf, Adds}
-use Rattle.driver.specs.Tables.{AreSound, history_in, LivesWith, WaitsWith, standing, events_at, shown, carried, reports_after, kept_of_actor, kept_of_other, noted_other, noted_message}
+use Rattle.driver.specs.working.Made.{Made}
+use Rattle.driver.specs.working.Making.{IsReady, HasLineOf, Adds}
+use Rattle.driver.specs.working.Tables.{AreSound, history_in, LivesWith, WaitsWith, standing, events_at, shown, carried, reports_after, kept_of_actor, kept_of_other, noted_other, noted_message}
 
 -- the stamp 1;0
 abbrev pub first_stamp : Stamp

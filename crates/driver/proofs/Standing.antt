@@ -11,9 +11,9 @@ use Rattle.stamp.specs.declared.stamp.Stamp.{Stamp}
 use Rattle.report_line.specs.declared.step.Deed.{Deed}
 use Rattle.report_line.specs.declared.step.Deed.TheVariants.{Work, Check, Present, Send, Receive, Fork, Retire, Absorb}
 use Rattle.report_line.specs.declared.step.Step.{Step}
-use Rattle.report_line.specs.History.{Name, History, Event, event_of, birth_by, birth_of_root}
-use Rattle.report_line.specs.Lawful.{IsLawful}
-use Rattle.report_line.specs.Events.{Occurs, root_birth, step, birth, earlier}
+use Rattle.report_line.specs.histories.History.{Name, History, Event, event_of, birth_by, birth_of_root}
+use Rattle.report_line.specs.histories.Lawful.{IsLawful}
+use Rattle.report_line.specs.histories.Events.{Occurs, root_birth, step, birth, earlier}
 use Rattle.report_line.proofs.Cutting.{and_both}
 use Rattle.histories.proofs.Bytes.{bytes_are}
 use Rattle.chains.specs.declared.position.Position.{Position}
@@ -28,7 +28,7 @@ use Rattle.history_law.proofs.Ordered.{one_event}
 use Rattle.settled_lists.proofs.Folding.{within, is_within}
 use Rattle.driver.specs.declared.mark.Mark.{Mark}
 use Rattle.driver.specs.Stamping.{stamp_of}
-use Rattle.driver.specs.Marks.{wanted, last_kept, stands_at, reaches_at}
+use Rattle.driver.specs.working.Marks.{wanted, last_kept, stands_at, reaches_at}
 use Rattle.driver.proofs.ElementEvents.{list_of, reported_of, lasting_by, lasting_events, lasting_is, present_by, present_event, retired_in, retired_is, element_events, elements_are}
 use Rattle.driver.proofs.Walked.{Noted, IsNoted, one_at}
 

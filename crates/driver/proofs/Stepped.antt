@@ -4,19 +4,19 @@ use Rattle.stamp.specs.declared.stamp.Stamp.{Stamp}
 use Rattle.report_line.specs.declared.report.Action.{Action}
 use Rattle.report_line.specs.declared.report.Report.{Report}
 use Rattle.report_line.specs.declared.step.Deed.{Deed}
-use Rattle.report_line.specs.History.{Name, History, status}
-use Rattle.report_line.specs.StepReports.{report_of}
+use Rattle.report_line.specs.histories.History.{Name, History, status}
+use Rattle.report_line.specs.histories.StepReports.{report_of}
 use Rattle.driver.specs.declared.step.Step.{Step}
 use Rattle.driver.specs.declared.step.Act.{Act}
 use Rattle.driver.specs.declared.tables.Tables.{Tables}
 use Rattle.driver.specs.declared.tables.Other.{Other}
-use Rattle.driver.specs.Made.{Made, step_of, numbered, silently, openly}
-use Rattle.driver.specs.Tables.{AreSound, history_in}
+use Rattle.driver.specs.working.Made.{Made, step_of, numbered, silently, openly}
+use Rattle.driver.specs.working.Tables.{AreSound, history_in}
 use Rattle.driver.specs.Verdicts.{IsVerdict}
 use Rattle.driver.specs.declared.fault.StepFault.{StepFault}
 use Rattle.driver.specs.declared.fault.StepFault.TheVariants as faults
-use Rattle.driver.specs.Making.{Makes, IsSame, IsReady, HasLineIfCounted, Adds}
-use Rattle.driver.specs.Stepping.{IsStepTaken}
+use Rattle.driver.specs.working.Making.{Makes, IsSame, IsReady, HasLineIfCounted, Adds}
+use Rattle.driver.specs.working.Stepping.{IsStepTaken}
 use Rattle.driver.proofs.GoingOver.{ready_still}
 use Rattle.driver.proofs.Lined.{ready_made}
 

@@ -1,6 +1,6 @@
 -- Which verdict the tests give.
 use Rattle.std.proofs.Common.{Err, ◌≡◌, ◌≢◌, ◌<◌, Some, None, refl, sym, ◌∙◌, ap, subst, inl, inr}
-use Rattle.report_line.specs.History.{Name, History, Event, Status, Unborn, Living, Retired, status}
+use Rattle.report_line.specs.histories.History.{Name, History, Event, Status, Unborn, Living, Retired, status}
 use Rattle.driver.specs.declared.step.Act.{Act}
 use Rattle.driver.specs.declared.fault.StepFault.{StepFault}
 use Rattle.driver.specs.declared.fault.StepFault.TheVariants as faults
@@ -11,7 +11,7 @@ use Rattle.event_tree.specs.Event.{PassesLimit}
 use Rattle.stamp.specs.declared.stamp.Stamp.{Stamp}
 use Rattle.driver.specs.declared.step.Act.TheVariants.{Fork, Absorb}
 use Rattle.driver.specs.declared.making.Alive.{Alive}
-use Rattle.driver.specs.Making.{IsNotAlive, IsAlive, ForkTold, AbsorbTold}
+use Rattle.driver.specs.working.Making.{IsNotAlive, IsAlive, ForkTold, AbsorbTold}
 
 living_not_unborn : (e : Event) → Living e ≢ Unborn
 living_not_unborn e is = cc

@@ -1,6 +1,6 @@
 -- The world may return to the line that is answered for what it reported.
 use Rattle.std.specs.Prelude.{◌≡◌, ℕ, List, map}
-use Rattle.report_line.specs.History.{Name}
+use Rattle.report_line.specs.histories.History.{Name}
 use Rattle.chains.specs.declared.position.Position.{Position}
 use Rattle.chains.specs.Failures.{IsFailedSet}
 use Rattle.chains.specs.Greatest.{IsGreatestCut}

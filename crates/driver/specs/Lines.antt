@@ -3,8 +3,8 @@ use Rattle.std.specs.Prelude.{◌≡◌, ℕ, List, [], ◌∷◌, Some, map, sl
 use Rattle.std.specs.Str.{bytes_eq}
 use Rattle.report_line.specs.declared.report.Report.{Report}
 use Rattle.report_line.specs.declared.report.Report.TheVariants.{Begin}
-use Rattle.report_line.specs.History.{Name}
-use Rattle.report_line.specs.StepReports.{reports}
+use Rattle.report_line.specs.histories.History.{Name}
+use Rattle.report_line.specs.histories.StepReports.{reports}
 use Rattle.chains.specs.declared.position.Position.{Position}
 use Rattle.chains.specs.declared.position.Position.TheVariants.{At}
 use Rattle.chains.specs.Processes.{known}

@@ -1,6 +1,6 @@
 -- A settlement of a world: all processes return to a line.
 use Rattle.std.specs.Prelude.{◌≡◌, ◌≢◌, ◌⊎◌, ℕ, suc, List, Contains, ⊤}
-use Rattle.report_line.specs.History.{Name, Unborn, status}
+use Rattle.report_line.specs.histories.History.{Name, Unborn, status}
 use Rattle.chains.specs.declared.position.Position.TheVariants.{At}
 use Rattle.chains.specs.Failures.{IsFailedSet}
 use Rattle.settled_histories.specs.Kept.{Cut, kept}

@@ -6,9 +6,9 @@ use Rattle.stamp.specs.Operations.{IsEvent, IsFork, IsReceive, IsAbsorb}
 use Rattle.report_line.specs.declared.report.Report.{Report}
 use Rattle.report_line.specs.declared.step.Deed.TheVariants as deeds
 use Rattle.report_line.specs.declared.step.Step.{Step as Taken}
-use Rattle.report_line.specs.History.{Name, History, Event, Living, Retired, status, sending}
-use Rattle.report_line.specs.Lawful.{IsLawful}
-use Rattle.report_line.specs.StepReports.{report_of}
+use Rattle.report_line.specs.histories.History.{Name, History, Event, Living, Retired, status, sending}
+use Rattle.report_line.specs.histories.Lawful.{IsLawful}
+use Rattle.report_line.specs.histories.StepReports.{report_of}
 use Rattle.driver.specs.declared.step.Act.{Act}
 use Rattle.driver.specs.declared.step.Act.TheVariants.{Work, Check, Present, Send, Receive, Fork, Retire, Absorb}
 use Rattle.driver.specs.declared.step.Step.{Step}

@@ -5,7 +5,7 @@ use Rattle.id_tree.specs.Split.{parts_depth}
 use Rattle.event_tree.specs.EventTree.{EventTree}
 use Rattle.event_tree.specs.Event.{PassesLimit}
 use Rattle.stamp.specs.Operations.{IsNormalJoin}
-use Rattle.report_line.specs.History.{Name, History, Event, Status, Unborn, Living, Retired, Absorbed, status, sending}
+use Rattle.report_line.specs.histories.History.{Name, History, Event, Status, Unborn, Living, Retired, Absorbed, status, sending}
 use Rattle.driver.specs.declared.step.Act.{Act}
 use Rattle.driver.specs.declared.step.Act.TheVariants.{Send, Receive, Fork, Retire, Absorb}
 use Rattle.driver.specs.declared.fault.StepFault.{StepFault}

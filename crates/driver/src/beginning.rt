@@ -1,7 +1,7 @@
 //! The tables of a root at its birth.
 
 ghost use Rattle.std.specs.Prelude.{◌≡◌, [], IfOk};
-ghost use Rattle.driver.specs.Tables.{AreSound, history_in};
+ghost use Rattle.driver.specs.working.Tables.{AreSound, history_in};
 
 use crate::known::Known;
 use crate::noting::note;

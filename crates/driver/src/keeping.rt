@@ -3,12 +3,12 @@
 ghost use Rattle.std.specs.Prelude.{◌≡◌, ◌≢◌, ◌<◌, ◌+◌, ◌∷◌, true, IfOk, IfErr, OnOk, reverse, take, length};
 ghost use Rattle.std.specs.Str.{bytes_eq};
 ghost use Rattle.indexmap.specs.IndexMap.{get};
-ghost use Rattle.report_line.specs.Lawful.{IsLawful};
+ghost use Rattle.report_line.specs.histories.Lawful.{IsLawful};
 ghost use Rattle.settled_histories.specs.Kept.{IsClosed};
-ghost use Rattle.driver.specs.Keeping.{AreKept, bears, is_due, is_waiting};
-ghost use Rattle.driver.specs.Making.{Adds};
-ghost use Rattle.driver.specs.Marks.{cut_by};
-ghost use Rattle.driver.specs.Tables.{AreSound, history_in};
+ghost use Rattle.driver.specs.working.Keeping.{AreKept, bears, is_due, is_waiting};
+ghost use Rattle.driver.specs.working.Making.{Adds};
+ghost use Rattle.driver.specs.working.Marks.{cut_by};
+ghost use Rattle.driver.specs.working.Tables.{AreSound, history_in};
 
 use crate::beginning::begun;
 use crate::fault::StepFault;

@@ -2,7 +2,7 @@
 
 ghost use Rattle.std.specs.Prelude.{◌<◌, ◌^◌};
 ghost use Rattle.report_line.specs.Spelling.{IsAction};
-ghost use Rattle.driver.specs.Making.{HasLineIfCounted, HasParts, HasWholeParts};
+ghost use Rattle.driver.specs.working.Making.{HasLineIfCounted, HasParts, HasWholeParts};
 
 use report_line::{Action, Deed, Report, Step as Taken};
 use stamp::Stamp;

@@ -2,10 +2,10 @@
 
 ghost use Rattle.std.specs.Prelude.{◌≡◌, ◌≢◌, ◌+◌, ◌<◌, ◌^◌, ◌↔◌, false, IfOk, IfErr, OnOk, Some, None};
 ghost use Rattle.id_tree.specs.Points.{OwnsSome, Overlap};
-ghost use Rattle.report_line.specs.History.{Unborn, status};
-ghost use Rattle.driver.specs.Making.{AliveTold, EventTold, report_after, WorkTold, parts_after, ForkTold, ReceiveTold, AbsorbTold, MessageTold, RetirementTold};
-ghost use Rattle.driver.specs.Stepping.{IsStepTaken};
-ghost use Rattle.driver.specs.Tables.{AreSound, history_in};
+ghost use Rattle.report_line.specs.histories.History.{Unborn, status};
+ghost use Rattle.driver.specs.working.Making.{AliveTold, EventTold, report_after, WorkTold, parts_after, ForkTold, ReceiveTold, AbsorbTold, MessageTold, RetirementTold};
+ghost use Rattle.driver.specs.working.Stepping.{IsStepTaken};
+ghost use Rattle.driver.specs.working.Tables.{AreSound, history_in};
 
 use crate::fault::StepFault;
 use crate::known::Known;

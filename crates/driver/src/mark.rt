@@ -1,7 +1,7 @@
 //! What is noted of a process that a line names, while the steps of a history are gone over.
 
 ghost use Rattle.std.specs.Prelude.{◌≡◌, nat_eq};
-ghost use Rattle.driver.specs.Marks.{fresh, lasts, reports, own, last_kept, stands, reaches};
+ghost use Rattle.driver.specs.working.Marks.{fresh, lasts, reports, own, last_kept, stands, reaches};
 
 use chains::Position;
 use report_line::Deed;

@@ -5,8 +5,8 @@ ghost use Rattle.std.specs.Option.{option_map};
 ghost use Rattle.std.specs.Str.{bytes_eq};
 ghost use Rattle.indexmap.specs.IndexMap.{get};
 ghost use Rattle.driver.specs.Lines.{IsNamedOnce};
-ghost use Rattle.driver.specs.Marks.{named, failing, rooted, lasts, own, born, seen, walked, marks_of, all_stand, reached};
-ghost use Rattle.driver.specs.Tables.{history_in};
+ghost use Rattle.driver.specs.working.Marks.{named, failing, rooted, lasts, own, born, seen, walked, marks_of, all_stand, reached};
+ghost use Rattle.driver.specs.working.Tables.{history_in};
 
 use crate::fault::StepFault;
 use crate::line::NamedPosition;

@@ -1,10 +1,10 @@
 //! A step that was made, as it is added to other tables.
 
 ghost use Rattle.std.specs.Prelude.{◌≡◌, ◌+◌, ◌<◌, ◌^◌, true, IfOk, IfErr, OnOk};
-ghost use Rattle.report_line.specs.StepReports.{is_reported};
-ghost use Rattle.driver.specs.Tables.{reports_after, kept_of_other};
-ghost use Rattle.driver.specs.Keeping.{IsRemade};
-ghost use Rattle.driver.specs.Made.{again};
+ghost use Rattle.report_line.specs.histories.StepReports.{is_reported};
+ghost use Rattle.driver.specs.working.Tables.{reports_after, kept_of_other};
+ghost use Rattle.driver.specs.working.Keeping.{IsRemade};
+ghost use Rattle.driver.specs.working.Made.{again};
 
 use crate::fault::StepFault;
 use crate::known::Known;

@@ -3,12 +3,12 @@
 ghost use Rattle.std.specs.Prelude.{◌≡◌, ◌≢◌, ◌+◌, ◌⊎◌, true, false, IfOk, IfErr, OnOk, OnErr, IsTrue, List, ℕ, All, Contains};
 ghost use Rattle.std.specs.Str.{bytes_eq};
 ghost use Rattle.indexmap.specs.IndexMap.{get};
-ghost use Rattle.report_line.specs.History.{Unborn, status};
+ghost use Rattle.report_line.specs.histories.History.{Unborn, status};
 ghost use Rattle.driver.specs.declared.line.NamedPosition.{NamedPosition as AnyNamedPosition};
-ghost use Rattle.driver.specs.Marks.{is_kept_in};
-ghost use Rattle.driver.specs.Seen.{chronicle_in};
+ghost use Rattle.driver.specs.working.Marks.{is_kept_in};
+ghost use Rattle.driver.specs.working.Seen.{chronicle_in};
 ghost use Rattle.driver.specs.Settling.{HasUnknownName, IsClosedLine, Settles, RefusesLine};
-ghost use Rattle.driver.specs.Tables.{AreSound, history_in};
+ghost use Rattle.driver.specs.working.Tables.{AreSound, history_in};
 
 use crate::fault::StepFault;
 use crate::keeping::kept_tables;

@@ -2,16 +2,16 @@
 
 ghost use Rattle.std.specs.Prelude.{◌≡◌, ◌≢◌, ◌++◌, [], Some, None, OnOk, OnErr, IfOk, IfErr};
 ghost use Rattle.std.specs.List.{cons_option};
-ghost use Rattle.report_line.specs.Lawful.{IsLawful};
-ghost use Rattle.report_line.specs.StepReports.{reports};
+ghost use Rattle.report_line.specs.histories.Lawful.{IsLawful};
+ghost use Rattle.report_line.specs.histories.StepReports.{reports};
 ghost use Rattle.history_law.specs.Places.{IsPremise};
 ghost use Rattle.lawful_reports.specs.HandedOver.{IsReportable};
 ghost use Rattle.driver.specs.Lines.{reported};
 ghost use Rattle.driver.specs.Stamping.{Takes};
 ghost use Rattle.driver.specs.Verdicts.{IsVerdict};
-ghost use Rattle.driver.specs.Stepping.{IsStepTaken};
-ghost use Rattle.driver.specs.Tables.{AreSound};
-ghost use Rattle.driver.specs.Seen.{chronicle_in};
+ghost use Rattle.driver.specs.working.Stepping.{IsStepTaken};
+ghost use Rattle.driver.specs.working.Tables.{AreSound};
+ghost use Rattle.driver.specs.working.Seen.{chronicle_in};
 ghost use Rattle.driver.specs.Settling.{HasUnknownName, IsClosedLine, Settles, RefusesLine};
 
 use crate::beginning::begun;
@@ -34,14 +34,14 @@ pub struct World {
 
 impl Model for World {
     ghost use Rattle.driver.specs.Chronicle.{Chronicle};
-    ghost use Rattle.driver.specs.Codes.{chronicle_code};
+    ghost use Rattle.driver.specs.working.Codes.{chronicle_code};
 
     ghost Value = { Chronicle };
 
     ghost coded = { chronicle_code };
 
-    ghost use Rattle.driver.specs.Tables.{AreSound};
-    ghost use Rattle.driver.specs.Seen.{chronicle_in};
+    ghost use Rattle.driver.specs.working.Tables.{AreSound};
+    ghost use Rattle.driver.specs.working.Seen.{chronicle_in};
 
     ghost view = { λ w. chronicle_in w.tables };
 

@@ -2,7 +2,7 @@
 
 ghost use Rattle.std.specs.Prelude.{◌≡◌, ◌⊎◌, ◌+◌, ◌<◌, ◌≤◌, ◌++◌, IfSome, IfNone, length};
 ghost use Rattle.std.specs.Int.{w32, to_be_bytes};
-ghost use Rattle.record_file.specs.File.{IsLine, IsNoRecord};
+ghost use Rattle.record_file.specs.File.{IsLine, IsNoRecord, line_limit};
 ghost use Rattle.record_file.specs.Reading.{IsSplit};
 
 /// The byte of the header that tells the first version. Each other byte there tells the second.
@@ -16,7 +16,7 @@ const LONG: usize = 32768;
 
 /// The line of so many bytes that the bytes begin with, and what stands behind it from its gate on.
 fn split_line(n: usize, bytes: &[u8]) -> Option<(&[u8], &[u8])>
-    ensures none { IfNone result ((n ≡ 0) ⊎ (8192 < n) ⊎ (length bytes.now ≤ n)) }
+    ensures none { IfNone result ((n ≡ 0) ⊎ (line_limit < n) ⊎ (length bytes.now ≤ n)) }
     ensures line { IfSome result (λ r. IsLine r.0.now) }
     ensures size { IfSome result (λ r. length r.0.now ≡ n) }
     ensures gate { IfSome result (λ r. 0 < length r.1.now) }
@@ -30,7 +30,7 @@ fn split_line(n: usize, bytes: &[u8]) -> Option<(&[u8], &[u8])>
 
 /// The epoch that the bytes begin with, the line of so many bytes behind it, and what stands behind that from its gate on.
 fn split_long(n: usize, bytes: &[u8]) -> Option<(u32, &[u8], &[u8])>
-    ensures none { IfNone result ((n ≡ 0) ⊎ (8192 < n) ⊎ (length bytes.now ≤ n + 4)) }
+    ensures none { IfNone result ((n ≡ 0) ⊎ (line_limit < n) ⊎ (length bytes.now ≤ n + 4)) }
     ensures line { IfSome result (λ r. IsLine r.1.now) }
     ensures size { IfSome result (λ r. length r.1.now ≡ n) }
     ensures gate { IfSome result (λ r. 0 < length r.2.now) }

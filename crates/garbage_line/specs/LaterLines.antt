@@ -1,8 +1,8 @@
 -- Lines of longer lists.
 use Rattle.std.specs.Prelude.{ℕ, ◌≤◌, ◌<◌, List, ◌++◌, length}
 use Rattle.report_line.specs.declared.report.Report.{Report}
-use Rattle.report_line.specs.History.{Name, History}
-use Rattle.report_line.specs.Lawful.{IsLawful}
+use Rattle.report_line.specs.histories.History.{Name, History}
+use Rattle.report_line.specs.histories.Lawful.{IsLawful}
 use Rattle.chains.specs.declared.position.Position.{Position}
 use Rattle.chains.specs.Processes.{known}
 use Rattle.chains.specs.Positions.{rank, position_in}

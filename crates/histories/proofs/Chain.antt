@@ -7,9 +7,9 @@ use Rattle.event_tree.specs.Values.{value_at}
 use Rattle.histories.proofs.Bytes.{Owns, not_both_own}
 use Rattle.report_line.specs.declared.step.Deed.TheVariants.{Fork, Absorb}
 use Rattle.report_line.specs.declared.step.Step.{Step}
-use Rattle.report_line.specs.History.{last_of, Name, History, Event, birth_of_root, event_of, birth_by, Living, status}
-use Rattle.report_line.specs.Lawful.{IsAllowed, IsLawful, start, next}
-use Rattle.report_line.specs.Events.{Occurs, root_birth, step, birth, earlier, Edge, IsInPast, same, along}
+use Rattle.report_line.specs.histories.History.{last_of, Name, History, Event, birth_of_root, event_of, birth_by, Living, status}
+use Rattle.report_line.specs.histories.Lawful.{IsAllowed, IsLawful, start, next}
+use Rattle.report_line.specs.histories.Events.{Occurs, root_birth, step, birth, earlier, Edge, IsInPast, same, along}
 use Rattle.histories.specs.Law.{LaterIsInPast}
 use Rattle.histories.proofs.Status.{Holds, kept, acted, born, origin, first_holds}
 use Rattle.histories.proofs.Steps.{CameFrom, came_from, Source, source, child_source, fork_of}

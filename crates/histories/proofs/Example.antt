@@ -7,8 +7,8 @@ use Rattle.event_tree.specs.Values.{value_at}
 use Rattle.event_tree.specs.Grown.{IsGrown}
 use Rattle.event_tree.specs.Join.{IsJoin}
 use Rattle.report_line.specs.declared.step.Step.{Step}
-use Rattle.report_line.specs.History.{Event, status, sending}
-use Rattle.report_line.specs.Lawful.{IsOwnWork, IsLawful, start, next}
+use Rattle.report_line.specs.histories.History.{Event, status, sending}
+use Rattle.report_line.specs.histories.Lawful.{IsOwnWork, IsLawful, start, next}
 use Rattle.histories.specs.Example.{a, left, right, halves, every_step}
 
 -- the values in the two halves

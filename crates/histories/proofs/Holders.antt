@@ -8,8 +8,8 @@ use Rattle.histories.proofs.Bytes.{Owns, cases_name, bytes_other}
 use Rattle.report_line.specs.declared.step.Deed.{Deed}
 use Rattle.report_line.specs.declared.step.Deed.TheVariants.{Work, Check, Present, Send, Receive, Fork, Retire, Absorb}
 use Rattle.report_line.specs.declared.step.Step.{Step}
-use Rattle.report_line.specs.History.{Name, History, Event, birth_of_root, event_of, birth_by, Living, status_of_other, last_of, status}
-use Rattle.report_line.specs.Lawful.{IsAllowed, IsLawful, start, next}
+use Rattle.report_line.specs.histories.History.{Name, History, Event, birth_of_root, event_of, birth_by, Living, status_of_other, last_of, status}
+use Rattle.report_line.specs.histories.Lawful.{IsAllowed, IsLawful, start, next}
 use Rattle.histories.specs.Law.{EachPointHasOneHolder}
 use Rattle.histories.proofs.Status.{Holds, root_holds, status_others}
 use Rattle.histories.proofs.Steps.{fork_of, child_differs}

@@ -7,9 +7,9 @@ use Rattle.event_tree.specs.Values.{value_at}
 use Rattle.report_line.specs.declared.step.Deed.{Deed}
 use Rattle.report_line.specs.declared.step.Deed.TheVariants.{Receive, Fork, Retire, Absorb}
 use Rattle.report_line.specs.declared.step.Step.{Step}
-use Rattle.report_line.specs.History.{last_of, Name, Message, History, EventKind, Birth, Does, Event, birth_by, Living, Retired, status, sending}
-use Rattle.report_line.specs.Lawful.{IsAllowed, IsLawful, start, next}
-use Rattle.report_line.specs.Events.{Occurs, step, earlier, Edge, to_next, to_birth, to_receive, to_absorption, IsInPast, same, along}
+use Rattle.report_line.specs.histories.History.{last_of, Name, Message, History, EventKind, Birth, Does, Event, birth_by, Living, Retired, status, sending}
+use Rattle.report_line.specs.histories.Lawful.{IsAllowed, IsLawful, start, next}
+use Rattle.report_line.specs.histories.Events.{Occurs, step, earlier, Edge, to_next, to_birth, to_receive, to_absorption, IsInPast, same, along}
 use Rattle.histories.specs.Law.{IsRestorable, IsBeyond, LaterIsInPast, SomeIsInPast, BeyondIsLaterInPast, BeyondBirthIsSomeInPast}
 use Rattle.histories.proofs.Status.{Holds, kept, acted, born, origin, held_occurs, held_process, number_within, is_born, retired_by, sent_by}
 use Rattle.histories.proofs.Steps.{grown_up, never_falls_by, rises_by, fork_of, child_differs}

@@ -6,8 +6,8 @@ use Rattle.id_tree.specs.Points.{OwnsSome}
 use Rattle.report_line.specs.declared.step.Deed.{Deed}
 use Rattle.report_line.specs.declared.step.Deed.TheVariants.{Work, Check, Present, Send, Receive, Fork, Retire, Absorb}
 use Rattle.report_line.specs.declared.step.Step.{Step}
-use Rattle.report_line.specs.History.{Name, History, Event, last_of}
-use Rattle.report_line.specs.Lawful.{IsSameId, IsAllowed, IsLawful, start, next}
+use Rattle.report_line.specs.histories.History.{Name, History, Event, last_of}
+use Rattle.report_line.specs.histories.Lawful.{IsSameId, IsAllowed, IsLawful, start, next}
 use Rattle.histories.proofs.Status.{Holds, kept, acted, born, origin, first_holds}
 use Rattle.histories.proofs.Steps.{fork_of}
 

@@ -2,9 +2,9 @@
 use Rattle.std.proofs.Common.{◌≡◌, ◌∷◌, Some, sym, ◌∙◌, ap, subst, ◌⊎◌, inl, inr}
 use Rattle.id_tree.specs.Points.{Point}
 use Rattle.report_line.specs.declared.step.Step.{Step}
-use Rattle.report_line.specs.History.{last_of, Name, History, Event, event_of, birth_by, Living, status}
-use Rattle.report_line.specs.Lawful.{IsAllowed, IsLawful, start, next}
-use Rattle.report_line.specs.Events.{Occurs, to_birth, IsInPast, same, along}
+use Rattle.report_line.specs.histories.History.{last_of, Name, History, Event, event_of, birth_by, Living, status}
+use Rattle.report_line.specs.histories.Lawful.{IsAllowed, IsLawful, start, next}
+use Rattle.report_line.specs.histories.Events.{Occurs, to_birth, IsInPast, same, along}
 use Rattle.histories.specs.Law.{OwnersLieOnOnePath}
 use Rattle.histories.proofs.Bytes.{Owns}
 use Rattle.histories.proofs.Status.{Holds}

@@ -14,9 +14,9 @@ use Rattle.report_line.specs.declared.report.Report.TheVariants.{Begin, Numbered
 use Rattle.report_line.specs.declared.step.Deed.{Deed}
 use Rattle.report_line.specs.declared.step.Deed.TheVariants.{Work, Check, Present, Send, Receive, Fork, Retire, Absorb}
 use Rattle.report_line.specs.declared.step.Step.{Step}
-use Rattle.report_line.specs.History.{Name, History, Birth, Does, Event, event_of, birth_by, Unborn, status}
-use Rattle.report_line.specs.Events.{Occurs, step, birth, earlier}
-use Rattle.report_line.specs.StepReports.{is_reported, reporting_steps, report_by, report_of, IsReportOf, newest, earlier as before_step}
+use Rattle.report_line.specs.histories.History.{Name, History, Birth, Does, Event, event_of, birth_by, Unborn, status}
+use Rattle.report_line.specs.histories.Events.{Occurs, step, birth, earlier}
+use Rattle.report_line.specs.histories.StepReports.{is_reported, reporting_steps, report_by, report_of, IsReportOf, newest, earlier as before_step}
 use Rattle.histories.proofs.Bytes.{bytes_same, bytes_other}
 use Rattle.histories.proofs.Status.{unborn_after}
 

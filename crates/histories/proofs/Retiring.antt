@@ -2,9 +2,9 @@
 use Rattle.std.proofs.Common.{◌≡◌, ◌≢◌, ◌≤◌, ◌∷◌, length, sym, ◌∙◌, ap, subst, arith}
 use Rattle.report_line.specs.declared.step.Deed.{Deed}
 use Rattle.report_line.specs.declared.step.Deed.TheVariants.{Retire}
-use Rattle.report_line.specs.History.{Name, History, Birth, Does, Event, event_of, Living, Retired, last_of, status_of_actor, status}
-use Rattle.report_line.specs.Lawful.{IsLawful, start, next}
-use Rattle.report_line.specs.Events.{Occurs, Edge, to_next, to_birth, to_receive, to_absorption, earlier, step, birth, IsInPast, same, along}
+use Rattle.report_line.specs.histories.History.{Name, History, Birth, Does, Event, event_of, Living, Retired, last_of, status_of_actor, status}
+use Rattle.report_line.specs.histories.Lawful.{IsLawful, start, next}
+use Rattle.report_line.specs.histories.Events.{Occurs, Edge, to_next, to_birth, to_receive, to_absorption, earlier, step, birth, IsInPast, same, along}
 use Rattle.histories.proofs.Status.{status_acts, kept, acted, born, origin, held_occurs, is_born, number_within, sent_occurs}
 use Rattle.histories.proofs.Steps.{fork_of}
 use Rattle.histories.proofs.Chain.{first_occurs, old, stepped, child, entry}

@@ -7,9 +7,9 @@ use Rattle.histories.proofs.Bytes.{cases_name, bytes_are, bytes_same, bytes_othe
 use Rattle.report_line.specs.declared.step.Deed.{Deed}
 use Rattle.report_line.specs.declared.step.Deed.TheVariants.{Work, Check, Present, Send, Receive, Fork, Retire, Absorb}
 use Rattle.report_line.specs.declared.step.Step.{Step}
-use Rattle.report_line.specs.History.{Name, Message, History, Birth, Does, Event, event_of, birth_by, birth_of_root, Status, Unborn, Living, Retired, Absorbed, status_of_actor, status_of_other, last_of, status, sends, sending}
-use Rattle.report_line.specs.Lawful.{IsLawfulAbsorption, IsAllowed, IsLawful, start, next}
-use Rattle.report_line.specs.Events.{Occurs, root_birth, step, birth, earlier}
+use Rattle.report_line.specs.histories.History.{Name, Message, History, Birth, Does, Event, event_of, birth_by, birth_of_root, Status, Unborn, Living, Retired, Absorbed, status_of_actor, status_of_other, last_of, status, sends, sending}
+use Rattle.report_line.specs.histories.Lawful.{IsLawfulAbsorption, IsAllowed, IsLawful, start, next}
+use Rattle.report_line.specs.histories.Events.{Occurs, root_birth, step, birth, earlier}
 use Rattle.histories.proofs.Status.{status_acts, status_others, held_occurs, held_process, sent_occurs, is_born, retired_by}
 use Rattle.histories.proofs.Steps.{fork_of}
 use Rattle.histories.proofs.Later.{up_to_last}

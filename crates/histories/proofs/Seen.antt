@@ -9,9 +9,9 @@ use Rattle.histories.proofs.Bytes.{Owns, bytes_same}
 use Rattle.report_line.specs.declared.step.Deed.{Deed}
 use Rattle.report_line.specs.declared.step.Deed.TheVariants.{Fork, Retire}
 use Rattle.report_line.specs.declared.step.Step.{Step}
-use Rattle.report_line.specs.History.{last_of, Name, History, Does, Event, event_of, birth_by, Living, status_of_actor, status_of_other, status}
-use Rattle.report_line.specs.Lawful.{IsAllowed, IsLawful, start, next}
-use Rattle.report_line.specs.Events.{Occurs, step, to_birth, same}
+use Rattle.report_line.specs.histories.History.{last_of, Name, History, Does, Event, event_of, birth_by, Living, status_of_actor, status_of_other, status}
+use Rattle.report_line.specs.histories.Lawful.{IsAllowed, IsLawful, start, next}
+use Rattle.report_line.specs.histories.Events.{Occurs, step, to_birth, same}
 use Rattle.histories.specs.Law.{LaterIsInPast}
 use Rattle.histories.proofs.Status.{Holds, held_process, status_acts, status_others, number_within}
 use Rattle.histories.proofs.Steps.{CameFrom, came_from, Source, own_source, fork_of, child_differs}

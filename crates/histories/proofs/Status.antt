@@ -7,8 +7,8 @@ use Rattle.histories.proofs.Bytes.{cases_name, bytes_same, bytes_other}
 use Rattle.report_line.specs.declared.step.Deed.{Deed}
 use Rattle.report_line.specs.declared.step.Deed.TheVariants.{Work, Check, Present, Send, Receive, Fork, Retire, Absorb}
 use Rattle.report_line.specs.declared.step.Step.{Step}
-use Rattle.report_line.specs.History.{Name, Message, History, Does, Event, birth_of_root, event_of, birth_by, Status, Unborn, Living, Retired, Absorbed, status_of_actor, status_of_other, last_of, status, sends, sending}
-use Rattle.report_line.specs.Events.{Occurs, root_birth, step, birth, earlier}
+use Rattle.report_line.specs.histories.History.{Name, Message, History, Does, Event, birth_of_root, event_of, birth_by, Status, Unborn, Living, Retired, Absorbed, status_of_actor, status_of_other, last_of, status, sends, sending}
+use Rattle.report_line.specs.histories.Events.{Occurs, root_birth, step, birth, earlier}
 
 -- The process lives, or retired and was not absorbed, and this is its last event.
 abbrev pub Holds : Name → History → Name → Event → Type 0

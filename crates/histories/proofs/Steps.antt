@@ -11,9 +11,9 @@ use Rattle.histories.proofs.Bytes.{Owns}
 use Rattle.report_line.specs.declared.step.Deed.{Deed}
 use Rattle.report_line.specs.declared.step.Deed.TheVariants.{Receive, Fork, Retire, Absorb}
 use Rattle.report_line.specs.declared.step.Step.{Step}
-use Rattle.report_line.specs.History.{last_of, Name, Message, History, Does, Event, event_of, Unborn, Living, Retired, sending, status}
-use Rattle.report_line.specs.Lawful.{IsLawfulFork, IsAllowed}
-use Rattle.report_line.specs.Events.{Occurs, Edge, to_next, to_receive, to_absorption}
+use Rattle.report_line.specs.histories.History.{last_of, Name, Message, History, Does, Event, event_of, Unborn, Living, Retired, sending, status}
+use Rattle.report_line.specs.histories.Lawful.{IsLawfulFork, IsAllowed}
+use Rattle.report_line.specs.histories.Events.{Occurs, Edge, to_next, to_receive, to_absorption}
 use Rattle.histories.proofs.Status.{Holds, held_occurs, retired_by, sent_occurs}
 
 -- Values that grew fell nowhere.

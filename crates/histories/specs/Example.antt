@@ -5,7 +5,7 @@ use Rattle.event_tree.specs.EventTree.{EventTree, Leaf, Node}
 use Rattle.report_line.specs.declared.step.Deed.{Deed}
 use Rattle.report_line.specs.declared.step.Deed.TheVariants.{Work, Check, Present, Send, Receive, Fork, Retire, Absorb}
 use Rattle.report_line.specs.declared.step.Step.{Step}
-use Rattle.report_line.specs.History.{Name, Message, History}
+use Rattle.report_line.specs.histories.History.{Name, Message, History}
 
 -- the processes a, b, c, and d, which is never born; and the messages m and k
 abbrev pub a : Name

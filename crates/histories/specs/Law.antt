@@ -3,9 +3,9 @@ use Rattle.std.specs.Prelude.{Some, ◌≡◌, ◌⊎◌, ◌<◌, ◌≤◌, �
 use Rattle.id_tree.specs.Points.{Point, owns}
 use Rattle.event_tree.specs.Values.{IsAtOrBelow, ExceedsOn}
 use Rattle.report_line.specs.declared.step.Deed.TheVariants.{Check, Present, Retire}
-use Rattle.report_line.specs.History.{last_of, status, Name, History, EventKind, Birth, Does, Event}
-use Rattle.report_line.specs.Lawful.{IsLawful}
-use Rattle.report_line.specs.Events.{Occurs, Edge, IsInPast}
+use Rattle.report_line.specs.histories.History.{last_of, status, Name, History, EventKind, Birth, Does, Event}
+use Rattle.report_line.specs.histories.Lawful.{IsLawful}
+use Rattle.report_line.specs.histories.Events.{Occurs, Edge, IsInPast}
 
 -- A birth, a check or a presentation.
 pub data IsRestorable : EventKind → Type 0 where

@@ -8,9 +8,9 @@ use Rattle.event_tree.specs.Join.{IsJoin}
 use Rattle.report_line.specs.declared.step.Deed.{Deed}
 use Rattle.report_line.specs.declared.step.Deed.TheVariants.{Work, Check, Present, Send, Receive, Fork, Retire, Absorb}
 use Rattle.report_line.specs.declared.step.Step.{Step}
-use Rattle.report_line.specs.History.{Name, Message, History, Does, Event, Unborn, Living, Retired, Absorbed, status, sending}
-use Rattle.report_line.specs.Lawful.{IsOwnWork, IsLawful}
-use Rattle.report_line.specs.Events.{Occurs}
+use Rattle.report_line.specs.histories.History.{Name, Message, History, Does, Event, Unborn, Living, Retired, Absorbed, status, sending}
+use Rattle.report_line.specs.histories.Lawful.{IsOwnWork, IsLawful}
+use Rattle.report_line.specs.histories.Events.{Occurs}
 
 -- The process lives, and this is its newest event.
 pub record IsNewest (root : Name) (h : History) (p : Name) (x : Event) : Type 0 where

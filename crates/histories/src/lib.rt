@@ -8,8 +8,8 @@ ghost use Rattle.histories.specs.Law.{BeyondBirthIsSomeInPast, BeyondIsLaterInPa
 ghost use Rattle.histories.specs.Rules.{LookUpsAreEvents, RulesAreTheLaw};
 ghost use Rattle.histories.specs.Example.{a, every_step};
 ghost use Rattle.histories.specs.JoinFirst.{JoinsFirstToThree, ThreeIsNotLawful};
-ghost use Rattle.report_line.specs.History.{Name, History};
-ghost use Rattle.report_line.specs.Lawful.{IsLawful};
+ghost use Rattle.report_line.specs.histories.History.{Name, History};
+ghost use Rattle.report_line.specs.histories.Lawful.{IsLawful};
 
 /// What an event's values say of the events in its past, in every lawful history.
 pub fn beyond_is_later_in_past()

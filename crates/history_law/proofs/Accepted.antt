@@ -11,8 +11,8 @@ use Rattle.report_line.specs.declared.report.Action.TheVariants.{Check, Present,
 use Rattle.report_line.specs.declared.report.NumberedReport.{NumberedReport}
 use Rattle.report_line.specs.declared.report.Report.{Report}
 use Rattle.report_line.specs.declared.report.Report.TheVariants.{Begin, Numbered}
-use Rattle.report_line.specs.History.{Name, status}
-use Rattle.report_line.specs.StepReports.{reports}
+use Rattle.report_line.specs.histories.History.{Name, status}
+use Rattle.report_line.specs.histories.StepReports.{reports}
 use Rattle.histories.specs.Example.{a, b, c, d, left, right, halves, every_step}
 use Rattle.histories.proofs.Example.{Has, leaf, has, apart, both, some_left, some_right, every_step_is_lawful, below}
 use Rattle.chains.specs.Processes.{IsKnown}

@@ -13,8 +13,8 @@ use Rattle.chains.specs.Processes.{is_numbered_of, reports_by}
 use Rattle.report_line.specs.declared.step.Deed.{Deed}
 use Rattle.report_line.specs.declared.step.Deed.TheVariants.{Work, Check, Present, Send, Receive, Fork, Retire, Absorb}
 use Rattle.report_line.specs.declared.step.Step.{Step}
-use Rattle.report_line.specs.History.{Name, History, Event, event_of}
-use Rattle.report_line.specs.StepReports.{is_reported, reporting_steps, report_by, report_of, reports, IsReportOf, newest, earlier}
+use Rattle.report_line.specs.histories.History.{Name, History, Event, event_of}
+use Rattle.report_line.specs.histories.StepReports.{is_reported, reporting_steps, report_by, report_of, reports, IsReportOf, newest, earlier}
 use Rattle.chains.specs.Agrees.{Agrees}
 use Rattle.histories.proofs.Bytes.{bytes_same, bytes_are}
 use Rattle.histories.proofs.Status.{number_within}

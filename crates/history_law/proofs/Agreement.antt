@@ -9,8 +9,8 @@ use Rattle.std.proofs.lemmas.Option.{slice_get_within, same_Some}
 use Rattle.report_line.specs.declared.report.NumberedReport.{NumberedReport}
 use Rattle.report_line.specs.declared.report.Report.{Report}
 use Rattle.report_line.specs.declared.report.Report.TheVariants.{Begin, Numbered}
-use Rattle.report_line.specs.History.{Name, History, Event}
-use Rattle.report_line.specs.StepReports.{reports, IsReportOf}
+use Rattle.report_line.specs.histories.History.{Name, History, Event}
+use Rattle.report_line.specs.histories.StepReports.{reports, IsReportOf}
 use Rattle.histories.proofs.Bytes.{bytes_same, bytes_are}
 use Rattle.chains.specs.Processes.{is_numbered_of, reports_of, next_number, reports_by}
 use Rattle.chains.specs.Folded.{IsFolded, nothing_folded, one_folded}

@@ -14,8 +14,8 @@ use Rattle.chains.specs.Processes.{known, IsKnown}
 use Rattle.chains.specs.Elements.{name_of, elements, element}
 use Rattle.chains.specs.Positions.{is_retired, position_in, IsChosen, IsCut}
 use Rattle.chains.specs.Knowledge.{events_at, Knows, IsStampConsistent}
-use Rattle.report_line.specs.History.{Name, History, Birth, Event}
-use Rattle.report_line.specs.Events.{Occurs, IsInPast, same, along}
+use Rattle.report_line.specs.histories.History.{Name, History, Birth, Event}
+use Rattle.report_line.specs.histories.Events.{Occurs, IsInPast, same, along}
 use Rattle.history_law.specs.Places.{IsPremise, IsEventAt, place, IsUpTo, IsInCut, IsClosed}
 use Rattle.history_law.proofs.Listed.{at_in, in_at, none_in}
 use Rattle.histories.proofs.Later.{own_past}

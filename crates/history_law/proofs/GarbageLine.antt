@@ -21,8 +21,8 @@ use Rattle.chains.specs.Folded.{IsFolded, nothing_folded}
 use Rattle.chains.proofs.Keeps.{named}
 use Rattle.chains.proofs.Reaching.{fit_before}
 use Rattle.chains.specs.Greatest.{IsConsistentCut, IsGreatestCut}
-use Rattle.report_line.specs.History.{Name, History, Event}
-use Rattle.report_line.specs.Lawful.{IsLawful}
+use Rattle.report_line.specs.histories.History.{Name, History, Event}
+use Rattle.report_line.specs.histories.Lawful.{IsLawful}
 use Rattle.chains.specs.Agrees.{Agrees}
 use Rattle.history_law.specs.TheLaw.{GarbageLineNeverFalls}
 use Rattle.history_law.specs.Places.{IsPremise, IsEventAt, place, IsUpTo, IsInCut, IsClosed}

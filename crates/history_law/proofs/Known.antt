@@ -23,8 +23,8 @@ use Rattle.chains.specs.Positions.{IsChosen}
 use Rattle.chains.specs.Knowledge.{Knows}
 use Rattle.chains.specs.Folded.{IsFolded}
 use Rattle.chains.proofs.Distinct.{distinct_known}
-use Rattle.report_line.specs.History.{Name, History, Birth, Event, birth_of_root}
-use Rattle.report_line.specs.Events.{Occurs}
+use Rattle.report_line.specs.histories.History.{Name, History, Birth, Event, birth_of_root}
+use Rattle.report_line.specs.histories.Events.{Occurs}
 use Rattle.histories.specs.Law.{IsBeyond, LaterIsInPast, SomeIsInPast}
 use Rattle.chains.specs.Agrees.{Agrees}
 use Rattle.history_law.specs.Places.{IsPremise, IsEventAt, place, IsUpTo, SomeAfterIsInPast}

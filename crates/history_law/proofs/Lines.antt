@@ -4,7 +4,7 @@ use Rattle.report_line.specs.declared.report.Report.{Report}
 use Rattle.chains.specs.declared.position.Position.{Position}
 use Rattle.chains.specs.Folded.{IsFolded}
 use Rattle.chains.specs.Greatest.{IsConsistentCut, IsGreatestCut}
-use Rattle.report_line.specs.History.{Name, History}
+use Rattle.report_line.specs.histories.History.{Name, History}
 use Rattle.history_law.specs.Places.{IsPremise, IsClosedCut}
 use Rattle.history_law.specs.Headline.{IsGreatestClosedCut, IsLineOfHistories}
 use Rattle.history_law.proofs.Closing.{closed_is_consistent}

@@ -6,7 +6,7 @@ use Rattle.std.proofs.lemmas.List.Elements.{filter_map-append}
 use Rattle.stamp.specs.declared.stamp.Stamp.{Stamp}
 use Rattle.report_line.specs.declared.report.Report.{Report}
 use Rattle.report_line.specs.declared.report.Report.TheVariants.{Begin, Numbered}
-use Rattle.report_line.specs.History.{History}
+use Rattle.report_line.specs.histories.History.{History}
 use Rattle.chains.specs.Processes.{Name, newborn, known, last_report, target_after, target_of}
 use Rattle.chains.specs.Elements.{lasting_made, lasting_of, name_of}
 use Rattle.chains.specs.Folded.{IsFit, IsFolded, one_folded}

@@ -20,9 +20,9 @@ use Rattle.chains.specs.Knowledge.{retired_events}
 use Rattle.chains.specs.Folded.{IsFolded}
 use Rattle.knows_row.proofs.Rising.{below_later, elements_rise}
 use Rattle.report_line.specs.declared.step.Deed.TheVariants.{Fork as ForkStep, Retire}
-use Rattle.report_line.specs.History.{Name, History, Does, Event}
-use Rattle.report_line.specs.Lawful.{IsLawful, start, next}
-use Rattle.report_line.specs.Events.{Occurs}
+use Rattle.report_line.specs.histories.History.{Name, History, Does, Event}
+use Rattle.report_line.specs.histories.Lawful.{IsLawful, start, next}
+use Rattle.report_line.specs.histories.Events.{Occurs}
 use Rattle.chains.specs.Agrees.{Agrees}
 use Rattle.history_law.specs.Places.{IsEventAt, place}
 use Rattle.histories.proofs.Bytes.{bytes_are}

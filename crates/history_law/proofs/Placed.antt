@@ -18,10 +18,10 @@ use Rattle.chains.specs.Processes.{is_numbered_of, last_report}
 use Rattle.chains.specs.Elements.{only_if, lasting_by, lasting_made, lasting_of, present_by, present_in, elements_of, name_of, element}
 use Rattle.chains.proofs.Keeps.{passes}
 use Rattle.report_line.specs.declared.step.Deed.TheVariants.{Check, Present}
-use Rattle.report_line.specs.History.{Name, History, EventKind, Birth, Does, Event, birth_of_root}
-use Rattle.report_line.specs.Events.{Occurs, root_birth, earlier}
+use Rattle.report_line.specs.histories.History.{Name, History, EventKind, Birth, Does, Event, birth_of_root}
+use Rattle.report_line.specs.histories.Events.{Occurs, root_birth, earlier}
 use Rattle.histories.specs.Law.{IsRestorable, birth, check, presentation}
-use Rattle.report_line.specs.StepReports.{IsReportOf}
+use Rattle.report_line.specs.histories.StepReports.{IsReportOf}
 use Rattle.chains.specs.Agrees.{Agrees}
 use Rattle.history_law.specs.Places.{IsEventAt, place}
 use Rattle.histories.proofs.Bytes.{bytes_are}

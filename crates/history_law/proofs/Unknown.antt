@@ -13,10 +13,10 @@ use Rattle.chains.specs.Folded.{IsFolded, nothing_folded, one_folded}
 use Rattle.chains.proofs.Certain.{known_or_not}
 use Rattle.report_line.specs.declared.step.Deed.TheVariants.{Fork}
 use Rattle.report_line.specs.declared.step.Step.{Step}
-use Rattle.report_line.specs.History.{Name, History, Birth, Does, Event, event_of, last_of}
-use Rattle.report_line.specs.Lawful.{IsLawful, start, next}
-use Rattle.report_line.specs.Events.{Occurs, step, earlier, to_next, to_birth, IsInPast, same, along}
-use Rattle.report_line.specs.StepReports.{report_by, IsReportOf, newest, earlier as before_step}
+use Rattle.report_line.specs.histories.History.{Name, History, Birth, Does, Event, event_of, last_of}
+use Rattle.report_line.specs.histories.Lawful.{IsLawful, start, next}
+use Rattle.report_line.specs.histories.Events.{Occurs, step, earlier, to_next, to_birth, IsInPast, same, along}
+use Rattle.report_line.specs.histories.StepReports.{report_by, IsReportOf, newest, earlier as before_step}
 use Rattle.chains.specs.Agrees.{Agrees}
 use Rattle.history_law.proofs.Listed.{in_made, in_at}
 use Rattle.histories.proofs.Status.{held_occurs, held_process}

@@ -1,8 +1,8 @@
 -- The headline: an answered line is the greatest closed cut of every lawful history that agrees with what was accepted.
 use Rattle.std.specs.Prelude.{◌≡◌, ℕ, List}
 use Rattle.report_line.specs.declared.report.Report.{Report}
-use Rattle.report_line.specs.History.{Name, History}
-use Rattle.report_line.specs.Lawful.{IsLawful}
+use Rattle.report_line.specs.histories.History.{Name, History}
+use Rattle.report_line.specs.histories.Lawful.{IsLawful}
 use Rattle.chains.specs.declared.position.Position.{Position}
 use Rattle.chains.specs.Held.{Held}
 use Rattle.chains.specs.Agrees.{Agrees}

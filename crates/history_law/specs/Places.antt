@@ -1,9 +1,9 @@
 -- The events of places and of cuts, in a history.
 use Rattle.std.specs.Prelude.{◌≡◌, ℕ, zero, suc, ◌<◌, ◌≤◌, List, Some, length, ⊤}
 use Rattle.report_line.specs.declared.report.Report.{Report}
-use Rattle.report_line.specs.History.{Name, History, Event}
-use Rattle.report_line.specs.Lawful.{IsLawful}
-use Rattle.report_line.specs.Events.{Occurs, Edge, IsInPast}
+use Rattle.report_line.specs.histories.History.{Name, History, Event}
+use Rattle.report_line.specs.histories.Lawful.{IsLawful}
+use Rattle.report_line.specs.histories.Events.{Occurs, Edge, IsInPast}
 use Rattle.chains.specs.declared.position.Place.{Place}
 use Rattle.chains.specs.declared.position.Position.{Position}
 use Rattle.chains.specs.declared.position.Position.TheVariants.{At, Retired}

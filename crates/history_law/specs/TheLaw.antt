@@ -5,9 +5,9 @@ use Rattle.report_line.specs.declared.report.NumberedReport.{NumberedReport}
 use Rattle.report_line.specs.declared.report.Report.{Report}
 use Rattle.report_line.specs.declared.report.Report.TheVariants.{Numbered}
 use Rattle.report_line.specs.declared.step.Deed.TheVariants.{Retire}
-use Rattle.report_line.specs.History.{Name, History, Event, Birth, Does}
-use Rattle.report_line.specs.Lawful.{IsLawful}
-use Rattle.report_line.specs.StepReports.{IsReportOf}
+use Rattle.report_line.specs.histories.History.{Name, History, Event, Birth, Does}
+use Rattle.report_line.specs.histories.Lawful.{IsLawful}
+use Rattle.report_line.specs.histories.StepReports.{IsReportOf}
 use Rattle.histories.specs.Law.{IsRestorable}
 use Rattle.chains.specs.declared.position.Place.{Place}
 use Rattle.chains.specs.declared.position.Position.{Position}

@@ -3,8 +3,8 @@ use Rattle.std.proofs.Common.{◌≡◌, ◌≢◌, ◌⊎◌, inl, inr, ◌<◌
 use Rattle.std.specs.Prelude.{◌&&◌, ◌↔◌, IsTrue}
 use Rattle.id_tree.specs.IdTree.{IdTree, Zero, One, Pair}
 use Rattle.id_tree.specs.Points.{AreDisjoint, Overlap}
-use Rattle.id_tree.specs.Marks.{first, later, trees_of, AreMarksOf}
-use Rattle.id_tree.specs.Tests.{are_disjoint, all_disjoint}
+use Rattle.id_tree.specs.working.Marks.{first, later, trees_of, AreMarksOf}
+use Rattle.id_tree.specs.working.Tests.{are_disjoint, all_disjoint}
 use Rattle.id_tree.specs.declared.marks.Mark.{Mark}
 use Rattle.id_tree.specs.declared.marks.Mark.TheVariants as marks
 use Rattle.id_tree.proofs.Preorder.{starts, one_id}

@@ -3,8 +3,8 @@ use Rattle.std.proofs.Common.{◌≡◌, ◌≢◌, Bool, true, false, List, [],
 use Rattle.std.specs.Prelude.{◌↔◌, IsTrue}
 use Rattle.id_tree.specs.IdTree.{IdTree, Zero, One, Pair}
 use Rattle.id_tree.specs.Points.{Covers}
-use Rattle.id_tree.specs.Marks.{first, later, trees_of, AreMarksOf}
-use Rattle.id_tree.specs.Tests.{covers, all_covered}
+use Rattle.id_tree.specs.working.Marks.{first, later, trees_of, AreMarksOf}
+use Rattle.id_tree.specs.working.Tests.{covers, all_covered}
 use Rattle.id_tree.specs.declared.marks.Mark.{Mark}
 use Rattle.id_tree.specs.declared.marks.Mark.TheVariants as marks
 use Rattle.id_tree.proofs.Apart.{both_true, regroup, and_true}

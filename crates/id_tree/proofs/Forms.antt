@@ -5,7 +5,7 @@ use Rattle.id_tree.specs.IdTree.{IdTree, Zero, One, Pair}
 use Rattle.id_tree.specs.NormalForm.{IsNormal, IsId, are_equal_leaves, depth, depth_limit}
 use Rattle.id_tree.specs.Spelling.{spelling}
 use Rattle.id_tree.specs.Faults.{SpellsUnnormal, SpellsDeep, IsFaultOf}
-use Rattle.id_tree.specs.Reading.{Spells, IsRunFault, IsPartFault, run, start, are_one, height, above, pair_of, part_of}
+use Rattle.id_tree.specs.working.Reading.{Spells, IsRunFault, IsPartFault, run, start, are_one, height, above, pair_of, part_of}
 use Rattle.id_tree.specs.declared.reader.Part.{Part}
 use Rattle.id_tree.specs.declared.reader.Part.TheVariants as parts
 use Rattle.id_tree.specs.declared.fault.IdFault.{IdFault}

@@ -2,7 +2,7 @@
 use Rattle.std.proofs.Common.{◌≡◌, ◌+◌, ◌*◌, ◌<◌, List, length, drop, get_or, length-append, arith, refl}
 use Rattle.id_tree.specs.IdTree.{IdTree, Zero, One, Pair}
 use Rattle.id_tree.specs.Size.{size}
-use Rattle.id_tree.specs.Marks.{first, later, trees_of, tree_of, AreMarksOf, IsBehind}
+use Rattle.id_tree.specs.working.Marks.{first, later, trees_of, tree_of, AreMarksOf, IsBehind}
 use Rattle.id_tree.specs.Spelling.{spelling}
 use Rattle.id_tree.specs.declared.marks.Mark.{Mark}
 use Rattle.id_tree.specs.declared.marks.Mark.TheVariants as marks

@@ -3,7 +3,7 @@ use Rattle.std.proofs.Common.{◌≡◌, ◌≢◌, List, [], ◌∷◌, ◌++�
 use Rattle.std.proofs.lemmas.Bool.{true≢false}
 use Rattle.std.specs.Prelude.{⊤}
 use Rattle.id_tree.specs.IdTree.{IdTree, Zero, Pair}
-use Rattle.id_tree.specs.Marks.{preorder, first, later, trees_of, tree_of, AreMarksOf}
+use Rattle.id_tree.specs.working.Marks.{preorder, first, later, trees_of, tree_of, AreMarksOf}
 use Rattle.id_tree.specs.Points.{Point}
 use Rattle.id_tree.specs.OneWay.{id_of_way, turns_of, are_nothing, is_only_way}
 use Rattle.id_tree.specs.declared.marks.Mark.{Mark}

@@ -4,7 +4,7 @@ use Rattle.std.proofs.lemmas.Bool.{and_parts, and_cases, cases_Bool, both_ways, 
 use Rattle.id_tree.specs.IdTree.{IdTree, Zero, One, Pair}
 use Rattle.id_tree.specs.Points.{Point, owns, OwnsSome, Overlap, AreDisjoint, Covers}
 use Rattle.id_tree.specs.NormalForm.{are_equal_leaves, IsNormal}
-use Rattle.id_tree.specs.Tests.{owns_any, are_disjoint, covers}
+use Rattle.id_tree.specs.working.Tests.{owns_any, are_disjoint, covers}
 
 owns_nothing : (i : IdTree) → IsNormal i → ((p : Point) → owns i p ≡ false) → i ≡ Zero
 owns_nothing Zero h same = refl

@@ -5,7 +5,7 @@ use Rattle.std.proofs.Math.ListN.{drop_of_length-le}
 use Rattle.id_tree.specs.IdTree.{IdTree, Zero, One, Pair}
 use Rattle.id_tree.specs.Size.{size}
 use Rattle.id_tree.specs.NormalForm.{IsId}
-use Rattle.id_tree.specs.Marks.{preorder, preorders, first, later, trees_of, tree_of, IsLeaf, HasTrees, IsBehind, AreMarksOf}
+use Rattle.id_tree.specs.working.Marks.{preorder, preorders, first, later, trees_of, tree_of, IsLeaf, HasTrees, IsBehind, AreMarksOf}
 use Rattle.id_tree.specs.declared.marks.Mark.{Mark}
 use Rattle.id_tree.specs.declared.marks.Mark.TheVariants as marks
 

@@ -5,7 +5,7 @@ use Rattle.std.proofs.lemmas.Bool.{eqb-true}
 use Rattle.std.proofs.Math.ListN.{drop_of_length-le}
 use Rattle.id_tree.specs.IdTree.{IdTree, Zero, One, Pair}
 use Rattle.id_tree.specs.Spelling.{spelling}
-use Rattle.id_tree.specs.Reading.{IsStepFault, IsRunFault, State, Shows, StepsTo, Spells, half_of, halves_of_pairs, last_of, part_of, step_of, leaf_read, opened, halved, closed, run, start, whole}
+use Rattle.id_tree.specs.working.Reading.{IsStepFault, IsRunFault, State, Shows, StepsTo, Spells, half_of, halves_of_pairs, last_of, part_of, step_of, leaf_read, opened, halved, closed, run, start, whole}
 use Rattle.id_tree.specs.declared.reader.Part.{Part}
 use Rattle.id_tree.specs.declared.fault.IdFault.{IdFault}
 use Rattle.id_tree.specs.declared.fault.IdFault.TheVariants.{Syntax, NotNormal, TooDeep, Memory}

@@ -1,8 +1,8 @@
 -- Which halves of a pair of marks own something.
 use Rattle.std.proofs.Common.{◌≡◌, ◌≢◌, ◌<◌, ◌∙◌, List, length, drop, get_or, ap, arith}
 use Rattle.id_tree.specs.IdTree.{Pair}
-use Rattle.id_tree.specs.Marks.{preorder, tree_of, HasTrees, IsBehind}
-use Rattle.id_tree.specs.Shape.{IsOnlyLeft, AreBoth}
+use Rattle.id_tree.specs.working.Marks.{preorder, tree_of, HasTrees, IsBehind}
+use Rattle.id_tree.specs.working.Shape.{IsOnlyLeft, AreBoth}
 use Rattle.id_tree.specs.declared.marks.Mark.{Mark}
 use Rattle.id_tree.specs.declared.marks.Mark.TheVariants as marks
 use Rattle.id_tree.proofs.Preorder.{inside_pair, one_of_two, second_half, has_marks, pair_tree, tree_of_preorder, is_nothing, is_something}

@@ -6,8 +6,8 @@ use Rattle.id_tree.specs.IdTree.{IdTree, Zero, One, Pair}
 use Rattle.id_tree.specs.NormalForm.{IsNormal, IsId, are_equal_leaves, depth_limit}
 use Rattle.id_tree.specs.Points.{owns, OwnsSome, AreDisjoint, AreTogether}
 use Rattle.id_tree.specs.Split.{left_part, right_part, parts_depth, IsSplit}
-use Rattle.id_tree.specs.Tests.{owns_any}
-use Rattle.id_tree.specs.Marks.{preorder, tree_of, AreMarksOf}
+use Rattle.id_tree.specs.working.Tests.{owns_any}
+use Rattle.id_tree.specs.working.Marks.{preorder, tree_of, AreMarksOf}
 use Rattle.id_tree.specs.declared.marks.Mark.{Mark}
 use Rattle.id_tree.proofs.Preorder.{are_of, tree_of_preorder}
 use Rattle.id_tree.proofs.Points.{some_point}

@@ -3,7 +3,7 @@ use Rattle.std.proofs.Common.{◌≡◌, ℕ, List, [], ◌∷◌, ◌++◌, len
 use Rattle.std.specs.Prelude.{reverse}
 use Rattle.std.proofs.lemmas.List.{reverse-append, append_cancel_right}
 use Rattle.id_tree.specs.IdTree.{IdTree, Zero, One, Pair}
-use Rattle.id_tree.specs.Reading.{State, Shows, StepsTo, halves_of_pairs, part_of, pair_of, right_of, left_of, step_of}
+use Rattle.id_tree.specs.working.Reading.{State, Shows, StepsTo, halves_of_pairs, part_of, pair_of, right_of, left_of, step_of}
 use Rattle.id_tree.specs.declared.reader.Part.{Part}
 use Rattle.id_tree.specs.declared.reader.Part.TheVariants as parts
 use Rattle.id_tree.specs.declared.reader.Half.{Half}

@@ -6,8 +6,8 @@ use Rattle.id_tree.specs.IdTree.{IdTree, Zero, One, Pair}
 use Rattle.id_tree.specs.NormalForm.{IsNormal, IsId, are_equal_leaves, depth}
 use Rattle.id_tree.specs.Points.{Point, owns, AreDisjoint, AreTogether}
 use Rattle.id_tree.specs.Sum.{normal_pair, sum_of}
-use Rattle.id_tree.specs.Tests.{are_disjoint, IsSumBy}
-use Rattle.id_tree.specs.Marks.{preorder, tree_of, AreMarksOf}
+use Rattle.id_tree.specs.working.Tests.{are_disjoint, IsSumBy}
+use Rattle.id_tree.specs.working.Marks.{preorder, tree_of, AreMarksOf}
 use Rattle.id_tree.specs.declared.marks.Mark.{Mark}
 use Rattle.id_tree.proofs.Preorder.{are_of, tree_of_preorder}
 use Rattle.id_tree.proofs.Points.{equal_points, some_point, disjoint_from}

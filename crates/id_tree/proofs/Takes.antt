@@ -4,9 +4,9 @@ use Rattle.std.proofs.lemmas.Bool.{both_ways}
 use Rattle.id_tree.specs.IdTree.{IdTree, Zero, One, Pair}
 use Rattle.id_tree.specs.NormalForm.{IsNormal, are_equal_leaves, depth}
 use Rattle.id_tree.specs.Spelling.{spelling}
-use Rattle.id_tree.specs.Marks.{preorder}
+use Rattle.id_tree.specs.working.Marks.{preorder}
 use Rattle.id_tree.specs.Faults.{SpellsUnnormal}
-use Rattle.id_tree.specs.Taking.{IsFormOf, pair_form, is_normal, IsTaken, IsWhole, BeginsNot, IsLeafPut, IsHalt, IsHaltOfWhole}
+use Rattle.id_tree.specs.working.Taking.{IsFormOf, pair_form, is_normal, IsTaken, IsWhole, BeginsNot, IsLeafPut, IsHalt, IsHaltOfWhole}
 use Rattle.id_tree.specs.declared.marks.Mark.{Mark}
 use Rattle.id_tree.specs.declared.marks.Mark.TheVariants as marks
 use Rattle.id_tree.specs.declared.straight.Taken.{Taken}

@@ -10,12 +10,12 @@ ghost use Rattle.id_tree.specs.IdTree.{IdTree, Zero, One};
 ghost use Rattle.id_tree.specs.Points.{Point, owns, OwnsSome, Overlap, AreDisjoint, AreTogether, Covers};
 ghost use Rattle.id_tree.specs.OneWay.{id_of_way};
 ghost use Rattle.id_tree.specs.Size.{size};
-ghost use Rattle.id_tree.specs.Marks.{tree_of, IsLeaf, AreMarksOf};
+ghost use Rattle.id_tree.specs.working.Marks.{tree_of, IsLeaf, AreMarksOf};
 ghost use Rattle.id_tree.specs.NormalForm.{IsId, IsNormal, depth, depth_limit};
 ghost use Rattle.id_tree.specs.Spelling.{spelling, is_tree_byte};
 ghost use Rattle.id_tree.specs.Faults.{IsFaultOf};
-ghost use Rattle.id_tree.specs.Reading.{IsPartFault};
-ghost use Rattle.id_tree.specs.Taking.{IsHaltOfWhole};
+ghost use Rattle.id_tree.specs.working.Reading.{IsPartFault};
+ghost use Rattle.id_tree.specs.working.Taking.{IsHaltOfWhole};
 ghost use Rattle.id_tree.specs.Split.{left_part, right_part, parts_depth, IsSplit};
 ghost use Rattle.id_tree.specs.Sum.{sum_of};
 
@@ -51,7 +51,7 @@ pub struct Id {
 
 impl Model for Id {
     ghost use Rattle.id_tree.specs.IdTree.{IdTree, id_tree_code};
-    ghost use Rattle.id_tree.specs.Marks.{tree_of, AreMarksOf};
+    ghost use Rattle.id_tree.specs.working.Marks.{tree_of, AreMarksOf};
 
     ghost Value = { IdTree };
 

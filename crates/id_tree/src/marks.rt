@@ -3,8 +3,8 @@
 ghost use Rattle.std.specs.Prelude.{◌≡◌, ◌≢◌, ◌↔◌, ◌≤◌, ◌<◌, ◌++◌, ◌+◌, IsTrue, IfOk, OnOk, OnErr, IsErrOf, take, drop, get_or, length, List};
 ghost use Rattle.id_tree.specs.IdTree.{IdTree, Pair};
 ghost use Rattle.id_tree.specs.Sum.{normal_pair, sum_of};
-ghost use Rattle.id_tree.specs.Marks.{trees_of, tree_of, first, later, preorder, HasTrees, IsBehind};
-ghost use Rattle.id_tree.specs.Tests.{all_covered, all_disjoint, owns_any};
+ghost use Rattle.id_tree.specs.working.Marks.{trees_of, tree_of, first, later, preorder, HasTrees, IsBehind};
+ghost use Rattle.id_tree.specs.working.Tests.{all_covered, all_disjoint, owns_any};
 ghost use Rattle.id_tree.specs.declared.marks.Mark.TheVariants as marked;
 
 use smallvec::SmallVec;

@@ -3,8 +3,8 @@
 ghost use Rattle.std.specs.Prelude.{◌≡◌, ◌↔◌, ◌≤◌, ◌++◌, IsTrue, OnOk, slice_index_or};
 ghost use Rattle.id_tree.specs.NormalForm.{depth};
 ghost use Rattle.id_tree.specs.Split.{left_part, right_part, parts_depth};
-ghost use Rattle.id_tree.specs.Marks.{tree_of, preorder, HasTrees};
-ghost use Rattle.id_tree.specs.Shape.{IsShape};
+ghost use Rattle.id_tree.specs.working.Marks.{tree_of, preorder, HasTrees};
+ghost use Rattle.id_tree.specs.working.Shape.{IsShape};
 ghost use Rattle.id_tree.specs.declared.marks.Mark.TheVariants as marked;
 
 use crate::marks::{Mark, Marks, is_same, split_first_tree};

@@ -1,8 +1,8 @@
 //! Reads a spelling of any depth in a loop, for the fault that it has. No marks are kept, only what is told of the trees around it.
 
 ghost use Rattle.std.specs.Prelude.{◌≡◌, ◌++◌, ◌∷◌, [], IfOk, IfErr};
-ghost use Rattle.id_tree.specs.Reading.{State, Shows, StepsTo, Spells, IsStepFault, IsRunFault, step_of, run, start};
-ghost use Rattle.id_tree.specs.Reading as reading;
+ghost use Rattle.id_tree.specs.working.Reading.{State, Shows, StepsTo, Spells, IsStepFault, IsRunFault, step_of, run, start};
+ghost use Rattle.id_tree.specs.working.Reading as reading;
 
 use crate::fault::IdFault;
 use std::alloc::Global;

@@ -2,8 +2,8 @@
 //! which is not in normal form, where nothing else stops the pass.
 
 ghost use Rattle.std.specs.Prelude.{◌≡◌, ◌∷◌, ◌++◌, MatchOption, IfOk, IfErr, OnOk, []};
-ghost use Rattle.id_tree.specs.Taking.{BeginsNot, IsLeafPut, IsTaken, IsHalt, IsWhole, IsHaltOfWhole};
-ghost use Rattle.id_tree.specs.Taking as taking;
+ghost use Rattle.id_tree.specs.working.Taking.{BeginsNot, IsLeafPut, IsTaken, IsHalt, IsWhole, IsHaltOfWhole};
+ghost use Rattle.id_tree.specs.working.Taking as taking;
 
 use crate::marks::{Mark, Marks};
 use smallvec::SmallVec;

@@ -2,7 +2,7 @@
 
 ghost use Rattle.std.specs.Prelude.{◌≡◌, ◌≤◌, ◌+◌, ◌++◌, length, vec_len, vec_capacity};
 ghost use Rattle.id_tree.specs.Spelling.{spelling};
-ghost use Rattle.id_tree.specs.Marks.{tree_of, AreMarksOf, HasTrees, IsBehind};
+ghost use Rattle.id_tree.specs.working.Marks.{tree_of, AreMarksOf, HasTrees, IsBehind};
 
 use crate::marks::Mark;
 

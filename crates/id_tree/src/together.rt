@@ -1,7 +1,7 @@
 //! Whether one id is the sum of two others, by a walk of the three.
 
 ghost use Rattle.std.specs.Prelude.{◌≡◌, ◌↔◌, IsTrue};
-ghost use Rattle.id_tree.specs.Tests.{IsSumBy};
+ghost use Rattle.id_tree.specs.working.Tests.{IsSumBy};
 
 use crate::view::{IdPart, IdView};
 

@@ -3,7 +3,7 @@
 ghost use Rattle.std.specs.Prelude.{◌≡◌, ◌↔◌, IsTrue};
 ghost use Rattle.id_tree.specs.IdTree.{Zero, One};
 ghost use Rattle.id_tree.specs.View.{Shows};
-ghost use Rattle.id_tree.specs.Marks.{tree_of};
+ghost use Rattle.id_tree.specs.working.Marks.{tree_of};
 
 use crate::marks::{Mark, split_first_tree};
 use std::marker::Model;
@@ -16,7 +16,7 @@ pub struct IdView<'a> {
 
 impl<'a> Model for IdView<'a> {
     ghost use Rattle.id_tree.specs.IdTree.{IdTree, id_tree_code};
-    ghost use Rattle.id_tree.specs.Marks.{tree_of};
+    ghost use Rattle.id_tree.specs.working.Marks.{tree_of};
 
     ghost Value = { IdTree };
 

@@ -14,11 +14,11 @@ use Rattle.report_line.specs.declared.report.Report.{Report}
 use Rattle.report_line.specs.declared.report.Report.TheVariants.{Begin, Numbered}
 use Rattle.chains.specs.Processes.{Name, known, IsKnown, absorbs, is_absorb_of}
 use Rattle.chains.specs.Elements.{name_of}
-use Rattle.chains.specs.Inside.{AreDistinctNames}
+use Rattle.chains.specs.working.Inside.{AreDistinctNames}
 use Rattle.chains.proofs.LookUps.{known_from}
 use Rattle.chains.proofs.Stepping.{same_bytes, other_bytes}
 use Rattle.chains.proofs.Failing.{same_number}
-use Rattle.inspection.specs.Absorbed.{retired_by, retired_in, AreFlaggedTo, AreFlagged}
+use Rattle.inspection.specs.working.Absorbed.{retired_by, retired_in, AreFlaggedTo, AreFlagged}
 
 -- ---- which process a report absorbs
 

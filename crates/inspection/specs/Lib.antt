@@ -1,7 +1,7 @@
-pub mod Absorbed
 pub mod Strings
 pub mod Processes
 pub mod Tables
 pub mod Numbered
 pub mod Lines
 pub mod Json
+pub mod working

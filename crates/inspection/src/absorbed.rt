@@ -2,7 +2,7 @@
 
 ghost use Rattle.std.specs.Prelude.{◌≡◌, ◌+◌, IfOk, option_copied};
 ghost use Rattle.report_line.specs.View.{action_of};
-ghost use Rattle.inspection.specs.Absorbed.{retired_by, retired_in, AreFlaggedTo, AreFlagged};
+ghost use Rattle.inspection.specs.working.Absorbed.{retired_by, retired_in, AreFlaggedTo, AreFlagged};
 
 use chains::Chains;
 use report_line::{ActionView, Name, PackedReport, ReportView};

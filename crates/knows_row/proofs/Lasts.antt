@@ -13,7 +13,7 @@ use Rattle.chains.specs.Processes.{known, last_events}
 use Rattle.chains.specs.Elements.{elements, name_of}
 use Rattle.chains.specs.Positions.{is_retired, last_rank, place_at}
 use Rattle.chains.specs.Knowledge.{retired_events}
-use Rattle.knows_row.specs.Knowing.{KnowsAt, KnowsRank, IsLawful}
+use Rattle.knows_row.specs.Knowing.{KnowsAt, KnowsRank, AreLawfulPlaces}
 use Rattle.knows_row.specs.Looks.{IsFirstKnown, IsLoweredFrom, AreBoundsOf, all_known, last_ranks, ranks_past_all}
 use Rattle.knows_row.specs.Needs.{AreUnknown, IsUnknownAtLast, IsUnknownCount}
 use Rattle.knows_row.specs.Thresholds.{AreThresholdsOf}
@@ -102,7 +102,7 @@ module _ (accepted : List Report) where
   all_below n e = All-weaker (Contains (all_known accepted)) (λ (q : ℕ). q < n) (λ q contains. omega (arith, in_all q contains, e)) (all_known accepted) (All-contains_itself (all_known accepted))
 
   -- a cut within the last ranks may be made of the ranks behind all elements
-  pub first_lowered : IsLawful accepted → (tops : List ℕ) → length tops ≡ length (known accepted) → ((p : ℕ) → p < length tops → slice_index tops p ≤ last_rank accepted p)
+  pub first_lowered : AreLawfulPlaces accepted → (tops : List ℕ) → length tops ≡ length (known accepted) → ((p : ℕ) → p < length tops → slice_index tops p ≤ last_rank accepted p)
       → IsLoweredFrom accepted (ranks_past_all accepted) tops
   first_lowered laws tops complete within = record {
     complete = past_len ∙ sym complete;
@@ -118,7 +118,7 @@ module _ (accepted : List Report) where
       let b : slice_index before q ≡ length (elements accepted q) + 1 = ap (λ (xs : List ℕ). slice_index xs q) are_past ∙ past_at q qin in
       omega (arith, a, b, last_below accepted q)
 
-  pub bounds_at_last : IsLawful accepted → (rows : List (List EventTree)) → AreThresholdsOf accepted (last_ranks accepted) (ranks_past_all accepted) (all_known accepted) rows
+  pub bounds_at_last : AreLawfulPlaces accepted → (rows : List (List EventTree)) → AreThresholdsOf accepted (last_ranks accepted) (ranks_past_all accepted) (all_known accepted) rows
       → AreBoundsOf accepted (last_ranks accepted) (all_known accepted) rows
   bounds_at_last laws rows h = record {
     within = within;
@@ -133,7 +133,7 @@ module _ (accepted : List Report) where
       within p lt = omega (arith, last_at p (omega (arith, lt, lasts_len)))
 
   -- the same of lists that are these
-  pub bounds_of : IsLawful accepted → (lasts before all : List ℕ) (rows : List (List EventTree)) → lasts ≡ last_ranks accepted → before ≡ ranks_past_all accepted → all ≡ all_known accepted
+  pub bounds_of : AreLawfulPlaces accepted → (lasts before all : List ℕ) (rows : List (List EventTree)) → lasts ≡ last_ranks accepted → before ≡ ranks_past_all accepted → all ≡ all_known accepted
       → AreThresholdsOf accepted lasts before all rows → AreBoundsOf accepted (last_ranks accepted) (all_known accepted) rows
   bounds_of laws lasts before all rows are_lasts are_past are_all h =
       bounds_at_last laws rows
@@ -174,11 +174,11 @@ module _ (accepted : List Report) where
     }
 
   -- what the last place does not know after the last place, it knows at no element from there on
-  pub unknown_from : IsLawful accepted → (p q : ℕ) → IsUnknownAtLast accepted p q → (k : ℕ) → last_rank accepted q ≤ k → ¬ KnowsAt accepted (place_at accepted p (last_rank accepted p)) q k
+  pub unknown_from : AreLawfulPlaces accepted → (p q : ℕ) → IsUnknownAtLast accepted p q → (k : ℕ) → last_rank accepted q ≤ k → ¬ KnowsAt accepted (place_at accepted p (last_rank accepted p)) q k
   unknown_from laws p q unknown k le known = unknown (laws.from_element p (last_rank accepted p) q (last_rank accepted q) k le known)
 
   -- what a table says of a place, in one step
-  pub unknown_at : IsLawful accepted → (p rank bound q : ℕ) (place : Place) (lasts unknown : List ℕ) → p < length (known accepted) → q < length (known accepted) → lasts ≡ last_ranks accepted
+  pub unknown_at : AreLawfulPlaces accepted → (p rank bound q : ℕ) (place : Place) (lasts unknown : List ℕ) → p < length (known accepted) → q < length (known accepted) → lasts ≡ last_ranks accepted
       → AreUnknown accepted unknown → rank ≡ slice_index lasts p → place ≡ place_at accepted p rank → q < slice_index unknown p → bound ≡ slice_index lasts q
       → (k : ℕ) → bound ≤ k → ¬ KnowsAt accepted place q k
   unknown_at laws p rank bound q place lasts unknown pin qin are_lasts h is at below end k le known =

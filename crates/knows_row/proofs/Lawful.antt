@@ -2,10 +2,10 @@
 use Rattle.std.proofs.Common.{List}
 use Rattle.report_line.specs.declared.report.Report.{Report}
 use Rattle.chains.specs.Folded.{IsFolded}
-use Rattle.knows_row.specs.Knowing.{IsLawful}
+use Rattle.knows_row.specs.Knowing.{AreLawfulPlaces}
 use Rattle.knows_row.proofs.Laws.{later_at, rank_from_at, at_from_rank, later, earlier, unborn, own, ended}
 
-pub lawful : (accepted : List Report) → IsFolded accepted → IsLawful accepted
+pub lawful : (accepted : List Report) → IsFolded accepted → AreLawfulPlaces accepted
 lawful accepted folded = record {
   unborn = unborn accepted;
   own = own accepted;

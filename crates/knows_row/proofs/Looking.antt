@@ -12,7 +12,7 @@ use Rattle.chains.specs.Elements.{elements, element}
 use Rattle.chains.specs.Knowledge.{events_at, Knows}
 use Rattle.knows_row.specs.Knowing.{KnowsAt, IsNeed, IsLastKnown}
 use Rattle.knows_row.proofs.Laws.{at_from_knows, element_within}
-use Rattle.knows_row.specs.Beyond.{numbered, IsBeyondAt, IsLastBeyond}
+use Rattle.knows_row.specs.working.Beyond.{numbered, IsBeyondAt, IsLastBeyond}
 
 -- beyond none of the elements from `from` on and below `to`
 abbrev pub NoneOf : EventTree → List Stamp → ℕ → ℕ → Type 0

@@ -9,7 +9,7 @@ use Rattle.event_tree.specs.Values.{IsAtOrBelow, ExceedsOn}
 use Rattle.stamp.specs.declared.stamp.Stamp.{Stamp}
 use Rattle.chains.specs.LastRun.{last_run}
 use Rattle.chains.proofs.LastRun.{run_same}
-use Rattle.knows_row.specs.Beyond.{numbered, IsBeyondAt, IsBeyondFrom, AreRising}
+use Rattle.knows_row.specs.working.Beyond.{numbered, IsBeyondAt, IsBeyondFrom, AreRising}
 use Rattle.knows_row.proofs.Looking.{NoneOf}
 
 -- the events are beyond no element from k on up to this one, which has this id

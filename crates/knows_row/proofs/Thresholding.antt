@@ -21,8 +21,8 @@ use Rattle.chains.specs.Elements.{elements, element, elements_of, name_of}
 use Rattle.chains.specs.LastRun.{last_run}
 use Rattle.chains.specs.Positions.{place_at, last_rank}
 use Rattle.chains.specs.Knowledge.{events_at}
-use Rattle.knows_row.specs.Beyond.{numbered, IsBeyondAt, AreRising, AddsNothing}
-use Rattle.knows_row.specs.Knowing.{KnowsRank, IsLawful}
+use Rattle.knows_row.specs.working.Beyond.{numbered, IsBeyondAt, AreRising, AddsNothing}
+use Rattle.knows_row.specs.Knowing.{KnowsRank, AreLawfulPlaces}
 use Rattle.knows_row.proofs.Rising.{Rise, nothing_below, below_later, elements_rise}
 use Rattle.knows_row.proofs.Laws.{at_element}
 use Rattle.knows_row.proofs.Repeated.{beyond_earlier}
@@ -362,7 +362,7 @@ own_none accepted p x k v folded le is h =
     own_later accepted p x k v folded le within
     (sym (ap (λ (j : Position). events_at accepted (record { process = p; position = j })) (at_element accepted p x (omega (arith, le, within)))) ∙ is) h
 
-module _ (accepted : List Report) (cut before : List ℕ) (laws : IsLawful accepted) (folded : IsFolded accepted) (low : IsLoweredFrom accepted before cut) (p x : ℕ) (v : EventTree)
+module _ (accepted : List Report) (cut before : List ℕ) (laws : AreLawfulPlaces accepted) (folded : IsFolded accepted) (low : IsLoweredFrom accepted before cut) (p x : ℕ) (v : EventTree)
     (pin : p < length cut) (le : x ≤ slice_index cut p) (top : slice_index cut p ≤ last_rank accepted p) (is : events_at accepted (place_at accepted p x) ≡ Some v) where
   -- what is beyond one of the elements of q that came behind its rank knows q
   from_one : (q : ℕ) → IsBeyondOne accepted q (slice_index cut q) (slice_index before q) v → KnowsRank accepted p x q (slice_index cut q)
@@ -422,7 +422,7 @@ pub tested : (b : Bool) (A B : Type 0) → IsTrue b ↔ A → A ↔ B → IsTrue
 tested b A B h k = (λ t. k.0 (h.0 t), λ x. h.1 (k.1 x))
 
 -- a place without events knows nothing
-pub nothing_there : (accepted : List Report) (p x q k : ℕ) → IsLawful accepted → events_at accepted (place_at accepted p x) ≡ None → ¬ KnowsRank accepted p x q k
+pub nothing_there : (accepted : List Report) (p x q k : ℕ) → AreLawfulPlaces accepted → events_at accepted (place_at accepted p x) ≡ None → ¬ KnowsRank accepted p x q k
 nothing_there accepted p x q k laws none knows =
     let at = laws.by_element p x q k knows in
     let e = sym none ∙ at.2.beyond.there in absurd cc

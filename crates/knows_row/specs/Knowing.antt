@@ -35,7 +35,7 @@ abbrev pub KnowsRank : List Report → ℕ → ℕ → ℕ → ℕ → Type 0
 KnowsRank accepted p x q k = Knows accepted (place_at accepted p x) q (position_at accepted q k)
 
 -- what holds of the places of accepted reports
-pub record IsLawful (accepted : List Report) : Type 0 where
+pub record AreLawfulPlaces (accepted : List Report) : Type 0 where
   -- nothing is known at rank 0, nor of a process by itself, nor after its last element
   pub unborn : (p q k : ℕ) → ¬ KnowsRank accepted p 0 q k
   pub own : (p x k : ℕ) → ¬ KnowsRank accepted p x p k

@@ -1,5 +1,5 @@
 pub mod Knowing
-pub mod Beyond
 pub mod Thresholds
 pub mod Looks
 pub mod Needs
+pub mod working

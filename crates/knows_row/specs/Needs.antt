@@ -2,7 +2,7 @@
 use Rattle.std.specs.Prelude.{◌≡◌, ℕ, ◌<◌, List, length, slice_index, refl}
 use Rattle.std.specs.Coded.{Coded, code_by, coded×, coded_list}
 use Rattle.event_tree.specs.EventTree.{EventTree, event_tree_code}
-use Rattle.report_line.specs.Codes.{report_code}
+use Rattle.report_line.specs.working.Codes.{report_code}
 use Rattle.report_line.specs.declared.report.Report.{Report}
 use Rattle.chains.specs.Processes.{known}
 use Rattle.chains.specs.Positions.{last_rank}

@@ -7,7 +7,7 @@ use Rattle.event_tree.specs.Values.{value_at}
 use Rattle.event_tree.specs.NormalForm.{greatest, value_limit}
 use Rattle.report_line.specs.declared.report.Report.{Report}
 use Rattle.chains.specs.Elements.{elements}
-use Rattle.knows_row.specs.Beyond.{IsBeyondAt}
+use Rattle.knows_row.specs.working.Beyond.{IsBeyondAt}
 
 -- at some point the events are greater than the tree
 abbrev pub Passes : EventTree → EventTree → Type 0

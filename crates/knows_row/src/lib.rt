@@ -14,8 +14,8 @@ ghost use Rattle.chains.specs.Processes.{known};
 ghost use Rattle.chains.specs.Positions.{last_rank};
 ghost use Rattle.chains.specs.Knowledge.{Knows, events_at};
 ghost use Rattle.chains.specs.Folded.{IsFolded};
-ghost use Rattle.knows_row.specs.Knowing.{KnowsAt, IsLawful, KnowsRank, IsNeed, IsLastKnown};
-ghost use Rattle.knows_row.specs.Beyond.{IsBeyondAt, IsBeyondFrom, IsLastBeyond, AreRising};
+ghost use Rattle.knows_row.specs.Knowing.{KnowsAt, AreLawfulPlaces, KnowsRank, IsNeed, IsLastKnown};
+ghost use Rattle.knows_row.specs.working.Beyond.{IsBeyondAt, IsBeyondFrom, IsLastBeyond, AreRising};
 
 pub use by_runs::needs;
 use chains::{Chains, Elements, Place, Position};
@@ -72,7 +72,7 @@ pub fn last_known(chains: &Chains, place: Place, process: u32, from: u32, to: u3
 /// What holds of the knowledge over each folded list: among others, that what is known at a place is known at each later
 /// place of its process.
 pub fn knowledge_is_lawful()
-    ensures { (accepted : List Report) → IsFolded accepted → IsLawful accepted }
+    ensures { (accepted : List Report) → IsFolded accepted → AreLawfulPlaces accepted }
 {}
 
 /// The events of the place, if it has some and the process is another known one.

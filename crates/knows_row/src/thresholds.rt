@@ -7,7 +7,7 @@ ghost use Rattle.event_tree.specs.Values.{ExceedsOn};
 ghost use Rattle.event_tree.specs.NormalForm.{greatest, value_limit};
 ghost use Rattle.chains.specs.Processes.{known};
 ghost use Rattle.chains.specs.Elements.{elements};
-ghost use Rattle.knows_row.specs.Beyond.{IsBeyondAt, AreRising, AddsNothing};
+ghost use Rattle.knows_row.specs.working.Beyond.{IsBeyondAt, AreRising, AddsNothing};
 ghost use Rattle.knows_row.specs.Thresholds.{Passes, IsThreshold, tree_in, AreThresholds, PassesTwo, IsHalved, AreRows, PassesOne, IsFirstPassed, AreThresholdsOf};
 
 use chains::{Chains, Elements};

@@ -14,8 +14,8 @@ use Rattle.report_line.specs.declared.report.Report.TheVariants.{Numbered}
 use Rattle.report_line.specs.declared.step.Deed.{Deed}
 use Rattle.report_line.specs.declared.step.Deed.TheVariants.{Work, Check, Present, Send, Receive, Fork, Retire, Absorb}
 use Rattle.report_line.specs.declared.step.Step.{Step}
-use Rattle.report_line.specs.History.{Name, History, status}
-use Rattle.report_line.specs.StepReports.{is_reported, reporting_steps, id_of, report_by}
+use Rattle.report_line.specs.histories.History.{Name, History, status}
+use Rattle.report_line.specs.histories.StepReports.{is_reported, reporting_steps, id_of, report_by}
 use Rattle.chains.specs.Processes.{child_of, absorbs, target_in, id_kept}
 use Rattle.chains.proofs.Stepping.{some_name}
 use Rattle.histories.proofs.Bytes.{bytes_are}

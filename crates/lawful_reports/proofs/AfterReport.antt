@@ -15,9 +15,9 @@ use Rattle.report_line.specs.declared.report.Report.{Report}
 use Rattle.report_line.specs.declared.report.Report.TheVariants.{Numbered}
 use Rattle.report_line.specs.declared.step.Deed.TheVariants.{Fork, Absorb}
 use Rattle.report_line.specs.declared.step.Step.{Step}
-use Rattle.report_line.specs.History.{Name, History, Event, Unborn, Living, Retired, status, last_of, event_of, birth_by}
-use Rattle.report_line.specs.Lawful.{IsAllowed}
-use Rattle.report_line.specs.StepReports.{is_reported, reporting_steps}
+use Rattle.report_line.specs.histories.History.{Name, History, Event, Unborn, Living, Retired, status, last_of, event_of, birth_by}
+use Rattle.report_line.specs.histories.Lawful.{IsAllowed}
+use Rattle.report_line.specs.histories.StepReports.{is_reported, reporting_steps}
 use Rattle.chains.specs.Processes.{child_of, target_after, IsKnown, is_birth_of, last_report, birth_report, reports_of, registered_id, last_events, events_after, first_of, target_in, target_of, absorbs, is_absorbed, Waits}
 use Rattle.chains.proofs.Stepping.{known_cases, known_new, still_known, same_bytes, other_bytes, passing, failing, doing, own_report, other_report, other_target, own_id, other_id, child_id, absorbed-push}
 use Rattle.chains.proofs.Accepting.{reports-push, no_birth}

@@ -6,7 +6,7 @@ use Rattle.id_tree.specs.IdTree.{IdTree}
 use Rattle.report_line.specs.declared.step.Deed.{Deed}
 use Rattle.report_line.specs.declared.step.Deed.TheVariants.{Work, Check, Present, Send, Receive, Fork, Retire, Absorb}
 use Rattle.report_line.specs.declared.step.Step.{Step}
-use Rattle.report_line.specs.History.{Name, History, Event, Status, Unborn, Living, Retired, Absorbed, status_of_actor, status_of_other, status, last_of, event_of, birth_by}
+use Rattle.report_line.specs.histories.History.{Name, History, Event, Status, Unborn, Living, Retired, Absorbed, status_of_actor, status_of_other, status, last_of, event_of, birth_by}
 use Rattle.histories.proofs.Bytes.{cases_name, bytes_same, bytes_other}
 use Rattle.histories.proofs.Status.{status_acts, status_others}
 

@@ -13,8 +13,8 @@ use Rattle.report_line.specs.declared.step.Deed.TheVariants.{Retire}
 use Rattle.report_line.specs.declared.step.Step.{Step}
 use Rattle.report_line.specs.Names.{is_letter, is_name_byte, is_name}
 use Rattle.report_line.specs.Spelling.{IsCount, IsAction}
-use Rattle.report_line.specs.History.{Name, status}
-use Rattle.report_line.specs.Lawful.{IsLawful, next}
+use Rattle.report_line.specs.histories.History.{Name, status}
+use Rattle.report_line.specs.histories.Lawful.{IsLawful, next}
 use Rattle.histories.specs.Example.{a, b, c, d, left, right, halves, act, every_step}
 use Rattle.histories.proofs.Example.{below, every_step_is_lawful}
 use Rattle.lawful_reports.specs.HandedOver.{handed_over, HasLine, IsTargetBorn, IsReportable}

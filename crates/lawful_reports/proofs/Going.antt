@@ -4,7 +4,7 @@ use Rattle.std.proofs.lemmas.List.Elements.{All-head, All-tail}
 use Rattle.report_line.specs.declared.report.Report.{Report}
 use Rattle.report_line.specs.declared.reply.Reply.{Reply}
 use Rattle.report_line.specs.declared.reply.Reply.TheVariants.{Accepted}
-use Rattle.report_line.specs.History.{Name, History}
+use Rattle.report_line.specs.histories.History.{Name, History}
 use Rattle.chains.specs.Held.{Held, present, with_report}
 use Rattle.chains.specs.Admission.{FitsOrNot, held_after}
 use Rattle.chains.specs.Turns.{Fate, fine, memory, before, unknown, IsReportTurn, IsReported}

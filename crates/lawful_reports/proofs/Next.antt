@@ -9,9 +9,9 @@ use Rattle.report_line.specs.declared.report.Report.{Report}
 use Rattle.report_line.specs.declared.report.Report.TheVariants.{Begin, Numbered}
 use Rattle.report_line.specs.declared.reply.Reply.{Reply}
 use Rattle.report_line.specs.declared.step.Step.{Step}
-use Rattle.report_line.specs.History.{Name, History, Event, Living, status}
-use Rattle.report_line.specs.Lawful.{IsAllowed, IsLawful, start, next}
-use Rattle.report_line.specs.StepReports.{report_of}
+use Rattle.report_line.specs.histories.History.{Name, History, Event, Living, status}
+use Rattle.report_line.specs.histories.Lawful.{IsAllowed, IsLawful, start, next}
+use Rattle.report_line.specs.histories.StepReports.{report_of}
 use Rattle.chains.specs.Held.{Held}
 use Rattle.chains.specs.Processes.{known}
 use Rattle.chains.specs.Admission.{IsReportReply, IsBeginReply, FitsOrNot}

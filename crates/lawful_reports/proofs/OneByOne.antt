@@ -11,7 +11,7 @@ use Rattle.report_line.specs.declared.report.Report.{Report}
 use Rattle.report_line.specs.declared.reply.Outcome.{Outcome}
 use Rattle.report_line.specs.declared.reply.Reply.{Reply}
 use Rattle.report_line.specs.declared.reply.Reply.TheVariants.{Accepted, No, Fail}
-use Rattle.report_line.specs.History.{Name, History}
+use Rattle.report_line.specs.histories.History.{Name, History}
 use Rattle.chains.specs.declared.refusal.Admitted.{Admitted}
 use Rattle.chains.specs.declared.refusal.Admitted.TheVariants as admitted
 use Rattle.chains.specs.declared.refusal.No.{No as Refusal}

@@ -7,9 +7,9 @@ use Rattle.report_line.specs.declared.report.Report.{Report}
 use Rattle.report_line.specs.declared.step.Deed.{Deed}
 use Rattle.report_line.specs.declared.step.Deed.TheVariants.{Work, Check, Present, Send, Receive, Fork, Retire, Absorb}
 use Rattle.report_line.specs.declared.step.Step.{Step}
-use Rattle.report_line.specs.History.{Name, Message, History, Event, Unborn, Living, Retired, status_of_actor, status, last_of, event_of}
-use Rattle.report_line.specs.Lawful.{IsSameId, IsAllowed}
-use Rattle.report_line.specs.StepReports.{is_reported, reporting_steps}
+use Rattle.report_line.specs.histories.History.{Name, Message, History, Event, Unborn, Living, Retired, status_of_actor, status, last_of, event_of}
+use Rattle.report_line.specs.histories.Lawful.{IsSameId, IsAllowed}
+use Rattle.report_line.specs.histories.StepReports.{is_reported, reporting_steps}
 use Rattle.chains.specs.Processes.{IsKnown, last_report, last_events, target_of, is_absorbed, Waits}
 use Rattle.histories.proofs.Status.{Holds}
 use Rattle.histories.proofs.Steps.{never_falls_by}

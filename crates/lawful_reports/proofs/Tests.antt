@@ -20,9 +20,9 @@ use Rattle.report_line.specs.declared.reply.Reply.{Reply}
 use Rattle.report_line.specs.declared.step.Deed.{Deed}
 use Rattle.report_line.specs.declared.step.Deed.TheVariants.{Work, Check, Present, Send, Receive, Fork, Retire, Absorb}
 use Rattle.report_line.specs.declared.step.Step.{Step}
-use Rattle.report_line.specs.History.{Name, History, Event, Living, Retired, status, last_of}
-use Rattle.report_line.specs.Lawful.{IsSameId, IsAllowed}
-use Rattle.report_line.specs.StepReports.{reporting_steps, id_of, report_by}
+use Rattle.report_line.specs.histories.History.{Name, History, Event, Living, Retired, status, last_of}
+use Rattle.report_line.specs.histories.Lawful.{IsSameId, IsAllowed}
+use Rattle.report_line.specs.histories.StepReports.{reporting_steps, id_of, report_by}
 use Rattle.chains.specs.Held.{Held}
 use Rattle.chains.specs.Processes.{last_report, last_events, registered_id, expected_id, Waits}
 use Rattle.chains.specs.Admission.{Decides, IsReportReply, FitsOrNot, AreGrown, IsActionReply, IsStampReply, IsWaitingReply, IsStandingReply}

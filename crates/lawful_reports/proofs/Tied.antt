@@ -8,9 +8,9 @@ use Rattle.event_tree.specs.Values.{value_at, IsAtOrBelow}
 use Rattle.report_line.specs.declared.report.NumberedReport.{NumberedReport}
 use Rattle.report_line.specs.declared.report.Report.{Report}
 use Rattle.report_line.specs.declared.report.Report.TheVariants.{Begin, Numbered}
-use Rattle.report_line.specs.History.{Name, History, Event, Unborn, Living, Retired, status, last_of, birth_of_root}
-use Rattle.report_line.specs.Lawful.{IsSameId}
-use Rattle.report_line.specs.StepReports.{reporting_steps}
+use Rattle.report_line.specs.histories.History.{Name, History, Event, Unborn, Living, Retired, status, last_of, birth_of_root}
+use Rattle.report_line.specs.histories.Lawful.{IsSameId}
+use Rattle.report_line.specs.histories.StepReports.{reporting_steps}
 use Rattle.chains.specs.Processes.{IsKnown, is_birth_of, last_report, reports_of, registered_id, last_events, events_after, first_of, id_at_birth, target_of, is_absorbed, Waits}
 use Rattle.chains.proofs.Stepping.{known_cases, known_new, same_bytes, some_name, passing}
 use Rattle.std.proofs.lemmas.Bool.{cond-false}

@@ -7,7 +7,7 @@ use Rattle.report_line.specs.declared.report.Action.TheVariants as acts
 use Rattle.report_line.specs.declared.report.Report.{Report}
 use Rattle.report_line.specs.declared.report.Report.TheVariants.{Begin, Numbered}
 use Rattle.report_line.specs.declared.step.Deed.TheVariants.{Retire}
-use Rattle.report_line.specs.History.{Name, History}
+use Rattle.report_line.specs.histories.History.{Name, History}
 use Rattle.histories.specs.Example.{a, b, c, left, right, halves, act, every_step}
 
 -- the history with every kind of step, but its last step retires into a process that is born

@@ -7,9 +7,9 @@ use Rattle.report_line.specs.declared.report.Report.{Report}
 use Rattle.report_line.specs.declared.report.Report.TheVariants.{Begin}
 use Rattle.report_line.specs.declared.step.Deed.{Deed}
 use Rattle.report_line.specs.declared.step.Deed.TheVariants.{Retire}
-use Rattle.report_line.specs.History.{Name, History, Unborn, status}
-use Rattle.report_line.specs.Lawful.{IsLawful}
-use Rattle.report_line.specs.StepReports.{report_of, reports}
+use Rattle.report_line.specs.histories.History.{Name, History, Unborn, status}
+use Rattle.report_line.specs.histories.Lawful.{IsLawful}
+use Rattle.report_line.specs.histories.StepReports.{report_of, reports}
 
 -- BEGIN by the root, and then the reports of the history, the oldest first
 abbrev pub handed_over : Name → History → List Report

@@ -3,7 +3,7 @@ use Rattle.std.specs.Prelude.{◌≡◌, ◌↔◌, ◌++◌, All, false, List}
 use Rattle.report_line.specs.declared.report.Report.{Report}
 use Rattle.report_line.specs.declared.call.Call.TheVariants as calls
 use Rattle.report_line.specs.declared.reply.Reply.{Reply}
-use Rattle.report_line.specs.History.{Name, History}
+use Rattle.report_line.specs.histories.History.{Name, History}
 use Rattle.chains.specs.Held.{Held, present}
 use Rattle.chains.specs.Admission.{IsAdmission, FitsOrNot}
 use Rattle.chains.specs.Turns.{Fate, IsTurnWith}

@@ -4,7 +4,7 @@ use Rattle.std.proofs.lemmas.Bool.{le-leb}
 use Rattle.std.proofs.lemmas.List.{take_all}
 use Rattle.line_disk.specs.Disk.{IsTorn, IsShortened, Passes, Rests}
 use Rattle.line_disk.specs.Device.{Done, Written, CutTo, Synced, NotWritten, NotCut, NotSynced, held, any_failed, Leaving, KeepsModel, up_to, view_by, modelled, PremiseCanHold, PremiseCanFail, IsWithinModel}
-use Rattle.line_disk.specs.ReadIsLeft.{torn_same, torn_written, shortened_cut}
+use Rattle.line_disk.specs.working.ReadIsLeft.{torn_same, torn_written, shortened_cut}
 use Rattle.line_disk.specs.FileReadIsLeft.{up_to_all}
 
 up_to_more : (k : ℕ) (call : Done) (calls : List Done) → k ≤ length calls → up_to k (call ∷ calls) ≡ up_to k calls

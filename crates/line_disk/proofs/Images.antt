@@ -3,9 +3,9 @@ use Rattle.std.proofs.Common.{◌≡◌, ℕ, zero, suc, ◌+◌, ◌-◌, ◌�
 use Rattle.std.proofs.lemmas.Bool.Decides.{leb_tells}
 use Rattle.std.proofs.lemmas.List.{take_all, take_min, drop-drop}
 use Rattle.line_disk.specs.Disk.{IsTorn}
-use Rattle.line_disk.specs.ReadIsLeft.{torn_same, torn_written, left_after}
+use Rattle.line_disk.specs.working.ReadIsLeft.{torn_same, torn_written, left_after}
 use Rattle.line_disk.specs.Replay.{after_call, after_part, image_at, left_by, left_by_calls}
-use Rattle.line_disk.specs.Noting.{noted_calls, calls_in}
+use Rattle.line_disk.specs.working.Noting.{noted_calls, calls_in}
 use Rattle.line_disk.specs.declared.change.Noted.{Noted}
 use Rattle.line_disk.proofs.NotedCalls.{image_behind}
 use Rattle.line_disk.specs.Calls.{Call, Write, Cut, Sync, Idle}

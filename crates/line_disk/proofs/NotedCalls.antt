@@ -2,7 +2,7 @@
 use Rattle.std.proofs.Common.{◌≡◌, ℕ, zero, suc, ◌+◌, ◌-◌, ◌<◌, ◌≤◌, List, [], ◌∷◌, ◌++◌, replicate, length, length-append, drop, get_or, refl, sym, ◌∙◌, ap, arith, append_assoc}
 use Rattle.std.proofs.lemmas.List.{append-nil, replicate_more, drop_more}
 use Rattle.line_disk.specs.Calls.{Call, Idle}
-use Rattle.line_disk.specs.Noting.{call_of, noted_calls, calls_in}
+use Rattle.line_disk.specs.working.Noting.{call_of, noted_calls, calls_in}
 use Rattle.line_disk.specs.Replay.{after_call, after_part, image_at}
 use Rattle.line_disk.specs.declared.change.Change.{Change}
 use Rattle.line_disk.specs.declared.change.Noted.{Noted}

@@ -6,7 +6,7 @@ use Rattle.std.proofs.lemmas.Bool.{le-leb}
 use Rattle.std.proofs.lemmas.List.{take_all, take-append-le}
 use Rattle.line_disk.specs.Disk.{View, Leaves, IsTorn, IsShortened, Passes, Rests, written, DidNothing, DidWrite, DidCut, DidSync}
 use Rattle.line_disk.specs.Replay.{after_call, after_calls, left_by, left_by_calls, replay}
-use Rattle.line_disk.specs.ReadIsLeft.{left_at_end}
+use Rattle.line_disk.specs.working.ReadIsLeft.{left_at_end}
 use Rattle.line_disk.specs.Calls.{Call, Write, Cut, Sync, Idle}
 
 pub after_calls-push : (file : List ℕ) (calls : List Call) (call : Call) → after_calls file (calls ++ call ∷ []) ≡ after_call (after_calls file calls) call

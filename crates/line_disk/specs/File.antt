@@ -2,7 +2,7 @@
 use Rattle.std.specs.Prelude.{ℕ, List, Option}
 use Rattle.line_disk.specs.Device.{Done, Leaving, Unread, held, view_by}
 use Rattle.line_disk.specs.Disk.{View}
-use Rattle.line_disk.specs.Known.{first_of, calls_of}
+use Rattle.line_disk.specs.working.Known.{first_of, calls_of}
 use Rattle.line_disk.specs.declared.file.FileDisk.{FileDisk}
 use Rattle.line_disk.specs.declared.trouble.FileTrouble.{FileTrouble}
 

@@ -5,10 +5,6 @@ pub mod Plans
 pub mod Device
 pub mod Troubles
 pub mod File
-pub mod Known
-pub mod Log
-pub mod Noting
 pub mod Tape
-pub mod ReadIsLeft
 pub mod FileReadIsLeft
-pub mod Null
+pub mod working

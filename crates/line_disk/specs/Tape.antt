@@ -4,7 +4,7 @@ use Rattle.line_disk.specs.Disk.{View, one_more}
 use Rattle.line_disk.specs.Calls.{Call}
 use Rattle.line_disk.specs.Replay.{replay, image_at}
 use Rattle.line_disk.specs.Plans.{planned_at}
-use Rattle.line_disk.specs.Noting.{calls_in}
+use Rattle.line_disk.specs.working.Noting.{calls_in}
 use Rattle.line_disk.specs.declared.tape.Tape.{Tape}
 use Rattle.line_disk.specs.declared.memory.MemoryDisk.{MemoryDisk}
 use Rattle.line_disk.specs.declared.plan.Effect.{Effect}

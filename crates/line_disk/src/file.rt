@@ -161,7 +161,7 @@ impl<P: Device> Disk for FileDisk<P> {
     ghost use Rattle.line_disk.specs.FileReadIsLeft.{read_left};
     ghost use Rattle.line_disk.specs.Troubles.{TellsFirst};
     ghost use Rattle.line_disk.specs.declared.trouble.FileCall.TheVariants.{Measure, Read, Write, Cut, Sync};
-    ghost use Rattle.line_disk.specs.Known.{first_of, calls_of};
+    ghost use Rattle.line_disk.specs.working.Known.{first_of, calls_of};
 
     ghost view = { λ disk. file_view P.leaves P.unread disk };
 
@@ -264,7 +264,8 @@ impl<P: Device> Disk for FileDisk<P> {
         if self.known.failed {
             return Err(self.failures.add(FileCall::Sync, None));
         }
-        let synced = self.file.sync_all();
+        // The bytes and the length, and of the rest (as times) nothing: a read after a crash needs no more.
+        let synced = self.file.sync_data();
         let done = synced.is_ok();
         self.known.synced(done);
         if !done {

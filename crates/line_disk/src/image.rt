@@ -1,7 +1,7 @@
 //! The bytes that a crash in the middle of the noted calls could leave.
 
 ghost use Rattle.std.specs.Prelude.{◌≡◌, IfOk, OnOk};
-ghost use Rattle.line_disk.specs.Noting.{call_of, noted_calls};
+ghost use Rattle.line_disk.specs.working.Noting.{call_of, noted_calls};
 ghost use Rattle.line_disk.specs.Replay.{after_call, after_part, image_at};
 
 use crate::change::{Change, Noted};

@@ -3,7 +3,7 @@
 ghost use Rattle.std.specs.Prelude.{◌≡◌, ◌↔◌, ◌∷◌, ◌++◌, [], ◌+◌, ◌-◌, ◌^◌, ◌<◌, ◌≤◌, false, IsTrue, List, ℕ, length, vec_capacity, take, drop, if◌then◌else◌};
 ghost use Rattle.line_disk.specs.Device.{held, any_failed, Written, NotWritten, CutTo, NotCut, Synced, NotSynced};
 ghost use Rattle.line_disk.specs.Disk.{written};
-ghost use Rattle.line_disk.specs.Log.{steps_in};
+ghost use Rattle.line_disk.specs.working.Log.{steps_in};
 ghost use Rattle.std.proofs.Props.{props};
 
 use crate::log::{Bytes, Log, Step};
@@ -45,7 +45,7 @@ fn write_copy(copy: &mut Vec<u8>, at: usize, bytes: &[u8])
 }
 
 impl Known {
-    ghost use Rattle.line_disk.specs.Known.{read_of, unread_of, first_of, calls_of};
+    ghost use Rattle.line_disk.specs.working.Known.{read_of, unread_of, first_of, calls_of};
     ghost use Rattle.line_disk.specs.Device.{Unread};
 
     /// Of a file of this length these first bytes were read.

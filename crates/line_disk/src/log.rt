@@ -12,7 +12,7 @@ pub(crate) enum Bytes {
 }
 
 impl Bytes {
-    ghost use Rattle.line_disk.specs.Log.{bytes_in};
+    ghost use Rattle.line_disk.specs.working.Log.{bytes_in};
 
     pub fn of(bytes: &[u8]) -> Bytes
         ensures { bytes_in result ≡ bytes.now }
@@ -49,7 +49,7 @@ pub(crate) enum Log {
 }
 
 impl Log {
-    ghost use Rattle.line_disk.specs.Log.{steps_in, done_of};
+    ghost use Rattle.line_disk.specs.working.Log.{steps_in, done_of};
 
     pub fn add(&mut self, step: &Step)
         ensures { steps_in self.new ≡ done_of step.now ∷ steps_in self.old }

@@ -106,8 +106,8 @@ impl MemoryDisk {
 // The clauses of the trait once more, without its premise, which is always met here; that a call which is planned to fail does, and
 // has done nothing or the whole; and that each call is noted, also where it fails.
 impl Disk for MemoryDisk {
-    ghost use Rattle.line_disk.specs.ReadIsLeft.{left_now};
-    ghost use Rattle.line_disk.specs.Noting.{calls_in};
+    ghost use Rattle.line_disk.specs.working.ReadIsLeft.{left_now};
+    ghost use Rattle.line_disk.specs.working.Noting.{calls_in};
     ghost use Rattle.line_disk.specs.Tape.{view_of, disk_view, disk_failures, planned_next, room_of};
 
     ghost view = { λ disk. view_of disk.tape };

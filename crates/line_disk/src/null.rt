@@ -15,7 +15,7 @@ pub struct NullDisk {
 }
 
 impl NullDisk {
-    ghost use Rattle.line_disk.specs.Null.{null_failures};
+    ghost use Rattle.line_disk.specs.working.Null.{null_failures};
 
     /// No call was made yet.
     pub fn new() -> NullDisk
@@ -28,7 +28,7 @@ impl NullDisk {
 // What the trait says of crashes holds of no disk that keeps nothing; so what is said here is what each call answers.
 impl Disk for NullDisk {
     ghost use Rattle.line_disk.specs.Disk.{nothing_kept};
-    ghost use Rattle.line_disk.specs.Null.{null_failures};
+    ghost use Rattle.line_disk.specs.working.Null.{null_failures};
 
     ghost view = { λ disk. nothing_kept };
 

@@ -3,7 +3,7 @@
 ghost use Rattle.std.specs.Prelude.{◌≡◌, ◌+◌, ◌-◌, ◌^◌, ◌<◌, ◌≤◌, IsTrue, length, take};
 ghost use Rattle.std.specs.Bool.{OnTrue, OnFalse};
 ghost use Rattle.line_disk.specs.Disk.{LeavesOnly, IsTorn, IsShortened, Passes, Rests, written, DidNothing, DidWrite, DidCut, DidSync, one_more};
-ghost use Rattle.line_disk.specs.Noting.{calls_in};
+ghost use Rattle.line_disk.specs.working.Noting.{calls_in};
 ghost use Rattle.line_disk.specs.Replay.{after_calls};
 
 use crate::change::{Change, Noted};

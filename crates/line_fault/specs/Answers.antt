@@ -1,5 +1,6 @@
 -- What a line is explained by.
 use Rattle.std.specs.Prelude.{ℕ, ◌<◌, ◌≤◌, List, length}
+use Rattle.report_line.specs.Cutting.{line_limit}
 use Rattle.report_line.specs.Cuts.{words_in}
 use Rattle.report_line.specs.Reading.{Spells}
 use Rattle.line_fault.specs.declared.explained.Explained.{Explained}
@@ -8,7 +9,7 @@ use Rattle.line_fault.specs.Reasons.{IsWrongAt}
 
 -- a line has at most so many bytes
 abbrev pub longest : ℕ
-longest = 8192
+longest = line_limit
 
 -- The line is that of this call; or it is too long, which is told before all words; or it is that of no call, for this reason.
 abbrev pub IsExplained : List ℕ → Explained → Type 0

@@ -163,7 +163,7 @@ fn push_failed(out: &mut Vec<u8>, names: &Names) -> Result<(), AllocError>
         out,
         &[
             b"a question: LINE, names: ".as_slice(),
-            digits.format(names.as_slice().len()).as_bytes(),
+            digits.format(names.count()).as_bytes(),
         ],
     )
 }
@@ -180,7 +180,7 @@ fn push_settle(out: &mut Vec<u8>, front: u32, names: &Names) -> Result<(), Alloc
             b"a settlement at the front ".as_slice(),
             of_front.format(front).as_bytes(),
             b": SETTLE, names: ".as_slice(),
-            of_names.format(names.as_slice().len()).as_bytes(),
+            of_names.format(names.count()).as_bytes(),
         ],
     )
 }

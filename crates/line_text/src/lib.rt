@@ -14,14 +14,18 @@ use garbage_line::garbage_by;
 use knows_row::Needs;
 use propagate::certificate_by;
 use reasons::{Certificate, to_json};
-use report_line::{Call, Name, Text};
+use report_line::{Call, Names, Text};
 
-/// The text of a certificate.
+/// The text of a certificate, in no more room than it takes: a pass keeps it to the end.
 fn written(chains: &Chains, certificate: &Certificate) -> Option<Text>
     ensures { IfSome result (λ text. text ≡ certificate_text chains.now.accepted certificate.now) }
 {
     match to_json(chains, certificate) {
-        Ok(text) => Some(Text::from_vec(text.into_bytes())),
+        Ok(text) => {
+            let mut bytes = text.into_bytes();
+            bytes.shrink_to_fit();
+            Some(Text::from_vec(bytes))
+        }
         Err(_) => None,
     }
 }
@@ -38,7 +42,7 @@ fn text_for_set(chains: &Chains, needs: Option<&Needs<'_>>, failed: &Failed) -> 
 }
 
 /// The text for the processes of these names, if they are known.
-fn text_for_names(chains: &Chains, needs: Option<&Needs<'_>>, names: &[Name]) -> Option<Text>
+fn text_for_names(chains: &Chains, needs: Option<&Needs<'_>>, names: &Names) -> Option<Text>
     requires { IfSome needs (λ n. IsTableOf chains.now.accepted n.now) }
     ensures { IfSome result (IsTextFor (held_of chains.now) names.now) }
 {
@@ -66,7 +70,7 @@ pub fn answer_for(chains: &Chains, needs: Option<&Needs<'_>>, call: &Call) -> Op
     ensures { IfSome result (IsAnswer (held_of chains.now) call.now) }
 {
     match call {
-        Call::Line(names) => text_for_names(chains, needs, names.as_slice()),
+        Call::Line(names) => text_for_names(chains, needs, names),
         Call::Garbage => text_for_all(chains, needs),
         Call::Report(_)
         | Call::Settle { .. }

@@ -6,7 +6,7 @@ use crate::sheet::{Subject, picture};
 use chains::{Chains, Failed, FailedFault};
 use garbage_line::garbage;
 use propagate::certificate;
-use report_line::Name;
+use report_line::{Name, Names};
 use std::alloc::{AllocError, Global};
 
 /// Why there is no picture.
@@ -32,7 +32,7 @@ fn picture_of(alloc: Global, followed: &Followed, failed: &Failed) -> Result<Vec
 }
 
 /// The picture of what was followed, where the processes of these names failed.
-fn try_picture(alloc: Global, followed: &Followed, failed: &[Name]) -> Result<Vec<u8>, Undrawn> {
+fn try_picture(alloc: Global, followed: &Followed, failed: &Names) -> Result<Vec<u8>, Undrawn> {
     let failed = match Failed::from_names(&followed.chains, failed) {
         Ok(failed) => failed,
         Err(FailedFault::Unknown(name)) => return Err(Undrawn::Unknown(name)),
@@ -46,7 +46,7 @@ fn try_picture(alloc: Global, followed: &Followed, failed: &[Name]) -> Result<Ve
 
 /// The picture of a script, where the processes of these names failed: the steps that its world takes, its settlements with what
 /// each undid, the recovery line through what is left, and what is obsolete. A script of which not even the first line is taken has no picture.
-pub fn draw(alloc: Global, script: &[u8], failed: &[Name]) -> (Vec<u8>, Ending) {
+pub fn draw(alloc: Global, script: &[u8], failed: &Names) -> (Vec<u8>, Ending) {
     let (followed, ending) = follow(alloc, script);
     let Some(followed) = followed else {
         return (Vec::new(alloc), ending);

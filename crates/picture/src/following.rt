@@ -90,7 +90,7 @@ fn begin(alloc: Global, line: &[u8], tells: bool) -> Result<Followed, Stop> {
 }
 
 /// Has the settlement for these failed processes accepted.
-fn settle_chains(chains: &mut Chains, names: &[Name]) -> Result<(), Stop> {
+fn settle_chains(chains: &mut Chains, names: &Names) -> Result<(), Stop> {
     match chains.may_settle(chains.front(), names) {
         Ok(()) => {}
         Err(refused) => return Err(stop_for(refused)),
@@ -106,11 +106,13 @@ fn settle_chains(chains: &mut Chains, names: &[Name]) -> Result<(), Stop> {
 
 /// All return to the line of these failed processes.
 fn settle(followed: &mut Followed, names: &Names) -> Result<(), Stop> {
-    let names = names.as_slice();
+    let Ok(failed) = names.to_vec(followed.chains.alloc()) else {
+        return Err(Stop::Memory);
+    };
     let Ok(line) = line_for(&followed.chains, names) else {
         return Err(Stop::Memory);
     };
-    match followed.world.settle(names, &line) {
+    match followed.world.settle(&failed, &line) {
         Ok(()) => {}
         Err(fault) => return Err(Stop::Refused(Cause::Fault(fault))),
     }

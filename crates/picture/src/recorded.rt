@@ -10,7 +10,7 @@ use chains::{Chains, Failed, FailedFault};
 use garbage_line::garbage;
 use propagate::certificate;
 use reasons::Certificate;
-use report_line::Name;
+use report_line::{Name, Names};
 use std::alloc::{AllocError, Global};
 
 /// Whom a picture is asked for: the failed processes, and the one of which the reason chain is shown.
@@ -65,7 +65,7 @@ fn number_of(chains: &Chains, why: Option<&Name>) -> Result<Option<u32>, Ending>
 }
 
 /// Whom a picture is asked for by these names.
-fn asked_by(chains: &Chains, failed: &[Name], why: Option<&Name>) -> Result<Asked, Ending> {
+fn asked_by(chains: &Chains, failed: &Names, why: Option<&Name>) -> Result<Asked, Ending> {
     let failed = match Failed::from_names(chains, failed) {
         Ok(failed) => failed,
         Err(FailedFault::Unknown(name)) => return Err(Ending::Unknown(name)),
@@ -83,7 +83,7 @@ fn asked_by(chains: &Chains, failed: &[Name], why: Option<&Name>) -> Result<Aske
 ///
 /// `Unknown` has the first name that no process has, of `failed` and then of `why`. `Memory` comes where an allocation is refused. It ends
 /// in no other way than these and `Done`, and but for `Done` there is no picture.
-pub fn draw_accepted(chains: &Chains, failed: &[Name], why: Option<&Name>) -> (Vec<u8>, Ending) {
+pub fn draw_accepted(chains: &Chains, failed: &Names, why: Option<&Name>) -> (Vec<u8>, Ending) {
     let none = Vec::new(chains.alloc());
     if chains.is_empty() {
         return (none, Ending::Done);

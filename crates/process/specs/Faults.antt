@@ -8,7 +8,7 @@ use Rattle.id_tree.specs.IdTree.{Zero}
 use Rattle.event_tree.specs.Event.{PassesLimit}
 use Rattle.event_tree.specs.Values.{IsAtOrBelow}
 use Rattle.process.specs.Leaves.{HasRoomFor}
-use Rattle.report_line.specs.History.{Name}
+use Rattle.report_line.specs.histories.History.{Name}
 use Rattle.process.specs.declared.fault.ProcessFault.{ProcessFault}
 use Rattle.process.specs.declared.fault.ProcessFault.TheVariants as faults
 use Rattle.process.specs.declared.handed.Message.{Message}

@@ -12,7 +12,7 @@ use Rattle.report_line.specs.declared.report.Action.{Action}
 use Rattle.report_line.specs.declared.report.Action.TheVariants as actions
 use Rattle.report_line.specs.declared.report.Report.{Report}
 use Rattle.report_line.specs.declared.report.Report.TheVariants.{Numbered}
-use Rattle.report_line.specs.History.{Name}
+use Rattle.report_line.specs.histories.History.{Name}
 use Rattle.report_line.specs.Reading.{Spells}
 use Rattle.process.specs.declared.process.Process.{Process}
 use Rattle.process.specs.declared.handed.Message.{Message}

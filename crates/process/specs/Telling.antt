@@ -8,7 +8,7 @@ use Rattle.stamp.specs.declared.stamp.Stamp.{Stamp}
 use Rattle.stamp.specs.Operations.{IsAbsorb}
 use Rattle.report_line.specs.declared.report.Action.{Action}
 use Rattle.report_line.specs.declared.report.Action.TheVariants as actions
-use Rattle.report_line.specs.History.{Name}
+use Rattle.report_line.specs.histories.History.{Name}
 use Rattle.process.specs.declared.process.Process.{Process}
 use Rattle.process.specs.declared.handed.Retirement.{Retirement}
 use Rattle.process.specs.declared.fault.ProcessFault.{ProcessFault}

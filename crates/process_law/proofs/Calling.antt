@@ -3,9 +3,9 @@ use Rattle.std.proofs.Common.{◌≡◌, ℕ, ◌+◌, ◌≤◌, Option, Some, 
 use Rattle.std.specs.List.{cons_option}
 use Rattle.report_line.specs.declared.report.Report.{Report}
 use Rattle.report_line.specs.declared.step.Deed.{Deed}
-use Rattle.report_line.specs.History.{Name, History}
-use Rattle.report_line.specs.Lawful.{IsLawful}
-use Rattle.report_line.specs.StepReports.{report_of, reports}
+use Rattle.report_line.specs.histories.History.{Name, History}
+use Rattle.report_line.specs.histories.Lawful.{IsLawful}
+use Rattle.report_line.specs.histories.StepReports.{report_of, reports}
 use Rattle.settled_lists.specs.Runs.{Run, epoch, current}
 use Rattle.settled_turns.specs.Traces.{Trace, Extends}
 use Rattle.process_law.specs.Accounts.{Doing, IsDone, Did, Took, Account, deed_of, steps_by, traced}

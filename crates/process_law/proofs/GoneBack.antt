@@ -10,9 +10,9 @@ use Rattle.report_line.specs.declared.reply.Reply.TheVariants.{Accepted}
 use Rattle.report_line.specs.declared.report.Action.TheVariants as reported
 use Rattle.report_line.specs.declared.report.Report.TheVariants as reports
 use Rattle.report_line.specs.declared.step.Deed.TheVariants as deeds
-use Rattle.report_line.specs.History.{History, Event, event_of, Living, status}
-use Rattle.report_line.specs.Lawful.{IsLawful, start, next}
-use Rattle.report_line.specs.StepReports.{reporting_steps}
+use Rattle.report_line.specs.histories.History.{History, Event, event_of, Living, status}
+use Rattle.report_line.specs.histories.Lawful.{IsLawful, start, next}
+use Rattle.report_line.specs.histories.StepReports.{reporting_steps}
 use Rattle.histories.specs.Example.{a, b, right, halves, act}
 use Rattle.histories.specs.Rules.{IsNewest}
 use Rattle.histories.proofs.Example.{above}

@@ -4,8 +4,8 @@ use Rattle.std.proofs.lemmas.Option.{none-some}
 use Rattle.histories.proofs.Rules.{newest_lives}
 use Rattle.report_line.specs.declared.step.Deed.{Deed}
 use Rattle.report_line.specs.declared.step.Deed.TheVariants as deeds
-use Rattle.report_line.specs.History.{Name}
-use Rattle.report_line.specs.Lawful.{IsLawful}
+use Rattle.report_line.specs.histories.History.{Name}
+use Rattle.report_line.specs.histories.Lawful.{IsLawful}
 use Rattle.settled_lists.specs.Runs.{Run, epoch, current}
 use Rattle.process.specs.declared.process.Process.{Process}
 use Rattle.process.specs.declared.handed.Message.{Message}

@@ -6,8 +6,8 @@ use Rattle.std.proofs.lemmas.Option.{none-some}
 use Rattle.histories.proofs.Rules.{living_is_newest, law_obeys}
 use Rattle.report_line.specs.declared.step.Deed.{Deed}
 use Rattle.report_line.specs.declared.step.Step.{Step}
-use Rattle.report_line.specs.History.{Name, History}
-use Rattle.report_line.specs.Lawful.{IsAllowed, IsLawful, start, next}
+use Rattle.report_line.specs.histories.History.{Name, History}
+use Rattle.report_line.specs.histories.Lawful.{IsAllowed, IsLawful, start, next}
 use Rattle.settled_lists.specs.Runs.{Run, Made, epoch, current, earlier}
 use Rattle.settled_turns.specs.Traces.{IsRightStep}
 use Rattle.process.specs.declared.process.Process.{Process}
@@ -20,7 +20,7 @@ use Rattle.process_law.proofs.Holding.{AreCurrent, first_current}
 use Rattle.process_law.proofs.Resting.{current_still}
 use Rattle.process_law.proofs.Letting.{is_allowed}
 use Rattle.process_law.proofs.Stepping.{IsStepNow, current_next}
-use Rattle.report_line.specs.StepReports.{report_of}
+use Rattle.report_line.specs.histories.StepReports.{report_of}
 use Rattle.process_law.specs.Obeying.{line_given}
 use Rattle.process_law.proofs.Telling.{tells, AreMarked, first_marked, marked_more, marked_silent, marked_left, marked_now}
 

@@ -13,9 +13,9 @@ use Rattle.histories.proofs.Reported.{others_step, unborn_reports}
 use Rattle.report_line.specs.declared.step.Deed.{Deed}
 use Rattle.report_line.specs.declared.step.Deed.TheVariants.{Work, Check, Present, Send, Receive, Fork, Retire, Absorb}
 use Rattle.report_line.specs.declared.step.Step.{Step}
-use Rattle.report_line.specs.History.{Name, History, Event, event_of, birth_by, Status, Unborn, Living, Retired, Absorbed, status_of_actor, status_of_other, status, sends, sending}
-use Rattle.report_line.specs.Lawful.{IsAllowed, IsLawful, start, next}
-use Rattle.report_line.specs.StepReports.{is_reported, reporting_steps}
+use Rattle.report_line.specs.histories.History.{Name, History, Event, event_of, birth_by, Status, Unborn, Living, Retired, Absorbed, status_of_actor, status_of_other, status, sends, sending}
+use Rattle.report_line.specs.histories.Lawful.{IsAllowed, IsLawful, start, next}
+use Rattle.report_line.specs.histories.StepReports.{is_reported, reporting_steps}
 use Rattle.process.specs.declared.process.Process.{Process}
 use Rattle.process.specs.Steps.{GoesOn}
 use Rattle.process_law.specs.Handing.{stamp_of}

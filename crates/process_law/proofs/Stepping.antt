@@ -8,8 +8,8 @@ use Rattle.histories.proofs.Rules.{retired_not_living}
 use Rattle.report_line.specs.declared.step.Deed.{Deed}
 use Rattle.report_line.specs.declared.step.Deed.TheVariants as deeds
 use Rattle.report_line.specs.declared.step.Step.{Step}
-use Rattle.report_line.specs.History.{Name, History, Event, Living, event_of, sending, status}
-use Rattle.report_line.specs.Lawful.{IsAllowed}
+use Rattle.report_line.specs.histories.History.{Name, History, Event, Living, event_of, sending, status}
+use Rattle.report_line.specs.histories.Lawful.{IsAllowed}
 use Rattle.settled_lists.specs.Runs.{Run, epoch, current}
 use Rattle.process.specs.declared.process.Process.{Process}
 use Rattle.process.specs.declared.handed.Message.{Message}

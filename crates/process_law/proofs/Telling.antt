@@ -13,9 +13,9 @@ use Rattle.report_line.specs.declared.report.Report.{Report}
 use Rattle.report_line.specs.declared.report.Report.TheVariants.{Numbered}
 use Rattle.report_line.specs.declared.step.Deed.{Deed}
 use Rattle.report_line.specs.declared.step.Deed.TheVariants as deeds
-use Rattle.report_line.specs.History.{Name, History, status}
+use Rattle.report_line.specs.histories.History.{Name, History, status}
 use Rattle.report_line.specs.Reading.{Spells}
-use Rattle.report_line.specs.StepReports.{id_of, numbered, report_of}
+use Rattle.report_line.specs.histories.StepReports.{id_of, numbered, report_of}
 use Rattle.report_line.proofs.OneCall.{one_call}
 use Rattle.settled_lists.specs.Runs.{Run, Made, epoch, current, IsMarkedReport, of_current, of_left_behind}
 use Rattle.process.specs.declared.process.Process.{Process}

@@ -7,8 +7,8 @@ use Rattle.report_line.specs.declared.reply.Reply.{Reply}
 use Rattle.report_line.specs.declared.reply.Reply.TheVariants.{Accepted, Settled}
 use Rattle.report_line.specs.declared.report.Report.{Report}
 use Rattle.report_line.specs.declared.step.Deed.{Deed}
-use Rattle.report_line.specs.History.{Name, History}
-use Rattle.report_line.specs.Lawful.{IsLawful}
+use Rattle.report_line.specs.histories.History.{Name, History}
+use Rattle.report_line.specs.histories.Lawful.{IsLawful}
 use Rattle.chains.specs.declared.position.Position.{Position}
 use Rattle.chains.specs.Held.{Held, counting}
 use Rattle.settled_histories.specs.Kept.{Cut, kept}

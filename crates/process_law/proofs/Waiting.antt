@@ -20,10 +20,10 @@ use Rattle.report_line.specs.declared.report.Report.{Report}
 use Rattle.report_line.specs.declared.report.Report.TheVariants.{Begin, Numbered}
 use Rattle.report_line.specs.declared.step.Deed.TheVariants as deeds
 use Rattle.report_line.specs.declared.step.Step.{Step}
-use Rattle.report_line.specs.History.{Name, History, Event, event_of, Living, Retired, status, sending}
-use Rattle.report_line.specs.Lawful.{IsLawful, start, next}
-use Rattle.report_line.specs.Events.{step, earlier}
-use Rattle.report_line.specs.StepReports.{reporting_steps}
+use Rattle.report_line.specs.histories.History.{Name, History, Event, event_of, Living, Retired, status, sending}
+use Rattle.report_line.specs.histories.Lawful.{IsLawful, start, next}
+use Rattle.report_line.specs.histories.Events.{step, earlier}
+use Rattle.report_line.specs.histories.StepReports.{reporting_steps}
 use Rattle.histories.specs.Example.{a, b, left, right, halves, act}
 use Rattle.histories.specs.Rules.{IsNewest, IsWaiting}
 use Rattle.histories.proofs.Bytes.{bytes_same, bytes_are}

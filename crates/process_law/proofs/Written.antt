@@ -18,7 +18,7 @@ use Rattle.report_line.specs.declared.report.Action.TheVariants as reported
 use Rattle.report_line.specs.Names.{is_letter, is_name_byte, is_name}
 use Rattle.report_line.specs.Spelling.{IsCount, IsAction}
 use Rattle.report_line.specs.declared.step.Deed.TheVariants as deeds
-use Rattle.report_line.specs.History.{Name, History, event_of, sending}
+use Rattle.report_line.specs.histories.History.{Name, History, event_of, sending}
 use Rattle.report_line.specs.Reading.{Spells}
 use Rattle.histories.specs.Example.{a, b, left, right, halves, act}
 use Rattle.histories.proofs.Example.{apart, both, some_left, some_right, above, below}

@@ -4,10 +4,10 @@ use Rattle.report_line.specs.declared.call.Call.TheVariants as calls
 use Rattle.report_line.specs.declared.report.Report.{Report}
 use Rattle.report_line.specs.declared.step.Deed.{Deed}
 use Rattle.report_line.specs.declared.step.Step.{Step}
-use Rattle.report_line.specs.History.{Name, History, Event, Unborn, Living, Retired, status, sending}
-use Rattle.report_line.specs.Lawful.{IsAllowed}
+use Rattle.report_line.specs.histories.History.{Name, History, Event, Unborn, Living, Retired, status, sending}
+use Rattle.report_line.specs.histories.Lawful.{IsAllowed}
 use Rattle.report_line.specs.Reading.{Spells}
-use Rattle.report_line.specs.StepReports.{report_of, reporting_steps}
+use Rattle.report_line.specs.histories.StepReports.{report_of, reporting_steps}
 use Rattle.process.specs.declared.process.Process.{Process}
 use Rattle.process.specs.declared.handed.Message.{Message}
 use Rattle.process.specs.declared.handed.Retirement.{Retirement}

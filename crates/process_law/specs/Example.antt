@@ -9,7 +9,7 @@ use Rattle.report_line.specs.declared.reply.Reply.TheVariants.{Accepted, No, Set
 use Rattle.report_line.specs.declared.report.Action.TheVariants as reported
 use Rattle.report_line.specs.declared.report.Report.TheVariants as reports
 use Rattle.report_line.specs.declared.report.Report.{Report}
-use Rattle.report_line.specs.History.{Name}
+use Rattle.report_line.specs.histories.History.{Name}
 use Rattle.report_line.specs.Spelling.{spelling}
 use Rattle.chains.specs.Held.{Held, counting}
 use Rattle.histories.specs.Example.{a, b, left, right, halves}

@@ -11,9 +11,9 @@ use Rattle.report_line.specs.declared.reply.Reply.{Reply}
 use Rattle.report_line.specs.declared.reply.Reply.TheVariants.{Accepted}
 use Rattle.report_line.specs.declared.report.Report.TheVariants as reports
 use Rattle.report_line.specs.declared.step.Deed.{Deed}
-use Rattle.report_line.specs.History.{Name, Event, sending}
+use Rattle.report_line.specs.histories.History.{Name, Event, sending}
 use Rattle.report_line.specs.Reading.{Spells}
-use Rattle.report_line.specs.StepReports.{reporting_steps}
+use Rattle.report_line.specs.histories.StepReports.{reporting_steps}
 use Rattle.histories.specs.Rules.{IsNewest, IsWaiting}
 use Rattle.settled_lists.specs.Runs.{Run, Made, epoch, current}
 use Rattle.settled_turns.specs.Traces.{Adds}

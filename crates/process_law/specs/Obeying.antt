@@ -2,11 +2,11 @@
 use Rattle.std.specs.Prelude.{ℕ, ◌++◌, List, [], ◌∷◌, ⊤}
 use Rattle.report_line.specs.declared.call.Call.TheVariants as calls
 use Rattle.report_line.specs.declared.report.Report.{Report}
-use Rattle.report_line.specs.History.{Name}
-use Rattle.report_line.specs.Lawful.{IsLawful}
+use Rattle.report_line.specs.histories.History.{Name}
+use Rattle.report_line.specs.histories.Lawful.{IsLawful}
 use Rattle.report_line.specs.Reading.{Spells}
 use Rattle.report_line.specs.Reports.{unmarked}
-use Rattle.report_line.specs.StepReports.{reports}
+use Rattle.report_line.specs.histories.StepReports.{reports}
 use Rattle.chains.specs.Held.{Held, counting}
 use Rattle.settled_lists.specs.Runs.{Run, current}
 use Rattle.settled_turns.specs.Traces.{Extends, AreTurns, ProcessesObey}

@@ -5,14 +5,14 @@ use Rattle.chains.specs.declared.position.Position.{Position}
 use Rattle.chains.specs.Processes.{known}
 use Rattle.chains.specs.Held.{Held}
 use Rattle.chains.specs.Positions.{position_in, rank}
-use Rattle.knows_row.specs.Knowing.{IsLawful}
+use Rattle.knows_row.specs.Knowing.{AreLawfulPlaces}
 use Rattle.reasons.specs.declared.certificate.Certificate.{Certificate}
 use Rattle.reasons.specs.Certificates.{Certifies, IsReasonChain, Falls, positions_of}
 use Rattle.propagate.specs.Greatest.{IsGreatestCut, IsConsistentCut}
 use Rattle.propagate.proofs.Reasoning.{first_reaches, before_end, reason_of}
 
 -- a consistent cut is not past the position of a process in the line
-not_past : (held : Held) (c : Certificate) → IsLawful held.accepted → Certifies held c → (d : List Position) → IsConsistentCut held.accepted c.failed d → (p : ℕ) → p < length (known held.accepted)
+not_past : (held : Held) (c : Certificate) → AreLawfulPlaces held.accepted → Certifies held c → (d : List Position) → IsConsistentCut held.accepted c.failed d → (p : ℕ) → p < length (known held.accepted)
     → rank held.accepted p (position_in d p) ≤ rank held.accepted p (position_in (positions_of c.line) p)
 not_past held c laws h d one p lt = elim (cases_lt (rank held.accepted p (position_in (positions_of c.line) p)) (rank held.accepted p (position_in d p))) [
   | inr ge ↦ ge
@@ -25,7 +25,7 @@ not_past held c laws h d one p lt = elim (cases_lt (rank held.accepted p (positi
       absurd (omega (arith, past, here, ends.4))
 ]
 
-pub certified_is_greatest : (held : Held) (c : Certificate) → IsLawful held.accepted → Certifies held c → IsGreatestCut held.accepted c.failed (positions_of c.line)
+pub certified_is_greatest : (held : Held) (c : Certificate) → AreLawfulPlaces held.accepted → Certifies held c → IsGreatestCut held.accepted c.failed (positions_of c.line)
 certified_is_greatest held c laws h = record {
   is_one = record { is_cut = h.cut; consistent = h.consistent };
   greatest = not_past held c laws h;

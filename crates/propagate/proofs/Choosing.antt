@@ -11,9 +11,9 @@ use Rattle.chains.specs.Positions.{rank, position_at, position_in, place_at, IsL
 use Rattle.chains.specs.Knowledge.{Knows}
 use Rattle.reasons.specs.Certificates.{IsReasonChain}
 use Rattle.propagate.specs.Choice.{place_after, GoesOn, IsNextChain, no_chains, given, ChainsAfter}
-use Rattle.propagate.specs.Ranks.{AreNextRanks, IsStage, positions_from}
+use Rattle.propagate.specs.working.Ranks.{AreNextRanks, IsStage, positions_from}
 use Rattle.propagate.specs.Rounds.{AreTops}
-use Rattle.propagate.specs.Stages.{IsStanding, AreThere, GoesOnAt, IsChainAt, AreChainsAt, AreChosenBy, chains_at, chains_due, shown}
+use Rattle.propagate.specs.working.Stages.{IsStanding, AreThere, GoesOnAt, IsChainAt, AreChainsAt, AreChosenBy, chains_at, chains_due, shown}
 use Rattle.propagate.proofs.Ranked.{rank_at, position_in_positions}
 use Rattle.propagate.proofs.Settling.{same_ranks}
 use Rattle.propagate.proofs.Rounding.{after_rounds, is_round}

@@ -12,11 +12,11 @@ use Rattle.chains.specs.Admission.{report_limit, process_limit}
 use Rattle.chains.specs.Processes.{known}
 use Rattle.chains.specs.Positions.{position_at}
 use Rattle.reasons.specs.Certificates.{positions_of}
-use Rattle.propagate.specs.Ranks.{AreNextRanks, AreFallen, IsStage, positions_from, places_from}
+use Rattle.propagate.specs.working.Ranks.{AreNextRanks, AreFallen, IsStage, positions_from, places_from}
 use Rattle.propagate.specs.Rounds.{AreTops}
 use Rattle.knows_row.specs.Looks.{IsLoweredFrom}
 use Rattle.propagate.specs.declared.rounds.Stage.{Stage}
-use Rattle.propagate.specs.Stages.{IsStanding, IsNextStage, AreGroundedBy, AreThere, AreChosenBy, AreRunning, chains_at, chains_due}
+use Rattle.propagate.specs.working.Stages.{IsStanding, IsNextStage, AreGroundedBy, AreThere, AreChosenBy, AreRunning, chains_at, chains_due}
 use Rattle.propagate.proofs.Ranked.{rank_at}
 use Rattle.propagate.proofs.Fallen.{member_first}
 use Rattle.propagate.proofs.Rounding.{sum_falls, in_order_from, positions_from_places}

@@ -11,17 +11,17 @@ use Rattle.chains.specs.Positions.{position_in, position_at, place_at, last_rank
 use Rattle.chains.specs.declared.position.Position.TheVariants.{Retired}
 use Rattle.chains.specs.Elements.{elements}
 use Rattle.chains.specs.Knowledge.{Knows}
-use Rattle.knows_row.specs.Knowing.{KnowsRank, IsLawful}
+use Rattle.knows_row.specs.Knowing.{KnowsRank, AreLawfulPlaces}
 use Rattle.reasons.specs.Certificates.{IsReasonChain, AreReasons, HaveReasons, EndsAfter, Falls, position_below}
-use Rattle.propagate.specs.Ranks.{IsGrounded, IsStage, positions_from}
+use Rattle.propagate.specs.working.Ranks.{IsGrounded, IsStage, positions_from}
 use Rattle.propagate.specs.Rounds.{AreTops}
-use Rattle.propagate.specs.Stages.{chains_due}
+use Rattle.propagate.specs.working.Stages.{chains_due}
 use Rattle.propagate.proofs.Ranked.{rank_at, rank_at_below, position_in_positions}
 use Rattle.propagate.proofs.Chained.{below_next, reason_more}
 use Rattle.propagate.proofs.Fallen.{fallen_from, fallen_below, below_fallen, fallen_increasing}
 
 -- A place that knows a process at its last surviving rank: the two make a chain.
-pub grounded_first : (accepted : List Report) (failed tops cut next : List ℕ) (p x q : ℕ) → IsLawful accepted → AreTops accepted failed tops
+pub grounded_first : (accepted : List Report) (failed tops cut next : List ℕ) (p x q : ℕ) → AreLawfulPlaces accepted → AreTops accepted failed tops
     → q < length tops → KnowsRank accepted p x q (slice_index tops q) → slice_index next p < x → x ≤ last_rank accepted p
     → IsGrounded accepted failed next (place_at accepted p x) (place_at accepted q (slice_index tops q) ∷ place_at accepted p x ∷ [])
 grounded_first accepted failed tops cut next p x q laws h within k past le = record {
@@ -57,7 +57,7 @@ falls_everywhere cut next same falls r = elim (cases_lt r (length cut)) [
 ]
 
 -- A place that knows a process after its rank, which is below its last surviving one: the chain of that process, and it.
-pub grounded_more : (accepted : List Report) (failed tops cut next : List ℕ) (p x q : ℕ) (chain : List Place) → IsLawful accepted → AreTops accepted failed tops
+pub grounded_more : (accepted : List Report) (failed tops cut next : List ℕ) (p x q : ℕ) (chain : List Place) → AreLawfulPlaces accepted → AreTops accepted failed tops
     → length cut ≡ length tops → ((r : ℕ) → r < length cut → slice_index cut r ≤ slice_index tops r)
     → p < length cut → q < length cut → IsGrounded accepted failed cut (place_at accepted q (slice_index cut q + 1)) chain
     → slice_index cut q < slice_index tops q

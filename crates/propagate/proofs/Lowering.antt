@@ -4,9 +4,9 @@ use Rattle.std.specs.Prelude.{slice_index, Contains, MatchOption}
 use Rattle.std.proofs.lemmas.Bool.{cases_lt}
 use Rattle.report_line.specs.declared.report.Report.{Report}
 use Rattle.chains.specs.Positions.{last_rank}
-use Rattle.knows_row.specs.Knowing.{KnowsRank, IsLawful}
-use Rattle.propagate.specs.Ranks.{IsClearBut, IsClearRank, IsNextRank, IsCauseOf}
-use Rattle.propagate.specs.Brackets.{IsBracket}
+use Rattle.knows_row.specs.Knowing.{KnowsRank, AreLawfulPlaces}
+use Rattle.propagate.specs.working.Ranks.{IsClearBut, IsClearRank, IsNextRank, IsCauseOf}
+use Rattle.propagate.specs.working.Brackets.{IsBracket}
 use Rattle.propagate.specs.declared.falls.Bracket.{Bracket}
 use Rattle.chains.specs.Processes.{known}
 use Rattle.knows_row.specs.Looks.{IsFirstKnown, KnowsOne, last_ranks}
@@ -15,7 +15,7 @@ use Rattle.knows_row.proofs.Lasts.{lasts_len, last_at}
 use Rattle.propagate.proofs.Rounding.{clear_of_fallen}
 
 module _ (accepted : List Report) (fell cut : List ℕ) (p rank : ℕ) where
-  module _ (laws : IsLawful accepted) (but : IsClearBut accepted fell cut) (known_one : p < length cut) (top : slice_index cut p ≤ last_rank accepted p) where
+  module _ (laws : AreLawfulPlaces accepted) (but : IsClearBut accepted fell cut) (known_one : p < length cut) (top : slice_index cut p ≤ last_rank accepted p) where
     -- where none of those that fell is known, the rank is clear
     pub look_clear : rank ≤ slice_index cut p → ¬ KnowsOne accepted fell cut p rank → IsClearRank accepted cut p rank
     look_clear within none = clear_of_fallen accepted fell cut p rank laws but known_one within top (λ q fallen lt knows. none (q, fallen, knows))
@@ -40,11 +40,11 @@ module _ (accepted : List Report) (fell cut : List ℕ) (p rank : ℕ) where
     ]
 
 -- nothing is known at rank 0
-pub unborn_knows_none : (accepted : List Report) (fell cut : List ℕ) (p rank : ℕ) → IsLawful accepted → rank ≤ 0 → ¬ KnowsOne accepted fell cut p rank
+pub unborn_knows_none : (accepted : List Report) (fell cut : List ℕ) (p rank : ℕ) → AreLawfulPlaces accepted → rank ≤ 0 → ¬ KnowsOne accepted fell cut p rank
 unborn_knows_none accepted fell cut p rank laws low one = laws.unborn p one.0 (slice_index cut one.0) (subst (λ (r : ℕ). KnowsRank accepted p r one.0 (slice_index cut one.0)) (omega (arith, low)) one.2)
 
 -- what is found above the next rank is the cause
-pub cause_of : (accepted : List Report) (fell cut : List ℕ) (p r : ℕ) → IsLawful accepted → IsClearBut accepted fell cut → p < length cut → slice_index cut p ≤ last_rank accepted p
+pub cause_of : (accepted : List Report) (fell cut : List ℕ) (p r : ℕ) → AreLawfulPlaces accepted → IsClearBut accepted fell cut → p < length cut → slice_index cut p ≤ last_rank accepted p
     → r < slice_index cut p → KnowsOne accepted fell cut p (r + 1) → (found : Option ℕ)
     → MatchOption found ((q : ℕ) → Contains fell q → ¬ KnowsRank accepted p (r + 1) q (slice_index cut q)) (λ q. (q < length cut) × IsFirstKnown accepted fell cut p (r + 1) q) → IsCauseOf accepted cut p r found
 cause_of accepted fell cut p r laws but pin top below one None none = absurd (none one.0 one.1 one.2)

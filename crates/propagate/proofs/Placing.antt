@@ -11,7 +11,7 @@ use Rattle.chains.specs.Elements.{name_of, elements, elements_of, lasting_of, la
 use Rattle.chains.specs.Positions.{position_at, last_rank, IsLastSurviving}
 use Rattle.chains.specs.Admission.{report_limit}
 use Rattle.chains.proofs.Counting.{made_within, one_present}
-use Rattle.propagate.specs.Ranks.{places_from}
+use Rattle.propagate.specs.working.Ranks.{places_from}
 
 few_named : (accepted : List Report) (name : Option Name) → length (option_map_or (λ (p : Name). elements_of p accepted) name []) ≤ length accepted + 1
 few_named accepted None = omega arith

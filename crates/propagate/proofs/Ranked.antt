@@ -12,7 +12,7 @@ use Rattle.chains.specs.Elements.{elements, elements_of, name_of}
 use Rattle.chains.specs.Positions.{is_retired, rank, position_at, last_rank, position_in, IsSurviving, IsChosen}
 use Rattle.knows_row.proofs.Lasts.{last_above, last_below}
 use Rattle.knows_row.proofs.Laws.{at_element, at_end}
-use Rattle.propagate.specs.Ranks.{positions_from}
+use Rattle.propagate.specs.working.Ranks.{positions_from}
 
 module _ (accepted : List Report) (p : ℕ) where
   retired_or : (b : Bool) (e : ℕ) → e < cond b (e + 1) e → b ≡ true

@@ -7,11 +7,11 @@ use Rattle.knows_row.proofs.Lawful.{lawful}
 use Rattle.reasons.specs.Certificates.{AreReasons, positions_of}
 use Rattle.history_law.proofs.Lines.{line_of_histories}
 use Rattle.propagate.specs.declared.cut.Reached.{Reached}
-use Rattle.propagate.specs.Ranks.{IsStage}
+use Rattle.propagate.specs.working.Ranks.{IsStage}
 use Rattle.propagate.specs.Rounds.{AreRounds}
 use Rattle.propagate.specs.Choice.{AreChosen, ChainsAfter}
-use Rattle.propagate.specs.Stages.{chains_at, chains_due, shown}
-use Rattle.propagate.specs.Reached.{IsReached}
+use Rattle.propagate.specs.working.Stages.{chains_at, chains_due, shown}
+use Rattle.propagate.specs.working.Reached.{IsReached}
 use Rattle.propagate.specs.Cuts.{IsGreatestLine, IsCutFor}
 use Rattle.propagate.proofs.Grounding.{are_reasons}
 use Rattle.propagate.proofs.Rounding.{are_rounds}

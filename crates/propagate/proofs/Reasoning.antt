@@ -14,7 +14,7 @@ use Rattle.chains.specs.Processes.{Name, known, target_of, last_events}
 use Rattle.chains.specs.Elements.{elements, elements_of, element, name_of}
 use Rattle.chains.specs.Positions.{is_retired, rank, position_at, position_in, IsSurviving, IsChosen}
 use Rattle.chains.specs.Knowledge.{Knows, events_at}
-use Rattle.knows_row.specs.Knowing.{KnowsRank, IsLawful}
+use Rattle.knows_row.specs.Knowing.{KnowsRank, AreLawfulPlaces}
 use Rattle.reasons.specs.Certificates.{IsReasonChain, AreLinked, EndsAfter, HaveReasons, position_below}
 use Rattle.propagate.specs.Greatest.{IsConsistentCut}
 use Rattle.knows_row.proofs.Laws.{at_element}
@@ -77,7 +77,7 @@ first_reaches accepted failed q k first (inr s) h = h k s
 
 -- ---- a consistent cut
 
-module _ (accepted : List Report) (laws : IsLawful accepted) (failed : List ℕ) (d : List Position) (one : IsConsistentCut accepted failed d) where
+module _ (accepted : List Report) (laws : AreLawfulPlaces accepted) (failed : List ℕ) (d : List Position) (one : IsConsistentCut accepted failed d) where
   chosen : (p : ℕ) → p < length (known accepted) → IsChosen accepted failed p (position_in d p)
   chosen p lt = one.is_cut.chosen p lt
 

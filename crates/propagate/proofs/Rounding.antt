@@ -10,11 +10,11 @@ use Rattle.chains.specs.declared.position.Position.{Position}
 use Rattle.chains.specs.Processes.{known}
 use Rattle.chains.specs.Positions.{position_in, position_at, last_rank, rank}
 use Rattle.chains.specs.Knowledge.{Knows, IsStampConsistent}
-use Rattle.knows_row.specs.Knowing.{KnowsRank, IsLawful}
+use Rattle.knows_row.specs.Knowing.{KnowsRank, AreLawfulPlaces}
 use Rattle.reasons.specs.Certificates.{positions_of}
 use Rattle.propagate.specs.Greatest.{IsGreatestCut}
 use Rattle.propagate.specs.Rounds.{AreTops, AreRounds, AfterRounds, IsRound, IsLowered}
-use Rattle.propagate.specs.Ranks.{IsClearRank, IsNextRank, AreNextRanks, RanksAfter, IsClearBut, positions_from, places_from}
+use Rattle.propagate.specs.working.Ranks.{IsClearRank, IsNextRank, AreNextRanks, RanksAfter, IsClearBut, positions_from, places_from}
 use Rattle.std.specs.Prelude.{sum}
 use Rattle.propagate.proofs.Ranked.{rank_at, has_position, chosen_position, position_in_positions, length_positions}
 use Rattle.propagate.proofs.Settling.{after_complete, after_within, after_chosen, stays_below, same_ranks}
@@ -26,7 +26,7 @@ settled_is_consistent accepted cut complete same p q pin qin =
     ((same.each p (omega (arith, complete, pin))).clear q (omega (arith, complete, qin)))
 
 -- the cut that the rounds end at is the greatest
-pub settled_is_greatest : (accepted : List Report) (failed tops cut : List ℕ) (t : ℕ) → IsLawful accepted → AreTops accepted failed tops
+pub settled_is_greatest : (accepted : List Report) (failed tops cut : List ℕ) (t : ℕ) → AreLawfulPlaces accepted → AreTops accepted failed tops
     → RanksAfter accepted tops t cut → AreNextRanks accepted cut cut → IsGreatestCut accepted failed (positions_from accepted 0 cut)
 settled_is_greatest accepted failed tops cut t laws h after same = record {
   is_one = record {
@@ -91,7 +91,7 @@ after_rounds accepted failed tops cut (suc t) h after =
     )
 
 -- and the rounds by ranks are the rounds
-pub are_rounds : (accepted : List Report) (failed tops cut : List ℕ) (t : ℕ) → IsLawful accepted → AreTops accepted failed tops
+pub are_rounds : (accepted : List Report) (failed tops cut : List ℕ) (t : ℕ) → AreLawfulPlaces accepted → AreTops accepted failed tops
     → RanksAfter accepted tops t cut → AreNextRanks accepted cut cut → AreRounds accepted failed (t + 1) (positions_from accepted 0 cut)
 are_rounds accepted failed tops cut t laws h after same =
     let whole = after_complete accepted failed tops h t cut after in (
@@ -132,7 +132,7 @@ positions_from_places accepted i (r ∷ rs) = ap (λ (ks : List Position). posit
 
 -- Within a round a process p went down from its rank in the cut to x. Where x is clear of the processes that fell in the
 -- round before, it is clear.
-pub clear_of_fallen : (accepted : List Report) (fell cut : List ℕ) (p x : ℕ) → IsLawful accepted → IsClearBut accepted fell cut
+pub clear_of_fallen : (accepted : List Report) (fell cut : List ℕ) (p x : ℕ) → AreLawfulPlaces accepted → IsClearBut accepted fell cut
     → p < length cut → x ≤ slice_index cut p → slice_index cut p ≤ last_rank accepted p
     → ((q : ℕ) → Contains fell q → q < length cut → ¬ KnowsRank accepted p x q (slice_index cut q)) → IsClearRank accepted cut p x
 clear_of_fallen accepted fell cut p x laws but within le top h q qin knows =

@@ -14,9 +14,9 @@ use Rattle.chains.specs.declared.position.Position.TheVariants.{At, Retired}
 use Rattle.chains.specs.Processes.{Name, target_of, target_in, target_after, last_report}
 use Rattle.chains.specs.Elements.{elements, lasting, elements_of, lasting_of, present_in, present_by, name_of}
 use Rattle.chains.specs.Positions.{is_retired, rank, position_at, last_rank, position_in, IsSurviving, IsChosen}
-use Rattle.knows_row.specs.Knowing.{KnowsRank, IsLawful}
+use Rattle.knows_row.specs.Knowing.{KnowsRank, AreLawfulPlaces}
 use Rattle.propagate.specs.Greatest.{IsConsistentCut}
-use Rattle.propagate.specs.Ranks.{IsClearRank, RanksAfter, positions_from}
+use Rattle.propagate.specs.working.Ranks.{IsClearRank, RanksAfter, positions_from}
 use Rattle.propagate.specs.Rounds.{AreTops}
 use Rattle.knows_row.proofs.Laws.{at_element, at_end}
 use Rattle.propagate.proofs.Ranked.{rank_at, rank_at_below, chosen_position, position_in_positions}
@@ -78,7 +78,7 @@ module _ (accepted : List Report) (failed tops : List ℕ) (h : AreTops accepted
       (omega (arith, after_below t cut after p lt, rank_at accepted p (slice_index tops p) (h.within p lt))) (inr (h.last p lt).surviving)
 
   -- a consistent cut stays at or before each of them
-  module _ (laws : IsLawful accepted) (d : List Position) (one : IsConsistentCut accepted failed d) where
+  module _ (laws : AreLawfulPlaces accepted) (d : List Position) (one : IsConsistentCut accepted failed d) where
     first_above : (p : ℕ) → p < length tops → (k : Position) → IsChosen accepted failed p k → rank accepted p k ≤ slice_index tops p
     first_above p lt k (inl e) = omega (arith, ap (rank accepted p) e)
     first_above p lt k (inr s) = omega (arith, (h.last p lt).greatest k s, rank_at_below accepted p (slice_index tops p))

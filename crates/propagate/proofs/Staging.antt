@@ -9,15 +9,15 @@ use Rattle.chains.specs.declared.position.Place.{Place}
 use Rattle.chains.specs.Processes.{known}
 use Rattle.chains.specs.Positions.{place_at, last_rank}
 use Rattle.chains.proofs.Listing.{AreListedTo, listed_none, listed_more, listed_other, listed_same}
-use Rattle.knows_row.specs.Knowing.{KnowsRank, IsLawful}
-use Rattle.propagate.specs.Ranks.{IsNextRank, AreNextRanks, AreFallen, IsGrounded, IsCauseOf}
+use Rattle.knows_row.specs.Knowing.{KnowsRank, AreLawfulPlaces}
+use Rattle.propagate.specs.working.Ranks.{IsNextRank, AreNextRanks, AreFallen, IsGrounded, IsCauseOf}
 use Rattle.event_tree.specs.EventTree.{EventTree}
 use Rattle.std.specs.List.Sorted.{IsStrictlyIncreasing}
 use Rattle.knows_row.specs.Looks.{AreBoundsOf, IsLoweredFrom, all_known}
 use Rattle.knows_row.specs.Thresholds.{AreThresholdsOf}
 use Rattle.knows_row.proofs.Lasts.{all_in_order, all_below, all_has}
 use Rattle.propagate.specs.Rounds.{AreTops}
-use Rattle.propagate.specs.Stages.{IsStanding, AreGroundedBy, AreThere}
+use Rattle.propagate.specs.working.Stages.{IsStanding, AreGroundedBy, AreThere}
 use Rattle.propagate.proofs.Rounding.{clear_but_fallen}
 use Rattle.propagate.proofs.Grounding.{grounded_first, grounded_more, grounded_still, falls_everywhere}
 
@@ -215,14 +215,14 @@ module _ (accepted : List Report) (tops cut heads fell : List ℕ) (arena : List
       (chain_of accepted failed tops cut heads arena p grounded h s.headed pin (omega arith)))
 
   -- it falls, for a process at its last surviving rank
-  pub head_starts : (q : ℕ) (chain : List Place) → IsLawful accepted → IsCauseOf accepted cut p r (Some q) → slice_index cut q ≡ slice_index tops q
+  pub head_starts : (q : ℕ) (chain : List Place) → AreLawfulPlaces accepted → IsCauseOf accepted cut p r (Some q) → slice_index cut q ≡ slice_index tops q
       → chain ≡ (place_at accepted q (slice_index cut q) ∷ []) ++ place_at accepted p (r + 1) ∷ [] → IsGroundedBelow accepted tops cut p r chain
   head_starts q chain laws cause top is failed next h same falls at below =
       rw (is, top) (grounded_first accepted failed tops cut next p (r + 1) q laws h (omega (arith, s.each, cause.1))
       (subst (KnowsRank accepted p (r + 1) q) top cause.2) (omega arith) (omega (arith, cause.0, s.surviving p pin, s.within p pin)))
 
   -- it falls, for a process below it
-  pub head_prolongs : (q : ℕ) (chain : List Place) → IsLawful accepted → AreGroundedBy accepted tops cut heads arena → IsCauseOf accepted cut p r (Some q) → slice_index cut q ≢ slice_index tops q
+  pub head_prolongs : (q : ℕ) (chain : List Place) → AreLawfulPlaces accepted → AreGroundedBy accepted tops cut heads arena → IsCauseOf accepted cut p r (Some q) → slice_index cut q ≢ slice_index tops q
       → chain ≡ get_or arena (slice_index heads q) [] ++ place_at accepted p (r + 1) ∷ [] → IsGroundedBelow accepted tops cut p r chain
   head_prolongs q chain laws grounded cause other is failed next h same falls at below =
       let lower : slice_index cut q < slice_index tops q = omega (arith, other, s.surviving q cause.1) in

@@ -8,7 +8,7 @@ use Rattle.chains.proofs.Showing.{get_front, get_behind}
 use Rattle.std.proofs.lemmas.Option.{none-some, same_Some, slice_get_within}
 use Rattle.chains.specs.declared.position.Place.{Place}
 use Rattle.propagate.specs.declared.arena.Node.{Node}
-use Rattle.propagate.specs.Nodes.{chain_by, unwound, AreBehind, IsUnwinding}
+use Rattle.propagate.specs.working.Nodes.{chain_by, unwound, AreBehind, IsUnwinding}
 
 pub unwound-push : (chains : List (List Place)) (nodes : List Node) (node : Node) → unwound chains (nodes ++ node ∷ []) ≡ unwound chains nodes ++ chain_by (unwound chains nodes) node ∷ []
 unwound-push chains [] node = refl

@@ -1,9 +1,5 @@
 pub mod Greatest
 pub mod Rounds
 pub mod Choice
-pub mod Ranks
-pub mod Stages
-pub mod Nodes
-pub mod Reached
 pub mod Cuts
-pub mod Brackets
+pub mod working

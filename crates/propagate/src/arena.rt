@@ -1,7 +1,7 @@
 //! Reason chains that share their beginnings.
 
 ghost use Rattle.std.specs.Prelude.{◌≡◌, ◌<◌, ◌++◌, ◌∷◌, [], reverse, IfOk, OnErr, length, get_or};
-ghost use Rattle.propagate.specs.Nodes.{unwound, AreBehind};
+ghost use Rattle.propagate.specs.working.Nodes.{unwound, AreBehind};
 
 use chains::{Place, Places};
 use std::alloc::{AllocError, Global};
@@ -24,8 +24,8 @@ pub(crate) struct Arena {
 impl Model for Arena {
     ghost use Rattle.std.specs.Prelude.{List, []};
     ghost use Rattle.chains.specs.declared.position.Place.{Place};
-    ghost use Rattle.reasons.specs.Codes.{reasons_code};
-    ghost use Rattle.propagate.specs.Nodes.{unwound, AreBehind};
+    ghost use Rattle.reasons.specs.working.Codes.{reasons_code};
+    ghost use Rattle.propagate.specs.working.Nodes.{unwound, AreBehind};
 
     ghost Value = { List (List Place) };
 

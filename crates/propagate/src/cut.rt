@@ -13,9 +13,9 @@ ghost use Rattle.knows_row.specs.Needs.{IsTableOf};
 ghost use Rattle.reasons.specs.Certificates.{Certifies, positions_of};
 ghost use Rattle.history_law.specs.Headline.{IsLineOfHistories};
 ghost use Rattle.propagate.specs.Greatest.{IsGreatestCut};
-ghost use Rattle.propagate.specs.Ranks.{AreNextRanks, RanksAfter};
-ghost use Rattle.propagate.specs.Stages.{IsStageFrom, AreThere, AreChosenBy, chains_at, chains_due};
-ghost use Rattle.propagate.specs.Reached.{IsReached};
+ghost use Rattle.propagate.specs.working.Ranks.{AreNextRanks, RanksAfter};
+ghost use Rattle.propagate.specs.working.Stages.{IsStageFrom, AreThere, AreChosenBy, chains_at, chains_due};
+ghost use Rattle.propagate.specs.working.Reached.{IsReached};
 ghost use Rattle.propagate.specs.Choice.{AreChosen, IsChosenCertificate};
 ghost use Rattle.propagate.specs.Cuts.{IsGreatestLine, IsCutFor, IsCertificateFor};
 

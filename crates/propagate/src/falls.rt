@@ -3,9 +3,9 @@
 ghost use Rattle.std.specs.Prelude.{◌≡◌, ◌<◌, ◌≤◌, ◌+◌, ◌↔◌, IfSome, IsTrue, length, slice_index};
 ghost use Rattle.chains.specs.Processes.{known};
 ghost use Rattle.knows_row.specs.Looks.{AreBoundsOf, IsFirstOf, KnowsOne, last_ranks};
-ghost use Rattle.propagate.specs.Ranks.{IsClearRank, IsNextRank, IsCauseOf};
-ghost use Rattle.propagate.specs.Brackets.{IsBracket};
-ghost use Rattle.propagate.specs.Stages.{IsStanding};
+ghost use Rattle.propagate.specs.working.Ranks.{IsClearRank, IsNextRank, IsCauseOf};
+ghost use Rattle.propagate.specs.working.Brackets.{IsBracket};
+ghost use Rattle.propagate.specs.working.Stages.{IsStanding};
 
 use crate::rounds::Stage;
 use chains::Chains;

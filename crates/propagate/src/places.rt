@@ -4,7 +4,7 @@ ghost use Rattle.std.specs.Prelude.{◌≡◌, ◌<◌, ◌≤◌, ◌+◌, All,
 ghost use Rattle.chains.specs.Processes.{known};
 ghost use Rattle.chains.specs.Positions.{position_at, last_rank, IsLastSurviving};
 ghost use Rattle.chains.specs.Admission.{report_limit};
-ghost use Rattle.propagate.specs.Ranks.{places_from};
+ghost use Rattle.propagate.specs.working.Ranks.{places_from};
 ghost use Rattle.propagate.specs.Rounds.{AreTops};
 
 use chains::{Chains, Failed, Line, Position};

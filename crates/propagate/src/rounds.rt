@@ -4,11 +4,11 @@ ghost use Rattle.std.specs.Prelude.{◌≡◌, ◌<◌, ◌≤◌, ◌+◌, ◌+
 ghost use Rattle.chains.specs.Processes.{known};
 ghost use Rattle.chains.specs.Positions.{place_at as place_of_rank, last_rank};
 ghost use Rattle.chains.specs.declared.position.Place.{Place as AnyPlace};
-ghost use Rattle.propagate.specs.Ranks.{IsGrounded, IsCauseOf};
+ghost use Rattle.propagate.specs.working.Ranks.{IsGrounded, IsCauseOf};
 ghost use Rattle.propagate.specs.Rounds.{AreTops};
 ghost use Rattle.knows_row.specs.Looks.{AreBoundsOf, IsLoweredFrom, all_known, last_ranks};
 ghost use Rattle.knows_row.specs.Needs.{IsTableOf};
-ghost use Rattle.propagate.specs.Stages.{IsStanding, IsStageFrom, IsNextStage, AreThere, IsChainAt};
+ghost use Rattle.propagate.specs.working.Stages.{IsStanding, IsStageFrom, IsNextStage, AreThere, IsChainAt};
 
 use crate::arena::Arena;
 use crate::falls::{Lowered, lower};

@@ -11,7 +11,7 @@ ghost use Rattle.propagate.specs.Greatest.{IsGreatestCut};
 
 use crate::cut::greatest_line;
 use chains::{Chains, Failed, FailedFault};
-use report_line::Name;
+use report_line::Names;
 use std::alloc::AllocError;
 
 /// The chains once all processes returned to the line of these failed ones: what the line keeps, with one more line and one more
@@ -29,7 +29,7 @@ pub fn settle(chains: &Chains, failed: &Failed) -> Result<Chains, AllocError>
 }
 
 /// The same of the failed processes with these names, which its caller knows to be known.
-pub fn settle_named(chains: &Chains, names: &[Name]) -> Result<Chains, AllocError>
+pub fn settle_named(chains: &Chains, names: &Names) -> Result<Chains, AllocError>
     requires room { chains.now.front < report_limit }
     requires known { All (IsKnown chains.now.accepted) names.now }
     ensures { IfOk result (λ kept. IsSettled (held_of chains.now) names.now (held_of kept)) }

@@ -5,7 +5,7 @@ use Rattle.chains.specs.declared.position.Position.{Position}
 use Rattle.chains.specs.declared.position.Position.TheVariants.{At, Retired}
 use Rattle.chains.specs.declared.position.Place.{Place}
 use Rattle.reason_check.specs.Causes.{entry}
-use Rattle.reason_check.specs.Falling.{IsBelow, IsFalling}
+use Rattle.reason_check.specs.working.Falling.{IsBelow, IsFalling}
 
 below_apart : (j k : Position) → IsBelow j k → j ≢ k
 below_apart (At j) (At k) less same = let is : j ≡ k = cc in omega (arith, less)

@@ -1,3 +1,3 @@
 pub mod Causes
-pub mod Falling
 pub mod Texts
+pub mod working

@@ -1,7 +1,7 @@
 //! Chains in which no place stands twice, since each is below those before it of its process.
 
 ghost use Rattle.std.specs.Prelude.{◌↔◌, ◌+◌, ◌<◌, length, IsTrue};
-ghost use Rattle.reason_check.specs.Falling.{IsBelow, IsFalling};
+ghost use Rattle.reason_check.specs.working.Falling.{IsBelow, IsFalling};
 
 use chains::{Place, Position};
 

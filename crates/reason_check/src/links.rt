@@ -6,7 +6,7 @@ ghost use Rattle.chains.specs.Processes.{known};
 ghost use Rattle.chains.specs.Positions.{rank, position_in};
 ghost use Rattle.chains.specs.declared.position.Position.{Position as AnyPosition};
 ghost use Rattle.reasons.specs.Certificates.{positions_of, position_below, IsReasonChain, EndsAfter, AreReasons};
-ghost use Rattle.reason_check.specs.Falling.{IsFalling};
+ghost use Rattle.reason_check.specs.working.Falling.{IsFalling};
 ghost use Rattle.reason_check.specs.Causes.{IsRightPosition, IsRightLink, IsRightEntry, IsRightEnd, IsFirstWrong, IsFirstReason, entry, asked};
 
 use crate::falling::still_falls;

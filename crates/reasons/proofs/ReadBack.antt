@@ -19,7 +19,7 @@ use Rattle.serde_json.specs.Data.{Data, string, number, unsigned, array, object,
 use Rattle.serde_json.specs.Read.{of_json, of_items, max_depth}
 use Rattle.serde_json.specs.Written.{outline, items_outline, compact_text, items_text, members_text}
 use Rattle.reasons.specs.CertificateReading.{items_by, IsJsonOf}
-use Rattle.reasons.specs.Json.{IsWritten, AreWritten}
+use Rattle.reasons.specs.working.Json.{IsWritten, AreWritten}
 use Rattle.reasons.proofs.Broken.{tokens_broken}
 
 -- as JSON it is read as the same value, no deeper than this, and its text is UTF-8

@@ -10,7 +10,7 @@ use Rattle.serde_json.specs.declared.value.Value.{Value}
 use Rattle.reasons.specs.declared.fault.CertificateFault.{CertificateFault}
 use Rattle.reasons.specs.declared.fault.CertificateFault.TheVariants.{NotJson, Shape, Unknown, Memory}
 use Rattle.reasons.specs.CertificateReading.{items_by, IsNameKnown, IsFirstUnknownText}
-use Rattle.reasons.specs.Reading.{ReadsAs}
+use Rattle.reasons.specs.working.Reading.{ReadsAs}
 use Rattle.reasons.proofs.InLists.{same_length, stands_at, items_of_list}
 
 -- ---- faults in parts

@@ -6,7 +6,7 @@ use Rattle.serde_json.proofs.OnLiterals.{serde_json_on_literals}
 use Rattle.serde_json.specs.Data.{Data, number, unsigned, array, object, Items, no_items, item, member, no_members}
 use Rattle.serde_json.specs.Written.{items_have_float, items_text}
 use Rattle.reasons.specs.CertificateText.{key, bracketed}
-use Rattle.reasons.specs.Json.{IsWritten, AreWritten, comma_before}
+use Rattle.reasons.specs.working.Json.{IsWritten, AreWritten, comma_before}
 
 -- ---- texts in a row, written one by one
 

@@ -24,7 +24,7 @@ use Rattle.reasons.specs.declared.fault.CertificateFault.{CertificateFault}
 use Rattle.reasons.specs.declared.fault.CertificateFault.TheVariants.{NotJson, Shape, Unknown, Memory}
 use Rattle.reasons.specs.CertificateText.{quoted, bracketed, position_text, shown_name, place_text, certificate_text}
 use Rattle.reasons.specs.CertificateReading.{NamedPlace, NamedCertificate, items_by, position_data, place_data, places_data, IsSmall, HasSmallPosition, IsValueOf, names_in, IsNameKnown, IsFirstUnknownText, place_named, IsNumbered, IsKnownPlace, HasKnownNumbers, IsCertificateText, IsReadAs}
-use Rattle.reasons.specs.Json.{IsWritten}
+use Rattle.reasons.specs.working.Json.{IsWritten}
 use Rattle.reasons.proofs.PlainNames.{name_bytes, name_utf8, plain_text}
 use Rattle.reasons.proofs.ReadBack.{IsReadBack, string_back, number_back, pair_back, each_back, each_written, array_back, object_back, weaker, text_of_back, broken_text_of_back, four_members}
 use Rattle.reasons.proofs.Taking.{all_both, all_three}

@@ -46,7 +46,7 @@ pub struct Reasons {
 impl Model for Reasons {
     ghost use Rattle.std.specs.Prelude.{List};
     ghost use Rattle.chains.specs.declared.position.Place.{Place};
-    ghost use Rattle.reasons.specs.Codes.{reasons_code};
+    ghost use Rattle.reasons.specs.working.Codes.{reasons_code};
 
     ghost Value = { List (List Place) };
 

@@ -7,7 +7,7 @@ ghost use Rattle.serde_json.specs.Data.{array, string};
 ghost use Rattle.serde_json.specs.Find.{get};
 ghost use Rattle.serde_json.specs.View.{view};
 ghost use Rattle.reasons.specs.CertificateReading.{NamedPlace, NamedCertificate, HasSmallPosition, place_data, places_data, items_by, place_named, names_in, IsNameKnown, IsValueOf, IsNumbered, IsReadAs};
-ghost use Rattle.reasons.specs.Reading.{ReadsAs};
+ghost use Rattle.reasons.specs.working.Reading.{ReadsAs};
 
 use crate::certificate::{Certificate, Numbers, Reasons};
 use crate::fault::CertificateFault;

@@ -9,7 +9,7 @@ ghost use Rattle.serde_json.specs.Find.{as_object, get};
 ghost use Rattle.std.specs.Option.{option_map};
 ghost use Rattle.chains.specs.Processes.{Name};
 ghost use Rattle.reasons.specs.CertificateReading.{NamedPlace, IsSmall, HasSmallPosition, items_by, position_data, place_data, places_data};
-ghost use Rattle.reasons.specs.Reading.{AnyName, IsText, IsPlace, ArePlaces, IsCertificate};
+ghost use Rattle.reasons.specs.working.Reading.{AnyName, IsText, IsPlace, ArePlaces, IsCertificate};
 
 use chains::Position;
 use serde_json::Value;

@@ -4,7 +4,7 @@ ghost use Rattle.std.specs.Prelude.{◌≡◌, ◌++◌, IfOk, OnOk, IsTrue, map
 ghost use Rattle.std.specs.List.{list_all};
 ghost use Rattle.report_line.specs.Names.{is_name_byte};
 ghost use Rattle.reasons.specs.CertificateText.{quoted, bracketed, position_text, shown_name, place_text, certificate_text};
-ghost use Rattle.reasons.specs.Json.{comma_before, first_key};
+ghost use Rattle.reasons.specs.working.Json.{comma_before, first_key};
 
 use crate::certificate::Certificate;
 use chains::{Chains, Place, Places, Position};

@@ -23,7 +23,7 @@ use Rattle.desk.specs.Desks.{DeskState}
 use Rattle.client_link.specs.Links.{LinkState}
 use Rattle.session.specs.Exchanges.{Exchange}
 use Rattle.session.specs.SessionText.{Means, Mean, joined, exchange_line, session_text}
-use Rattle.session.specs.Turned.{Served, EachLineIsChosen}
+use Rattle.session.specs.Turned.{AreExchanges, EachLineIsChosen}
 use Rattle.session.specs.Ends.{Ended, Leaves}
 use Rattle.session.specs.declared.handing.HandOn.{HandOn}
 use Rattle.session.specs.declared.handing.HandOn.TheVariants as hand_ons
@@ -147,7 +147,7 @@ reply_at_end keeps when question client link desk after count is e leaves =
     let x : Exchange = one.0 in
     let text : e.text ≡ exchange_line x =
     e.session.ends.1.0 ∙ ap (λ (es : List Exchange). session_text es ++ []) one.1 ∙ append-nil (exchange_line x ++ []) ∙ append-nil (exchange_line x) in
-    let served = subst (λ (es : List Exchange). Served desk.held es after.held) one.1 e.turns.served in
+    let served = subst (λ (es : List Exchange). AreExchanges desk.held es after.held) one.1 e.turns.served in
     record {
       exchange = x;
       after = served.0;

@@ -15,7 +15,7 @@ use Rattle.reason_check.specs.Causes.{IsVerdict}
 use Rattle.reason_check.specs.Texts.{verdict_text}
 use Rattle.history_law.specs.Headline.{IsLineOfHistories}
 use Rattle.desk.specs.Desks.{DeskState}
-use Rattle.desk.specs.Lawful.{IsLawful}
+use Rattle.desk.specs.Lawful.{IsLawfulDesk}
 use Rattle.client_link.specs.Links.{LinkState, IsSound}
 use Rattle.recline.specs.Outcome.{IsNotOpened, IsOpened, Tells}
 use Rattle.recline.specs.Driving.{HasFewReads, OnlyReads, ReadsInVain, WritesAll, WritesPart}
@@ -96,7 +96,7 @@ pub record ChecksOpened {D K F : Type 0} (keeps : D → Type 0) (view : D → Vi
   pub desk : DeskState D
   pub opened : IsOpened keeps view disk desk
   pub checks : Checks client_told faults_told desk.held client client_after faults faults_after status
-  pub lawful : IsLawful keeps view desk
+  pub lawful : IsLawfulDesk keeps view desk
   pub disk_is : disk_after ≡ desk.disk
 
 abbrev pub ChecksOn : {D K F : Type 0} → (D → Type 0) → (D → View) → (D → ℕ) → (K → LinkState) → (F → LinkState) → D → D → K → K → F → F → ℕ → Type 0

@@ -7,7 +7,7 @@ use Rattle.record_file.specs.Opening.{KeepsFile, IsSynced}
 use Rattle.desk.specs.Desks.{DeskState}
 use Rattle.record_file.specs.File.{Stands}
 use Rattle.desk.specs.Records.{Opens}
-use Rattle.desk.specs.Lawful.{IsLawful}
+use Rattle.desk.specs.Lawful.{IsLawfulDesk}
 use Rattle.desk.specs.Openings.{CountsDeskFault, RefusesFile, LeavesFile}
 use Rattle.desk.specs.declared.fault.DeskFault.{DeskFault}
 use Rattle.desk.specs.declared.fault.DeskFault.TheVariants as opening
@@ -79,7 +79,7 @@ pub record RunsOpened {D K F : Type 0} (keeps : D → Type 0) (view : D → View
   pub after : DeskState D
   pub opened : IsOpened keeps view disk desk
   pub runs : Runs keeps client_told faults_told when client client_after faults faults_after desk after status
-  pub lawful : IsLawful keeps view after
+  pub lawful : IsLawfulDesk keeps view after
   pub disk_is : disk_after ≡ after.disk
 
 -- The file on this disk was not opened: nothing was read of the client, or written to it. A fault of the device is told only where a

@@ -10,7 +10,7 @@ use client_link::Link;
 use itoa::Buffer;
 use memchr::memchr;
 use picture::{Ending, draw, draw_accepted};
-use report_line::Name;
+use report_line::{Name, Names};
 use std::alloc::Global;
 
 /// Why a list of names is not taken.
@@ -29,7 +29,7 @@ fn cut_part(list: &[u8]) -> Option<(&[u8], &[u8])>
 }
 
 /// Adds the name that a part of a list is.
-fn add_name<'a>(names: &mut Vec<Name>, part: &'a [u8]) -> Result<(), Unnamed<'a>> {
+fn add_name<'a>(names: &mut Names, part: &'a [u8]) -> Result<(), Unnamed<'a>> {
     let Some(name) = Name::from_bytes(part) else {
         return Err(Unnamed::Part(part));
     };
@@ -40,8 +40,8 @@ fn add_name<'a>(names: &mut Vec<Name>, part: &'a [u8]) -> Result<(), Unnamed<'a>
 }
 
 /// The names of a list, which are parted by commas; `-` has none.
-fn read_names<'a>(alloc: Global, list: &'a [u8]) -> Result<Vec<Name>, Unnamed<'a>> {
-    let mut names = Vec::new(alloc);
+fn read_names<'a>(alloc: Global, list: &'a [u8]) -> Result<Names, Unnamed<'a>> {
+    let mut names = Names::new(alloc);
     if list == b"-".as_slice() {
         return Ok(names);
     }
@@ -130,7 +130,7 @@ fn draw_over<K: Link, F: Link>(
     client: &mut K,
     faults: &mut F,
     form: ScriptForm,
-    failed: &[Name],
+    failed: &Names,
 ) -> u8 {
     let script = match read_script(alloc, client, form) {
         Ok(script) => script,
@@ -147,7 +147,7 @@ fn draw_records_over<K: Link, F: Link>(
     bytes: &[u8],
     client: &mut K,
     faults: &mut F,
-    failed: &[Name],
+    failed: &Names,
     why: Option<&Name>,
 ) -> u8 {
     match desk_of(alloc, bytes) {

@@ -71,8 +71,8 @@ pub(crate) fn read_all<K: Link>(alloc: Global, link: &mut K) -> Result<Vec<u8>, 
     ensures { MatchResult result (λ bytes. ReadsAll (K.told link.old) (K.told link.new) bytes.items) (λ why. ReadsSome (K.told link.old) (K.told link.new) why) }
 {
     let mut bytes = Vec::new(alloc);
+    let mut buf = [0u8; 8192];
     for _ in 0..MOST_READS {
-        let mut buf = [0u8; 8192];
         let Ok(n) = link.read(&mut buf) else {
             return Err(Unread::Device);
         };

@@ -29,8 +29,8 @@ fn explain_lines<K: Link>(alloc: Global, client: &mut K, told: &mut Explanations
     ensures over { IsExplainedOver (K.told client.old) (K.told client.new) result }
     ensures few { HasFewReads (K.told client.old) (K.told client.new) }
 {
+    let mut buf = [0u8; 8192];
     for _ in 0..MOST_READS {
-        let mut buf = [0u8; 8192];
         let Ok(n) = client.read(&mut buf) else {
             return LinesEnd::Device;
         };

@@ -5,6 +5,7 @@ ghost use Rattle.std.specs.List.{flat_map};
 ghost use Rattle.std.specs.Thread.{IsSend, IsSync};
 ghost use Rattle.recline.specs.Driving.{Writes};
 ghost use Rattle.recline.specs.Serving.{AreLimited, AreServed, EndsNot, EndsShort, EndsWith, IsService, IsServed, IsStopped, PrintsPort, ServesOn, Stops, StopsBehind, TellsDropped, WritesPort, dropped_in, drops, end_line, port_line, stop_line, stopped_by};
+ghost use Rattle.coordinator.specs.Passes.{ledger_parts};
 
 use crate::host::Host;
 use crate::telling::{tell, tell_all, tell_unopened, write_pieces};
@@ -501,7 +502,7 @@ fn serve_desk<
     warnings: W,
 ) -> Result<(D, u64), Stopped<D>>
     requires name { blank.name ≡ L.name }
-    requires parts { (blank.parts ≡ L.parts) × (blank.parts ≡ 8193) }
+    requires parts { (blank.parts ≡ L.parts) × (blank.parts ≡ ledger_parts) }
     requires fresh { desk.turns ≡ [] }
     requires service { IsService service }
     ensures ok { IfOk result (λ r. IsServed D.keeps D.view desk.opening service.sessions r.1 (O.told output.old) (O.told output.new) r.0) }

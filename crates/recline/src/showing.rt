@@ -220,8 +220,8 @@ fn fault_before(fault: EarlierFault) -> Option<DeskFault> {
     }
 }
 
-/// The same of the file as it was when it had its first records alone, so many. Where one of these is damaged, what stands in front of it is
-/// shown, too.
+/// Shows, as `show_on` does, the file as it was when it had its first records alone, so many. Where one of these is damaged, what stands in
+/// front of it is shown, too.
 pub fn show_front_on<K: Link, F: Link>(
     alloc: Global,
     bytes: &[u8],

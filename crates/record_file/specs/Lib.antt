@@ -7,4 +7,4 @@ pub mod Opening
 pub mod Store
 pub mod Kept
 pub mod Reading
-pub mod Faults
+pub mod working

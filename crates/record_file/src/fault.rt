@@ -24,7 +24,7 @@ pub enum OpenFault {
 }
 
 impl From<DiskFault> for OpenFault {
-    ghost use Rattle.record_file.specs.Faults.{from_disk};
+    ghost use Rattle.record_file.specs.working.Faults.{from_disk};
 
     ghost from_gives = { λ d e. e ≡ from_disk d };
 
@@ -37,7 +37,7 @@ impl From<DiskFault> for OpenFault {
 }
 
 impl From<ReadFault> for OpenFault {
-    ghost use Rattle.record_file.specs.Faults.{from_read};
+    ghost use Rattle.record_file.specs.working.Faults.{from_read};
 
     ghost from_gives = { λ r e. e ≡ from_read r };
 

@@ -2,7 +2,7 @@
 
 ghost use Rattle.std.specs.Prelude.{◌≡◌, ◌↔◌, ◌≢◌, ◌⊎◌, ◌*◌, ◌/◌, ◌%◌, ◌+◌, ◌-◌, ◌<◌, ◌≤◌, ◌++◌, [], ◌∷◌, ℕ, List, IsTrue, IfOk, IfErr, IfSome, IfNone, length, get_or, take, drop, slice_index};
 ghost use Rattle.std.specs.Int.{w32, to_be_bytes};
-ghost use Rattle.record_file.specs.File.{magic, IsLine, IsNoRecord};
+ghost use Rattle.record_file.specs.File.{magic, IsLine, IsNoRecord, line_limit};
 ghost use Rattle.record_file.specs.Kept.{said_in};
 ghost use Rattle.record_file.specs.Reading.{IsSplit, IsSoFar, IsWalkFault};
 
@@ -52,7 +52,7 @@ impl<T: Drop> From<AllocFailed<T>> for ReadFault {
 
 /// The line of so many bytes that the bytes begin with, and what stands behind it from its gate on.
 fn split_line(n: usize, bytes: &[u8]) -> Option<(&[u8], &[u8])>
-    ensures none { IfNone result ((n ≡ 0) ⊎ (8192 < n) ⊎ (length bytes.now ≤ n)) }
+    ensures none { IfNone result ((n ≡ 0) ⊎ (line_limit < n) ⊎ (length bytes.now ≤ n)) }
     ensures line { IfSome result (λ r. IsLine r.0.now) }
     ensures size { IfSome result (λ r. length r.0.now ≡ n) }
     ensures gate { IfSome result (λ r. 0 < length r.1.now) }
@@ -66,7 +66,7 @@ fn split_line(n: usize, bytes: &[u8]) -> Option<(&[u8], &[u8])>
 
 /// The epoch that the bytes begin with, the line of so many bytes behind it, and what stands behind that from its gate on.
 fn split_long(n: usize, bytes: &[u8]) -> Option<(u32, &[u8], &[u8])>
-    ensures none { IfNone result ((n ≡ 0) ⊎ (8192 < n) ⊎ (length bytes.now ≤ n + 4)) }
+    ensures none { IfNone result ((n ≡ 0) ⊎ (line_limit < n) ⊎ (length bytes.now ≤ n + 4)) }
     ensures line { IfSome result (λ r. IsLine r.1.now) }
     ensures size { IfSome result (λ r. length r.1.now ≡ n) }
     ensures gate { IfSome result (λ r. 0 < length r.2.now) }

@@ -2,7 +2,7 @@
 
 ghost use Rattle.std.specs.Prelude.{◌≡◌, ◌≢◌, ◌↔◌, ◌+◌, ◌≤◌, ◌++◌, [], ◌∷◌, List, ℕ, length, true, false, vec_len, IfOk, IfErr, IsOk, OnOk, MatchResult};
 ghost use Rattle.line_disk.specs.Disk.{Leaves, LeavesAlways, CountsDevice};
-ghost use Rattle.record_file.specs.File.{Said, first_version, Stands};
+ghost use Rattle.record_file.specs.File.{Said, first_version, Stands, line_limit};
 ghost use Rattle.record_file.specs.Kept.{said_in};
 ghost use Rattle.record_file.specs.Resting.{IsBeforeOrAfter};
 ghost use Rattle.record_file.specs.Opening.{IsOpenedWith, IsRefused, CountsFault, KeepsFile};
@@ -138,7 +138,7 @@ impl<D: Disk> Store<D> {
     /// Adds a record to a file of the second version.
     fn place(&mut self, epoch: u32, line: &[u8]) -> Appended
         requires some { 1 ≤ length line.now }
-        requires fits { length line.now ≤ 8192 }
+        requires fits { length line.now ≤ line_limit }
         requires runs { is_stopped self.old ≡ false }
         requires second { version_of self.old ≢ first_version }
 
@@ -174,7 +174,7 @@ impl<D: Disk> Store<D> {
     /// the second.
     pub fn append(&mut self, epoch: u32, line: &[u8]) -> Appended
         requires some { 1 ≤ length line.now }
-        requires fits { length line.now ≤ 8192 }
+        requires fits { length line.now ≤ line_limit }
 
         ensures done { (said : List Said) → D.keeps (disk_of self.old) → HasRecords D.view self.old said
             → OnDone result (HasRecords D.view self.new (said ++ (epoch, line.now) ∷ [])) }

@@ -4,7 +4,7 @@ use Rattle.std.specs.Prelude.{MatchOption, ⊤}
 use Rattle.std.proofs.Math.Seq.{take-append_seam, drop-append_seam}
 use Rattle.std.proofs.lemmas.List.{map-append, length-append, length-drop, drop-drop, take_rest, append-nil}
 use Rattle.report_line.specs.Cutting.{onto, cut_from, cut_of, NoBreak, IsLine}
-use Rattle.report_line.specs.Parts.{part_of, ArePartsOf, stand_from}
+use Rattle.report_line.specs.working.Parts.{part_of, ArePartsOf, stand_from}
 use Rattle.report_line.proofs.Streams.{lines_step, lines_long, lines_rest, rest_fits}
 
 -- the line at the front of the bytes from here on

@@ -1,21 +1,19 @@
 -- Names in a row, parted by commas.
-use Rattle.std.proofs.Common.{◌≡◌, ◌≢◌, ℕ, true, false, eqb, List, [], ◌∷◌, ◌++◌, length, refl, sym, ap, subst, ◌∙◌, IsTrue}
-use Rattle.std.specs.Prelude.{◌&&◌, nat_le, codes}
-use Rattle.std.specs.List.{list_all, join_with_byte, slice_split}
+use Rattle.std.proofs.Common.{◌≡◌, ◌≢◌, ℕ, true, false, eqb, List, [], ◌∷◌, ◌++◌, length, refl, sym, ap, subst, ◌∙◌, IsTrue, arith, append_assoc}
+use Rattle.std.specs.Prelude.{◌&&◌, nat_le, codes, Option, Some, None, MatchOption, IfNone, OnOk, OnErr, Result, Ok, Err, Bool, ◌↔◌, ◌+◌}
+use Rattle.std.specs.List.{list_all, join_with_byte, slice_split, count_by}
 use Rattle.std.proofs.lemmas.Bool.{true≢false}
-use Rattle.std.proofs.lemmas.List.Splits.{slice_split_none, slice_split_at}
+use Rattle.std.proofs.lemmas.List.Splits.{slice_split_none, slice_split_at, length-slice_split, join_with_byte-slice_split}
 use Rattle.std.proofs.lemmas.List.Elements.{All-from_recursion}
 use Rattle.report_line.specs.Names.{is_letter, is_name_byte, is_name}
 use Rattle.report_line.specs.Cuts.{Lacks}
+use Rattle.report_line.specs.working.Rows.{parts_in, named_in, appended}
 use Rattle.report_line.specs.Spelling.{AreNames, names_text}
 use Rattle.report_line.proofs.Cutting.{and_both, cut_same, Lacks-uncut}
 use Rattle.report_line.proofs.Plain.{Lacks-name, byte_44, letter_44}
 
--- the parts between commas
-abbrev pub parts : List ℕ → List (List ℕ)
-parts bytes = slice_split (λ b. eqb b 44) bytes
-
-parts-join : (w : List ℕ) (ws : List (List ℕ)) → AreNames (w ∷ ws) → parts (join_with_byte 44 (w ∷ ws)) ≡ w ∷ ws
+parts-join : (w : List ℕ) (ws : List (List ℕ)) → AreNames (w ∷ ws) → parts_in (join_with_byte 44 (w ∷ ws)) ≡ w ∷ ws
+unfolding parts_in
 parts-join w [] h = slice_split_none (λ b. eqb b 44) w (All-from_recursion (λ b. eqb b 44 ≡ false) w (Lacks-name 44 w byte_44 letter_44 h.0))
 parts-join w (v ∷ vs) h =
     slice_split_at (λ b. eqb b 44) w 44 (join_with_byte 44 (v ∷ vs)) (All-from_recursion (λ b. eqb b 44 ≡ false) w (Lacks-name 44 w byte_44 letter_44 h.0)) refl
@@ -113,4 +111,103 @@ pub row_again : (ms ns : List (List ℕ)) → AreNames ms → AreNames ns → na
 row_again [] [] g h e = refl
 row_again [] (n ∷ ns) g h e = absurd (not_dash n ns h (sym e))
 row_again (m ∷ ms) [] g h e = absurd (not_dash m ms g e)
-row_again (m ∷ ms) (n ∷ ns) g h e = sym (parts-join m ms g) ∙ ap parts e ∙ parts-join n ns h
+row_again (m ∷ ms) (n ∷ ns) g h e = sym (parts-join m ms g) ∙ ap parts_in e ∙ parts-join n ns h
+
+-- ---- the text that names are kept as
+
+-- a text has a part, be it an empty one
+some_part : (text : List ℕ) → parts_in text ≢ []
+unfolding parts_in
+some_part text none = let many = length-slice_split (λ b. eqb b 44) text in omega (arith, many, ap length none)
+
+parts_joined : (text : List ℕ) → join_with_byte 44 (parts_in text) ≡ text
+unfolding parts_in
+parts_joined text = join_with_byte-slice_split 44 text
+
+join_more : (w : List ℕ) (ws : List (List ℕ)) (name : List ℕ) → join_with_byte 44 (w ∷ ws) ++ 44 ∷ name ≡ join_with_byte 44 (w ∷ (ws ++ name ∷ []))
+join_more w [] name = refl
+join_more w (v ∷ vs) name = append_assoc w (44 ∷ join_with_byte 44 (v ∷ vs)) (44 ∷ name) ∙ ap (λ (rest : List ℕ). w ++ 44 ∷ rest) (join_more v vs name)
+
+one_more : (text name : List ℕ) (ns : List (List ℕ)) → ns ≡ parts_in text → AreNames ns → IsTrue (is_name name) → parts_in (text ++ 44 ∷ name) ≡ ns ++ name ∷ []
+one_more text name [] e are is = absurd (some_part text (sym e))
+one_more text name (w ∷ ws) e are is =
+    ap parts_in (ap (λ (t : List ℕ). t ++ 44 ∷ name) (sym (ap (join_with_byte 44) e ∙ parts_joined text)) ∙ join_more w ws name)
+    ∙ parts-join w (ws ++ name ∷ []) (names_push (w ∷ ws) name name are refl is)
+
+-- a name that is appended to the text is the last of its names
+pub named_push : (text name : List ℕ) → AreNames (named_in text) → IsTrue (is_name name) → named_in (appended text name) ≡ named_in text ++ name ∷ []
+named_push [] [] are is = absurd (no_name is)
+named_push [] (b ∷ bs) are is = parts-join (b ∷ bs) [] (is, tt)
+named_push (b ∷ bytes) name are is = one_more (b ∷ bytes) name (parts_in (b ∷ bytes)) refl are is
+
+pub named_push_are : (text name : List ℕ) → AreNames (named_in text) → IsTrue (is_name name) → AreNames (named_in (appended text name))
+named_push_are text name are is = subst AreNames (sym (named_push text name are is)) (names_push (named_in text) name name are refl is)
+
+told_as : (text : List ℕ) (ns : List (List ℕ)) → ns ≡ parts_in text → names_text ns ≡ text
+told_as text [] e = absurd (some_part text (sym e))
+told_as text (w ∷ ws) e = ap (join_with_byte 44) e ∙ parts_joined text
+
+-- the text is the word of its names
+pub named_text : (text : List ℕ) → text ≢ [] → names_text (named_in text) ≡ text
+named_text [] some = absurd (some refl)
+named_text (b ∷ bytes) some = told_as (b ∷ bytes) (parts_in (b ∷ bytes)) refl
+
+-- names of two texts are the same just where the texts are
+pub named_same : (one other : List ℕ) → named_in one ≡ named_in other → one ≡ other
+named_same [] [] e = refl
+named_same [] (c ∷ cs) e = absurd (some_part (c ∷ cs) (sym e))
+named_same (b ∷ bs) [] e = absurd (some_part (b ∷ bs) e)
+named_same (b ∷ bs) (c ∷ cs) e = sym (parts_joined (b ∷ bs)) ∙ ap (join_with_byte 44) e ∙ parts_joined (c ∷ cs)
+
+-- what is left of names is taken from the front
+last_part : (rest : List ℕ) → Lacks 44 rest → parts_in rest ≡ rest ∷ []
+unfolding parts_in
+last_part rest lacks = slice_split_none (λ b. eqb b 44) rest (All-from_recursion (λ b. eqb b 44 ≡ false) rest lacks)
+
+first_part : (rest part behind : List ℕ) → Lacks 44 part → rest ≡ part ++ 44 ∷ behind → parts_in rest ≡ part ∷ parts_in behind
+unfolding parts_in
+first_part rest part behind lacks is = ap (slice_split (λ b. eqb b 44)) is ∙ slice_split_at (λ b. eqb b 44) part 44 behind (All-from_recursion (λ b. eqb b 44 ≡ false) part lacks) refl
+
+-- a part of names is read as a name
+abbrev pub IsReadName : List ℕ → Option (List ℕ) → Type 0
+IsReadName part read = MatchOption read (is_name part ≡ false) (λ n. (n ≡ part) × IsTrue (is_name part))
+
+taken_as : (left behind : List (List ℕ)) (part : List ℕ) (read : Option (List ℕ)) → left ≡ part ∷ behind → AreNames left → IsReadName part read → MatchOption read (left ≡ []) (λ n. left ≡ n ∷ behind)
+taken_as left behind part None is are wrong = absurd (true≢false (sym (subst AreNames is are).0 ∙ wrong))
+taken_as left behind part (Some n) is are read = is ∙ ap (λ (m : List ℕ). m ∷ behind) (sym read.0)
+
+pub last_taken : (rest : List ℕ) (read : Option (List ℕ)) → Lacks 44 rest → AreNames (parts_in rest) → IsReadName rest read → MatchOption read (parts_in rest ≡ []) (λ n. parts_in rest ≡ n ∷ [])
+last_taken rest read lacks are is = taken_as (parts_in rest) [] rest read (last_part rest lacks) are is
+
+pub first_taken : (rest part behind : List ℕ) (read : Option (List ℕ)) → Lacks 44 part → rest ≡ part ++ 44 ∷ behind → AreNames (parts_in rest) → IsReadName part read → MatchOption read (parts_in rest ≡ []) (λ n. parts_in rest ≡ n ∷ parts_in behind)
+first_taken rest part behind read lacks cut are is = taken_as (parts_in rest) (parts_in behind) part read (first_part rest part behind lacks cut) are is
+
+pub first_taken_are : (rest part behind : List ℕ) → Lacks 44 part → rest ≡ part ++ 44 ∷ behind → AreNames (parts_in rest) → AreNames (parts_in behind)
+first_taken_are rest part behind lacks cut are = (subst AreNames (first_part rest part behind lacks cut) are).1
+
+-- a part of names is never refused
+pub never_none : (rest part behind : List ℕ) (read : Option (List ℕ)) → Lacks 44 part → rest ≡ part ++ 44 ∷ behind → AreNames (parts_in rest) → IsReadName part read → IfNone read (parts_in behind ≡ [])
+never_none rest part behind None lacks cut are wrong = absurd (true≢false (sym (subst AreNames (first_part rest part behind lacks cut) are).0 ∙ wrong))
+never_none rest part behind (Some n) lacks cut are read = tt
+
+-- what a push makes of the text
+pub named_push_if : {E : Type 0} (text new name : List ℕ) (result : Result (Unit {0}) E) → OnOk result (new ≡ appended text name) → OnErr result (new ≡ text) → AreNames (named_in text) → IsTrue (is_name name) → AreNames (named_in new)
+named_push_if text new name (Ok u) ok err are is = subst (λ (t : List ℕ). AreNames (named_in t)) (sym ok) (named_push_are text name are is)
+named_push_if text new name (Err e) ok err are is = subst (λ (t : List ℕ). AreNames (named_in t)) (sym err) are
+
+-- texts of the same names are the same
+pub same_texts : (one other : List ℕ) (ms ns : List (List ℕ)) (b : Bool) → named_in one ≡ ms → named_in other ≡ ns → (IsTrue b ↔ (one ≡ other)) → (IsTrue b ↔ (ms ≡ ns))
+same_texts one other ms ns b of_one of_other told = (
+  λ is. sym of_one ∙ ap named_in (told.0 is) ∙ of_other,
+  λ same. told.1 (named_same one other (of_one ∙ same ∙ sym of_other)),
+)
+
+pub named_pushed : {E : Type 0} (text new name : List ℕ) (result : Result (Unit {0}) E) → OnOk result (new ≡ appended text name) → AreNames (named_in text) → IsTrue (is_name name) → OnOk result (named_in new ≡ named_in text ++ name ∷ [])
+named_pushed text new name (Ok u) ok are is = ap named_in ok ∙ named_push text name are is
+named_pushed text new name (Err e) ok are is = tt
+
+-- one name more than there are commas
+pub named_count : (text : List ℕ) → text ≢ [] → length (named_in text) ≡ count_by (λ b. eqb b 44) text + 1
+unfolding parts_in
+named_count [] some = absurd (some refl)
+named_count (b ∷ bytes) some = length-slice_split (λ c. eqb c 44) (b ∷ bytes)

@@ -1,11 +1,15 @@
 -- A stream of bytes as lines that end with LF.
-use Rattle.std.specs.Prelude.{◌≡◌, ◌≢◌, ◌≤◌, ℕ, ◌++◌, ◌==◌, nat_lt, if◌then◌else◌, List, [], ◌∷◌, length, Option, Some, None}
+use Rattle.std.specs.Prelude.{◌≡◌, ◌≢◌, ◌≤◌, ◌+◌, ℕ, ◌++◌, ◌==◌, nat_lt, if◌then◌else◌, List, [], ◌∷◌, length, Option, Some, None}
 use Rattle.std.specs.List.{flat_map, AllByRecursion}
 
--- Where the stream stands behind its last line: the bytes there, or None where 8,193 bytes without LF have come, and
+-- Where the stream stands behind its last line: the bytes there, or None where one byte more than a line may have has come without LF, and
 -- nothing more is handed out.
 abbrev pub Stand : Type 0
 Stand = Option (List ℕ)
+
+-- how many bytes a line has at most
+abbrev pub line_limit : ℕ
+line_limit = 8192
 
 -- a line with its LF
 abbrev pub ended : List ℕ → List ℕ
@@ -14,15 +18,15 @@ ended line = line ++ 10 ∷ []
 abbrev pub NoBreak : List ℕ → Type 0
 NoBreak bytes = AllByRecursion (λ b. b ≢ 10) bytes
 
--- at most 8,192 bytes, and no LF
+-- no more bytes than a line may have, and no LF
 pub record IsLine (line : List ℕ) : Type 0 where
-  pub short : length line ≤ 8192
+  pub short : length line ≤ line_limit
   pub one : NoBreak line
 
 -- these bytes behind the last line stand so
 abbrev pub Stands : List ℕ → Stand → Type 0
 Stands bytes (Some rest) = (bytes ≡ rest) × IsLine rest
-Stands bytes None = (long more : List ℕ) × (bytes ≡ long ++ more) × (length long ≡ 8193) × NoBreak long
+Stands bytes None = (long more : List ℕ) × (bytes ≡ long ++ more) × (length long ≡ line_limit + 1) × NoBreak long
 
 -- the stream is these lines, each with its LF, and then bytes that stand so
 abbrev pub IsCut : List ℕ → List (List ℕ) → Stand → Type 0
@@ -36,7 +40,7 @@ onto lines cut = (lines ++ cut.0, cut.1)
 unfoldable pub cut_from : Stand → List ℕ → List (List ℕ) × Stand
 cut_from None bytes = ([], None)
 cut_from (Some rest) [] = ([], Some rest)
-cut_from (Some rest) (b ∷ bs) = if b == 10 then onto (rest ∷ []) (cut_from (Some []) bs) else if nat_lt (length rest) 8192 then cut_from (Some (rest ++ b ∷ [])) bs else ([], None)
+cut_from (Some rest) (b ∷ bs) = if b == 10 then onto (rest ∷ []) (cut_from (Some []) bs) else if nat_lt (length rest) line_limit then cut_from (Some (rest ++ b ∷ [])) bs else ([], None)
 
 -- the cut of a whole stream: the only one (see IsCut)
 abbrev pub cut_of : List ℕ → List (List ℕ) × Stand

@@ -3,7 +3,8 @@
 ghost use Rattle.std.specs.Prelude.{◌≡◌, IfOk};
 
 use crate::marked::MarkedReport;
-use crate::name::{Name, Names};
+use crate::name::Name;
+use crate::row::Names;
 use crate::shared::Shared;
 use std::alloc::{AllocError, Global};
 

@@ -2,8 +2,8 @@
 
 ghost use Rattle.std.specs.Prelude.{◌≡◌, ◌≤◌, ◌<◌, ◌+◌, ◌↔◌, ℕ, List, [], ◌∷◌, ◌++◌, length, drop, map, slice_get, Some, None, IsTrue, ⊤, IfOk, OnErr, MatchOption};
 ghost use Rattle.std.specs.List.{concat, AllByRecursion};
-ghost use Rattle.report_line.specs.Cutting.{Stand, NoBreak, IsLine, IsCut, onto, cut_from, cut_of, fed};
-ghost use Rattle.report_line.specs.Parts.{part_of, ArePartsOf, stand_from};
+ghost use Rattle.report_line.specs.Cutting.{Stand, NoBreak, IsLine, IsCut, onto, cut_from, cut_of, fed, line_limit};
+ghost use Rattle.report_line.specs.working.Parts.{part_of, ArePartsOf, stand_from};
 
 use memchr::memchr;
 use std::alloc::{AllocError, Global};
@@ -23,7 +23,7 @@ pub struct Lines {
 
 impl Model for Lines {
     ghost use Rattle.std.specs.Prelude.{List, ℕ, map};
-    ghost use Rattle.report_line.specs.Parts.{part_of, ArePartsOf};
+    ghost use Rattle.report_line.specs.working.Parts.{part_of, ArePartsOf};
 
     ghost Value = { List (List ℕ) };
 
@@ -71,7 +71,7 @@ fn cut_once(bytes: &[u8]) -> Option<(&[u8], &[u8])>
 
 // Whether a line may begin with the one and go on with the other.
 fn fits(start: &[u8], bytes: &[u8]) -> bool
-    ensures { IsTrue result ↔ (length start.now + length bytes.now ≤ 8192) }
+    ensures { IsTrue result ↔ (length start.now + length bytes.now ≤ line_limit) }
 {
     start.len() <= MOST && bytes.len() <= MOST - start.len()
 }

@@ -1,15 +1,14 @@
 //! Names of processes.
 
-ghost use Rattle.std.specs.Prelude.{◌≡◌, ◌≤◌, List, [], ◌∷◌, ◌++◌, ℕ, nat_eq, IsTrue, MatchOption, IfOk, OnOk, OnErr, Some, false, take, length};
+ghost use Rattle.std.specs.Prelude.{◌≡◌, ◌≤◌, List, ℕ, nat_eq, IsTrue, MatchOption, false, take, length};
 ghost use Rattle.std.specs.List.{list_all};
 ghost use Rattle.std.specs.Cmp.{on_equiv, on_per, partial_equiv_from_equiv};
 ghost use Rattle.std.specs.Cmp.Lexicographic.{pointwise, nat_list_eq_equiv};
 ghost use Rattle.std.specs.Cmp.Rules.{hashing};
 ghost use Rattle.std.specs.Hash as fed;
 ghost use Rattle.std.proofs.Common.{rules};
-ghost use Rattle.report_line.specs.Names.{is_letter, is_name_byte, is_name, AreNames};
+ghost use Rattle.report_line.specs.Names.{is_letter, is_name_byte, is_name};
 
-use std::alloc::{AllocError, Global};
 use std::hash::{Hash, Hasher};
 use std::marker::Model;
 
@@ -127,70 +126,5 @@ impl Hash for Name {
 
     fn hash<H: Hasher>(&self, state: &mut H) {
         self.as_bytes().hash(state);
-    }
-}
-
-/// Names in a row.
-#[derive(Drop)]
-pub struct Names {
-    names: Vec<Name>,
-}
-
-// The same names in memory of their own.
-fn copies(alloc: Global, names: &[Name]) -> Result<Vec<Name>, AllocError>
-    ensures { IfOk result (λ c. c.items ≡ names.now) }
-{
-    let mut copies = Vec::with_capacity(alloc, names.len())?;
-    for name in names {
-        copies.push(name.copy())?;
-    }
-    Ok(copies)
-}
-
-impl Model for Names {
-    ghost use Rattle.std.specs.Prelude.{List, ℕ};
-    ghost use Rattle.report_line.specs.Names.{AreNames};
-
-    ghost Value = { List (List ℕ) };
-
-    ghost view = { λ n. n.names.items };
-
-    ghost invariant = { λ n. AreNames n.names.items };
-}
-
-impl Names {
-    /// No names. It takes no memory.
-    pub fn new(alloc: Global) -> Names
-        ensures { result ≡ [] }
-    {
-        Names {
-            names: Vec::new(alloc),
-        }
-    }
-
-    /// Appends a name.
-    pub fn push(&mut self, name: Name) -> Result<(), AllocError>
-        ensures ok { OnOk result (self.new ≡ self.old ++ name ∷ []) }
-        ensures err { OnErr result (self.new ≡ self.old) }
-    {
-        let _name = name.as_bytes();
-        self.names.push(name)?;
-        Ok(())
-    }
-
-    /// The names, in order.
-    pub fn as_slice(&self) -> &[Name]
-        ensures value { result.now ≡ self.now }
-        ensures names { AreNames self.now }
-    {
-        &self.names
-    }
-
-    /// The same names once more.
-    pub fn copy(&self, alloc: Global) -> Result<Names, AllocError>
-        ensures { IfOk result (λ c. c ≡ self.now) }
-    {
-        let names = copies(alloc, &self.names)?;
-        Ok(Names { names })
     }
 }

@@ -57,7 +57,7 @@ pub struct PackedReport {
 
 impl Model for PackedReport {
     ghost use Rattle.report_line.specs.declared.report.Report.{Report};
-    ghost use Rattle.report_line.specs.Codes.{report_code};
+    ghost use Rattle.report_line.specs.working.Codes.{report_code};
     ghost use Rattle.report_line.specs.View.{unpacked};
 
     ghost Value = { Report };

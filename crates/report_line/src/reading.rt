@@ -14,10 +14,11 @@ ghost use Rattle.report_line.specs.declared.call.Call.{Call as AnyCall};
 use crate::call::Call;
 use crate::fault::LineFault;
 use crate::marked::MarkedReport;
-use crate::name::{Name, Names};
+use crate::name::Name;
 use crate::number::number_of;
 use crate::packed::PackedReport;
 use crate::report::{Action, NumberedReport, Report};
+use crate::row::Names;
 use crate::shared::Shared;
 use crate::words::{Words, cut_once};
 use id_tree::{Id, IdFault};
@@ -53,10 +54,10 @@ fn read_id(alloc: Global, word: &[u8]) -> Result<Id, LineFault>
 fn read_names(alloc: Global, word: &[u8]) -> Result<Names, LineFault>
     ensures { Finds result (λ ns. AreNames ns × (word.now ≡ names_text ns)) }
 {
-    let mut names = Names::new(alloc);
     if word == b"-".as_slice() {
-        return Ok(names);
+        return Ok(Names::new(alloc));
     }
+    let mut names = Names::with_room(alloc, word.len())?;
     let mut rest = word;
     while let Some((part, behind)) = cut_once(b',', rest) {
         let Some(name) = Name::from_bytes(part) else {

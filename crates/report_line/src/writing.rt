@@ -2,18 +2,18 @@
 
 ghost use Rattle.std.specs.Prelude.{◌≡◌, ◌++◌, ◌∷◌, OnOk, IfOk};
 ghost use Rattle.std.specs.Fmt.{decimal};
-ghost use Rattle.std.specs.List.{join_with_byte};
 ghost use Rattle.stamp.specs.Stamps.{stamp_text};
 ghost use Rattle.report_line.specs.Reports.{unmarked};
-ghost use Rattle.report_line.specs.Spelling.{spelling, names_text, mark_text, action_word, action_fields};
+ghost use Rattle.report_line.specs.Spelling.{spelling, mark_text, action_word, action_fields};
 ghost use Rattle.report_line.specs.View.{action_of, numbered_of};
 ghost use Rattle.report_line.specs.declared.call.Call.TheVariants as calls;
 ghost use Rattle.report_line.specs.Replies.{or_dash, outcome_word, live_word, reply_text, IsWritten};
 ghost use Rattle.report_line.specs.Cuts.{spaced};
 
-use crate::name::{Name, Names};
+use crate::name::Name;
 use crate::packed::{ActionView, NumberedView, PackedReport, ReportView};
 use crate::reply::{Outcome, Reply};
+use crate::row::Names;
 use crate::text::Text;
 use itoa::Buffer;
 use std::alloc::{AllocError, Global};
@@ -115,31 +115,6 @@ pub fn write_marked(alloc: Global, epoch: u32, report: &PackedReport) -> Result<
     }
 }
 
-// Names, parted by commas.
-fn push_listed(out: &mut Vec<u8>, names: &[Name]) -> Result<(), AllocError>
-    ensures { OnOk result (out.new.items ≡ out.old.items ++ join_with_byte 44 names.now) }
-{
-    match names {
-        [] => Ok(()),
-        [name] => out.extend_from_slice(name.as_bytes()),
-        [name, rest @ ..] => {
-            out.extend_from_slice(name.as_bytes())?;
-            out.push(b',')?;
-            push_listed(out, rest)
-        }
-    }
-}
-
-// Names, parted by commas, or `-` for none.
-fn push_names(out: &mut Vec<u8>, names: &[Name]) -> Result<(), AllocError>
-    ensures { OnOk result (out.new.items ≡ out.old.items ++ names_text names.now) }
-{
-    match names {
-        [] => out.extend_from_slice(b"-"),
-        _ => push_listed(out, names),
-    }
-}
-
 /// The one spelling of a settlement on the line of these failed processes at this front.
 #[tactic(auto, unfolding(crate::specs::Spelling::spelling))]
 pub fn write_settle(alloc: Global, front: u32, names: &Names) -> Result<Vec<u8>, AllocError>
@@ -149,7 +124,7 @@ pub fn write_settle(alloc: Global, front: u32, names: &Names) -> Result<Vec<u8>,
     out.extend_from_slice(b"SETTLE ")?;
     push_number(&mut out, front)?;
     out.push(b' ')?;
-    push_names(&mut out, names.as_slice())?;
+    names.write_to(&mut out)?;
     Ok(out)
 }
 

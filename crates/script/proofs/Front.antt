@@ -15,7 +15,7 @@ use Rattle.script.specs.declared.driving.Stop.{Stop}
 use Rattle.script.specs.declared.driving.Stop.TheVariants as stops
 use Rattle.script.specs.declared.printing.Printout.{Printout}
 use Rattle.script.specs.Driven.{AreLinesOf, Drives, none, begins, EndsAt, IsDriven}
-use Rattle.script.specs.Driving.{end_by, StopTold, IsPrinted, Begins, IsTaken, AreTaken}
+use Rattle.script.specs.working.Driving.{end_by, StopTold, IsPrinted, Begins, IsTaken, AreTaken}
 
 -- ---- lines
 

@@ -7,10 +7,10 @@ use Rattle.report_line.specs.declared.call.Call.TheVariants as calls
 use Rattle.report_line.specs.declared.marked.MarkedReport.{MarkedReport}
 use Rattle.report_line.specs.declared.report.Report.{Report}
 use Rattle.report_line.specs.declared.report.Report.TheVariants.{Begin}
-use Rattle.report_line.specs.History.{Name, Unborn, status}
-use Rattle.report_line.specs.Lawful.{IsLawful, start}
+use Rattle.report_line.specs.histories.History.{Name, Unborn, status}
+use Rattle.report_line.specs.histories.Lawful.{IsLawful, start}
 use Rattle.report_line.specs.Reports.{unmarked}
-use Rattle.report_line.specs.StepReports.{reports}
+use Rattle.report_line.specs.histories.StepReports.{reports}
 use Rattle.chains.specs.Folded.{IsFolded}
 use Rattle.chains.specs.Greatest.{IsGreatestCut}
 use Rattle.chains.specs.Held.{Held, counting, with_report}

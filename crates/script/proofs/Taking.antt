@@ -15,7 +15,7 @@ use Rattle.report_line.specs.Spelling.{spelling}
 use Rattle.chains.specs.Held.{Held, counting, held_of}
 use Rattle.chains.specs.Kept.{Kept}
 use Rattle.chains.specs.Turns.{fine, IsTurnWith}
-use Rattle.report_line.specs.History.{Name}
+use Rattle.report_line.specs.histories.History.{Name}
 use Rattle.driver.specs.declared.fault.StepFault.{StepFault}
 use Rattle.driver.specs.declared.fault.StepFault.TheVariants as faults
 use Rattle.driver.specs.declared.line.NamedPosition.{NamedPosition}
@@ -29,7 +29,7 @@ use Rattle.script.specs.declared.driving.Stop.TheVariants as stops
 use Rattle.script.specs.declared.end.Cause.TheVariants.{Fault}
 use Rattle.script.specs.declared.printing.Printout.{Printout}
 use Rattle.script.specs.Driven.{Drives, goes_on, settles}
-use Rattle.script.specs.Driving.{lines_of, IsPrinted, IsTaken, TakeTurns, PrintsLine, PrintsReport, PrintsAtOnce, Begins, GivenTold, StepTold, StopTold}
+use Rattle.script.specs.working.Driving.{lines_of, IsPrinted, IsTaken, TakeTurns, PrintsLine, PrintsReport, PrintsAtOnce, Begins, GivenTold, StepTold, StopTold}
 use Rattle.script.specs.Printed.{printed, report_lines, IsHeldBehind, nothing, one_more, IsLineFor, IsLineBehind}
 use Rattle.script.specs.Spelling.{SpellsRoot, SpellsStep, SpellsSettle}
 

@@ -8,10 +8,10 @@ use Rattle.report_line.specs.declared.report.Report.TheVariants.{Begin}
 use Rattle.report_line.specs.declared.call.Call.{Call}
 use Rattle.report_line.specs.declared.call.Call.TheVariants as calls
 use Rattle.report_line.specs.Cutting.{ended}
-use Rattle.report_line.specs.History.{Name}
+use Rattle.report_line.specs.histories.History.{Name}
 use Rattle.report_line.specs.Reports.{unmarked}
 use Rattle.report_line.specs.Spelling.{spelling}
-use Rattle.report_line.specs.StepReports.{reports}
+use Rattle.report_line.specs.histories.StepReports.{reports}
 use Rattle.driver.specs.declared.step.Step.{Step}
 use Rattle.driver.specs.Chronicle.{Chronicle}
 use Rattle.driver.specs.Stamping.{Takes}

@@ -8,8 +8,8 @@ use Rattle.report_line.specs.declared.call.Call.TheVariants as calls
 use Rattle.report_line.specs.Cutting.{ended, NoBreak}
 use Rattle.report_line.specs.Reports.{unmarked}
 use Rattle.report_line.specs.Spelling.{spelling}
-use Rattle.report_line.specs.History.{Name}
-use Rattle.report_line.specs.StepReports.{reports}
+use Rattle.report_line.specs.histories.History.{Name}
+use Rattle.report_line.specs.histories.StepReports.{reports}
 use Rattle.driver.specs.declared.line.NamedPosition.{NamedPosition}
 use Rattle.driver.specs.declared.step.Step.{Step}
 use Rattle.driver.specs.declared.fault.StepFault.{StepFault}

@@ -1,7 +1,7 @@
 -- Where the chains accepted each printed line, they hold what the world reported; so a settlement for known processes is taken.
 use Rattle.std.specs.Prelude.{◌≡◌, ◌≢◌, ℕ, List, All, Some, length}
 use Rattle.report_line.specs.declared.call.Call.{Call}
-use Rattle.report_line.specs.History.{Name, Unborn, status}
+use Rattle.report_line.specs.histories.History.{Name, Unborn, status}
 use Rattle.chains.specs.Held.{Held}
 use Rattle.driver.specs.declared.fault.StepFault.TheVariants.{Memory}
 use Rattle.driver.specs.declared.line.NamedPosition.{NamedPosition}

@@ -4,7 +4,7 @@ ghost use Rattle.std.specs.Prelude.{◌≡◌, ◌++◌, ◌∷◌, [], List, �
 ghost use Rattle.report_line.specs.Cutting.{NoBreak};
 ghost use Rattle.driver.specs.declared.step.Step.{Step as AnyStep};
 ghost use Rattle.script.specs.Driven.{IsDriven, PrintsReports};
-ghost use Rattle.script.specs.Driving.{Begins, GivenTold, StepTold, StopTold, end_by};
+ghost use Rattle.script.specs.working.Driving.{Begins, GivenTold, StepTold, StopTold, end_by};
 ghost use Rattle.script.specs.Spelling.{SpellsStep, SpellsSettle};
 ghost use Rattle.script.specs.Taken.{ChainsHoldTheReports, KnownSettlementIsClosed, KnownSettlementIsTaken};
 
@@ -98,10 +98,13 @@ fn settle(
     let Ok(()) = catch_up(printout) else {
         return Err(Stop::Memory);
     };
-    let Ok(line) = line_for(&printout.chains, names.as_slice()) else {
+    let Ok(failed) = names.to_vec(alloc) else {
         return Err(Stop::Memory);
     };
-    match world.settle(names.as_slice(), &line) {
+    let Ok(line) = line_for(&printout.chains, names) else {
+        return Err(Stop::Memory);
+    };
+    match world.settle(&failed, &line) {
         Ok(()) => {}
         Err(refused) => return Err(Stop::Refused(Cause::Fault(refused))),
     }

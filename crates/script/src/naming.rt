@@ -13,7 +13,7 @@ ghost use Rattle.script.specs.Printed.{IsLineFor};
 use chains::{Chains, Failed, FailedFault, Place};
 use driver::NamedPosition;
 use propagate::greatest_line;
-use report_line::Name;
+use report_line::Names;
 use std::alloc::AllocError;
 
 // The places of all processes, by names.
@@ -44,7 +44,7 @@ fn recovery_line(chains: &Chains, failed: &Failed) -> Result<Vec<NamedPosition>,
 
 /// The line to return to for these failed processes, by what these chains hold: their recovery line; or none of it where one of them
 /// is not known.
-pub fn line_for(chains: &Chains, names: &[Name]) -> Result<Vec<NamedPosition>, AllocError>
+pub fn line_for(chains: &Chains, names: &Names) -> Result<Vec<NamedPosition>, AllocError>
     ensures { IfOk result (λ line. IsLineFor chains.now.accepted names.now line.items) }
 {
     match Failed::from_names(chains, names) {

@@ -11,7 +11,7 @@ ghost use Rattle.chains.specs.Held.{counting, held_of};
 ghost use Rattle.chains.specs.Processes.{IsKnown};
 ghost use Rattle.chains.specs.Settled.{IsSettled};
 ghost use Rattle.chains.specs.Turns.{fine, IsTurnWith};
-ghost use Rattle.script.specs.Driving.{IsPrinted, TakeTurns, PrintsReport, PrintsAtOnce};
+ghost use Rattle.script.specs.working.Driving.{IsPrinted, TakeTurns, PrintsReport, PrintsAtOnce};
 
 use chains::{Chains, No};
 use propagate::settle_named;
@@ -98,7 +98,7 @@ fn return_all(chains: &mut Chains, names: &Names) -> Result<(), AllocError>
     requires known { All (IsKnown chains.old.accepted) names.now }
     ensures { OnOk result (IsSettled (held_of chains.old) names.now (held_of chains.new)) }
 {
-    *chains = settle_named(chains, names.as_slice())?;
+    *chains = settle_named(chains, names)?;
     Ok(())
 }
 
@@ -106,7 +106,7 @@ fn return_all(chains: &mut Chains, names: &Names) -> Result<(), AllocError>
 fn take_settlement(chains: &mut Chains, front: u32, names: &Names) -> Result<(), AllocError>
     ensures { OnOk result ((reply : AnyReply) × IsTurnWith fine (held_of chains.old) (calls.Settle front names.now) reply (held_of chains.new)) }
 {
-    match chains.may_settle(front, names.as_slice()) {
+    match chains.may_settle(front, names) {
         Ok(()) => return_all(chains, names),
         Err(refusal) => pass_over(&refusal),
     }

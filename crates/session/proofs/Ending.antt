@@ -16,7 +16,7 @@ use Rattle.session.specs.SessionText.{Mean, NoBye, exchange_line, session_text, 
 use Rattle.session.specs.declared.handing.HandOn.{HandOn}
 use Rattle.session.specs.declared.handing.HandOn.TheVariants as hand_ons
 use Rattle.session.specs.Ends.{IsReadAt, IsPrompt, EachHasGone, Leaves}
-use Rattle.session.specs.Parts.{AreLawful, IsSaid, FaultsAt, StepsTo, IsQuiet, GaveBy, StepsOn, Going, Closing, Closes, Ran}
+use Rattle.session.specs.working.Parts.{AreLawful, IsSaid, FaultsAt, StepsTo, IsQuiet, GaveBy, StepsOn, Going, Closing, Closes, Ran}
 use Rattle.client_link.proofs.Sent.{appends_none, appends_then, sound_none, sound_then, fault_then}
 use Rattle.session.proofs.ServedTurns.{mean_then, mean_length, no_bye_then, bye_then, said_then, cut_then}
 use Rattle.session.proofs.ServeSteps.{faults_then}

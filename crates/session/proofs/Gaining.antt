@@ -23,7 +23,7 @@ use Rattle.client_link.specs.Links.{LinkState, IsEnd, Puts}
 use Rattle.session.specs.SessionText.{Means, joined, at_pass, IsForeign}
 use Rattle.session.specs.Ends.{Leaves}
 use Rattle.session.specs.Gained.{exchange_of, GainsEach, Gains, LinkServed}
-use Rattle.session.specs.Parts.{AreLawful, PutsLast, refused_as, one_reply, Serves, Ran}
+use Rattle.session.specs.working.Parts.{AreLawful, PutsLast, refused_as, one_reply, Serves, Ran}
 use Rattle.session.proofs.ServeSteps.{said_on, said_bye, said_part, unmade, worn_out, foreign}
 
 abbrev Exchanges : Type 0

@@ -16,9 +16,9 @@ use Rattle.session.specs.declared.kind.Kind.{Kind}
 use Rattle.session.specs.declared.handing.HandOn.{HandOn}
 use Rattle.client_link.specs.Links.{LinkState}
 use Rattle.session.specs.SessionText.{Means, IsQuestion, Grounds, at_desk}
-use Rattle.session.specs.Turned.{Served, EachLineIsChosen, turns_of, MakesTurns}
+use Rattle.session.specs.Turned.{AreExchanges, EachLineIsChosen, turns_of, MakesTurns}
 use Rattle.session.specs.Ends.{Ended}
-use Rattle.session.specs.Parts.{AreLawful, TakesNone, ended_by, one_reply, Serves, Ran}
+use Rattle.session.specs.working.Parts.{AreLawful, TakesNone, ended_by, one_reply, Serves, Ran}
 use Rattle.desk.proofs.OneTurn.{turn_once}
 use Rattle.session.proofs.RightLines.{lines_are_right}
 use Rattle.session.proofs.ServeSteps.{unmade, worn_out}
@@ -26,14 +26,14 @@ use Rattle.session.proofs.ServeSteps.{unmade, worn_out}
 abbrev Exchanges : Type 0
 Exchanges = List Exchange
 
-pub served_then : (held mid after : Held) (es fs : Exchanges) → Served held es mid → Served mid fs after → Served held (es ++ fs) after
-served_then held mid after [] fs s t = subst (λ (x : Held). Served x fs after) s t
+pub served_then : (held mid after : Held) (es fs : Exchanges) → AreExchanges held es mid → AreExchanges mid fs after → AreExchanges held (es ++ fs) after
+served_then held mid after [] fs s t = subst (λ (x : Held). AreExchanges x fs after) s t
 served_then held mid after (e ∷ es) fs s t = (s.0, s.1, served_then s.0 mid after es fs s.2 t)
 
-chosen_then : (held mid : Held) (es fs : Exchanges) → Served held es mid → EachLineIsChosen held es → EachLineIsChosen mid fs → EachLineIsChosen held (es ++ fs)
+chosen_then : (held mid : Held) (es fs : Exchanges) → AreExchanges held es mid → EachLineIsChosen held es → EachLineIsChosen mid fs → EachLineIsChosen held (es ++ fs)
 chosen_then held mid [] fs s p q = subst (λ (x : Held). EachLineIsChosen x fs) s q
 chosen_then held mid (e ∷ es) fs s p q =
-    (p.0, λ between turned. chosen_then between mid es fs (subst (λ (x : Held). Served x es mid) (turn_once held s.0 between e.call e.reply s.1.turned turned) s.2) (p.1 between turned) q)
+    (p.0, λ between turned. chosen_then between mid es fs (subst (λ (x : Held). AreExchanges x es mid) (turn_once held s.0 between e.call e.reply s.1.turned turned) s.2) (p.1 between turned) q)
 
 turns_then : (made : ℕ) (es fs : Exchanges) → turns_of made es ++ turns_of (made + length es) fs ≡ turns_of made (es ++ fs)
 turns_then made [] fs = ap (λ (n : ℕ). turns_of n fs) (omega arith)

@@ -16,7 +16,7 @@ use Rattle.history_law.specs.Headline.{IsRightLine}
 use Rattle.history_law.proofs.Lines.{line_of_histories}
 use Rattle.propagate.proofs.Certified.{certified_is_greatest}
 use Rattle.session.specs.Exchanges.{Exchange}
-use Rattle.session.specs.Turned.{IsExchange, Served}
+use Rattle.session.specs.Turned.{IsExchange, AreExchanges}
 use Rattle.line_text.specs.Asking.{AsksForLine}
 use Rattle.session.specs.Headline.{EachLineIsRight}
 use Rattle.session.proofs.Places.{served_at, comes_reached}
@@ -60,7 +60,7 @@ right_exchange : (held between : Held) (exchange : Exchange) (text : List ℕ) �
     → (names : List Name) × AsksForLine held exchange.call names × IsRightLine held names text
 right_exchange held between exchange text reach s e = right_shown held exchange.call exchange.reply text between reach s.turned (subst (IsShown held exchange.call exchange.reply) e s.fits)
 
-pub lines_are_right : (held after : Held) (exchanges : List Exchange) → IsReached held → Served held exchanges after → EachLineIsRight held exchanges
+pub lines_are_right : (held after : Held) (exchanges : List Exchange) → IsReached held → AreExchanges held exchanges after → EachLineIsRight held exchanges
 lines_are_right held after exchanges reach served before later exchange text at same comes shown =
-    let there = served_at held after at before later exchange (subst (λ (es : List Exchange). Served held es after) same served) comes in
+    let there = served_at held after at before later exchange (subst (λ (es : List Exchange). AreExchanges held es after) same served) comes in
     right_exchange at there.0 exchange text (comes_reached held at before reach comes) there.1 shown

@@ -14,7 +14,7 @@ use Rattle.session.specs.Exchanges.{Exchange}
 use Rattle.session.specs.declared.kind.Kind.TheVariants as kinds
 use Rattle.session.specs.SessionText.{Means, Mean, Grounds, IsSession, joined, session_text}
 use Rattle.line_text.specs.Questions.{IsChosenFor}
-use Rattle.session.specs.Turned.{IsExchange, Served, ShowsChosen, EachLineIsChosen}
+use Rattle.session.specs.Turned.{IsExchange, AreExchanges, ShowsChosen, EachLineIsChosen}
 use Rattle.session.specs.OneText.{HadEnough, IsUndisturbed}
 use Rattle.desk.proofs.OneTurn.{turn_once}
 use Rattle.session.proofs.SameTurns.{IsSettled, one_turn, was_read}
@@ -49,7 +49,7 @@ calls_of es = map (λ (e : Exchange). e.call) es
 same_parts : (c d : Call) (cs ds : List Call) → c ∷ cs ≡ d ∷ ds → (c ≡ d) × (cs ≡ ds)
 same_parts c d cs ds e = (cc, cc)
 
-same_exchanges : (held after other : Held) (es fs : Exchanges) → Served held es after → Served held fs other → EachLineIsChosen held es → EachLineIsChosen held fs → AllByRecursion HadEnough es → AllByRecursion HadEnough fs
+same_exchanges : (held after other : Held) (es fs : Exchanges) → AreExchanges held es after → AreExchanges held fs other → EachLineIsChosen held es → EachLineIsChosen held fs → AllByRecursion HadEnough es → AllByRecursion HadEnough fs
     → calls_of es ≡ calls_of fs → es ≡ fs
 same_exchanges held after other [] [] s t p q g h same = refl
 same_exchanges held after other [] (f ∷ fs) s t p q g h same = absurd cc
@@ -58,7 +58,7 @@ same_exchanges held after other (e ∷ es) (f ∷ fs) s t p q g h same =
     let parts = same_parts e.call f.call (calls_of es) (calls_of fs) same in
     let here = one_exchange held s.0 t.0 e f s.1 t.1 p.0 q.0 g.0 h.0 parts.0 in
     let turned = subst (λ (x : Exchange). IsTurn held x.call x.reply s.0) here s.1.turned in
-    let theirs = subst (λ (x : Held). Served x fs other) (turn_once held t.0 s.0 f.call f.reply t.1.turned turned) t.2 in
+    let theirs = subst (λ (x : Held). AreExchanges x fs other) (turn_once held t.0 s.0 f.call f.reply t.1.turned turned) t.2 in
     ap (λ (x : Exchange). x ∷ es) here ∙ ap (λ (l : Exchanges). f ∷ l) (same_exchanges s.0 after other es fs s.2 theirs (p.1 s.0 s.1.turned) (q.1 s.0 turned) g.1 h.1 parts.1)
 
 pub same_calls : (held : Held) (ours theirs : Exchanges) → IsUndisturbed held ours → IsUndisturbed held theirs → calls_of ours ≡ calls_of theirs → ours ≡ theirs
@@ -69,7 +69,7 @@ same_calls held ours theirs a b same = same_exchanges held a.after b.after ours 
 abbrev IsRead : Exchange → Type 0
 IsRead e = e.call ≢ calls.Unread
 
-all_read : (held after : Held) (es : Exchanges) → Served held es after → AllByRecursion HadEnough es → AllByRecursion IsRead es
+all_read : (held after : Held) (es : Exchanges) → AreExchanges held es after → AllByRecursion HadEnough es → AllByRecursion IsRead es
 all_read held after [] s g = tt
 all_read held after (e ∷ es) s g = (was_read held s.0 e.call e.reply e.shown s.1.turned s.1.fits (settled e g.0), all_read s.0 after es s.2 g.1)
 
@@ -104,7 +104,7 @@ front_turned [] more fs m = ([], fs, refl, tt)
 front_turned (l ∷ ls) more [] m = absurd m
 front_turned (l ∷ ls) more (f ∷ fs) m = let h = front_turned ls more fs m.1 in (f ∷ h.0, h.1, ap (λ (es : Exchanges). f ∷ es) h.2, (m.0, h.3))
 
-front_served : (held after : Held) (front rest : Exchanges) → Served held (front ++ rest) after → (mid : Held) × Served held front mid
+front_served : (held after : Held) (front rest : Exchanges) → AreExchanges held (front ++ rest) after → (mid : Held) × AreExchanges held front mid
 front_served held after [] rest s = (held, refl)
 front_served held after (e ∷ es) rest s = let h = front_served s.0 after es rest s.2 in (h.0, (s.0, s.1, h.1))
 

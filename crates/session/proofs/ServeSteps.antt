@@ -11,7 +11,7 @@ use Rattle.session.specs.declared.kind.Kind.TheVariants as kinds
 use Rattle.session.specs.declared.handing.HandOn.{HandOn}
 use Rattle.client_link.specs.Links.{LinkState, IsSound, IsHandOn, Puts}
 use Rattle.session.specs.SessionText.{Means, Mean, Grounds, IsWorn, IsUnmade, IsForeign, exchange_line, session_text}
-use Rattle.session.specs.Parts.{AreLawful, IsSaid, HowFar, FaultsAt, Serves, HandsOn, ServesLines, one_reply}
+use Rattle.session.specs.working.Parts.{AreLawful, IsSaid, HowFar, FaultsAt, Serves, HandsOn, ServesLines, one_reply}
 use Rattle.client_link.proofs.Sent.{appends_none, appends_keeps, appends_then, sound_none, sound_then, fault_then}
 use Rattle.session.proofs.ServedTurns.{mean_then, mean_length, far_then}
 use Rattle.session.specs.Ends.{HaveGone}

@@ -6,7 +6,7 @@ use Rattle.session.specs.Exchanges.{Exchange}
 use Rattle.session.specs.declared.kind.Kind.{Kind}
 use Rattle.session.specs.declared.kind.Kind.TheVariants as kinds
 use Rattle.session.specs.SessionText.{Mean, NoBye, LastSaysBye, StartsWithQuestion, Grounds, at_desk, at_pass, IsUnmade, exchange_line, session_text, IsCutInReply}
-use Rattle.session.specs.Parts.{AreLawful, IsSaid, HowFar}
+use Rattle.session.specs.working.Parts.{AreLawful, IsSaid, HowFar}
 
 abbrev Lines : Type 0
 Lines = List (List ℕ)

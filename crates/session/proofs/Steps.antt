@@ -10,7 +10,7 @@ use Rattle.client_link.specs.Links.{LinkState, IsRead}
 use Rattle.session.specs.SessionText.{Grounds}
 use Rattle.session.specs.Ends.{EachHasGone}
 use Rattle.session.specs.declared.handing.HandOn.{HandOn}
-use Rattle.session.specs.Parts.{AreLawful, HowFar, FaultsAt, Serves, ServesLines, Follows, StepsTo, IsQuiet, GaveBy, Steps, StepsOn}
+use Rattle.session.specs.working.Parts.{AreLawful, HowFar, FaultsAt, Serves, ServesLines, Follows, StepsTo, IsQuiet, GaveBy, Steps, StepsOn}
 use Rattle.client_link.proofs.Sent.{appends_none}
 use Rattle.session.proofs.ServeSteps.{faults_then, some_none}
 use Rattle.session.proofs.Gone.{nothing_gone, gone_then}

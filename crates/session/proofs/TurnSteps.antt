@@ -28,7 +28,7 @@ use Rattle.chains.proofs.Unfailing.{no_line}
 use Rattle.session.specs.SessionText.{Means}
 use Rattle.line_text.specs.Questions.{IsChosenFor}
 use Rattle.session.specs.Turned.{MakesTurns}
-use Rattle.session.specs.Parts.{call_read}
+use Rattle.session.specs.working.Parts.{call_read}
 use Rattle.session.proofs.ChosenTexts.{chosen_at}
 
 -- ---- what is shown

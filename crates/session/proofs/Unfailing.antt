@@ -13,7 +13,7 @@ use Rattle.chains.specs.Turns.{IsTurn}
 use Rattle.chains.proofs.Unfailing.{no_failure, stays_stopped}
 use Rattle.reasons.specs.Shown.{IsLineShown, IsShown}
 use Rattle.session.specs.Exchanges.{Exchange}
-use Rattle.session.specs.Turned.{IsExchange, Served, ShowsFailure}
+use Rattle.session.specs.Turned.{IsExchange, AreExchanges, ShowsFailure}
 
 -- what is shown for a reply that is no failure is none
 line_shown : (held : Held) (names : List Name) (reply shown : Reply) → ((o : Outcome) → reply ≢ Fail o) → IsLineShown held names reply shown → (o : Outcome) → shown ≢ Fail o
@@ -36,13 +36,13 @@ one_shown held after e up still shows (o, is) =
     shown_for held e.call e.reply e.shown (λ x fails. no_failure held after e.call x up still (subst (λ (r : Reply). IsTurn held e.call r after) fails shows.turned)) shows.fits o is
 
 -- a stopped store is stopped behind all later exchanges
-stopped_then : (held after : Held) (es : List Exchange) → held.stopped ≡ true → Served held es after → after.stopped ≡ true
+stopped_then : (held after : Held) (es : List Exchange) → held.stopped ≡ true → AreExchanges held es after → after.stopped ≡ true
 stopped_then held after [] down s = ap (λ (h : Held). h.stopped) s ∙ down
 stopped_then held after (e ∷ es) down s =
     let same = stays_stopped held s.0 e.call e.reply down s.1.turned in
     stopped_then s.0 after es (ap (λ (h : Held). h.stopped) same ∙ down) s.2
 
-pub none_fails : (held after : Held) (es : List Exchange) → held.stopped ≡ false → after.stopped ≡ false → Served held es after → AllByRecursion (λ e. ¬ ShowsFailure e) es
+pub none_fails : (held after : Held) (es : List Exchange) → held.stopped ≡ false → after.stopped ≡ false → AreExchanges held es after → AllByRecursion (λ e. ¬ ShowsFailure e) es
 none_fails held after [] up still s = tt
 none_fails held after (e ∷ es) up still s = by s.0.stopped refl (λ between. none_fails s.0 after es between still s.2)
   where

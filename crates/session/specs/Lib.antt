@@ -3,10 +3,10 @@ pub mod SessionText
 pub mod Turned
 pub mod OneText
 pub mod Ends
-pub mod Parts
 pub mod Headline
 pub mod Current
 pub mod Openings
 pub mod TwoOpenings
 pub mod Gained
 pub mod Sessions
+pub mod working

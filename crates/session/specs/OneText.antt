@@ -4,7 +4,7 @@ use Rattle.std.specs.List.{AllByRecursion}
 use Rattle.chains.specs.Held.{Held}
 use Rattle.chains.specs.Turns.{no_memory}
 use Rattle.session.specs.Exchanges.{Exchange}
-use Rattle.session.specs.Turned.{Served, ShowsFailure, EachLineIsChosen}
+use Rattle.session.specs.Turned.{AreExchanges, ShowsFailure, EachLineIsChosen}
 
 -- what is shown tells of no want of memory, and of no device that failed
 abbrev pub HadEnough : Exchange → Type 0
@@ -14,6 +14,6 @@ HadEnough exchange = (exchange.shown ≢ no_memory) × ¬ ShowsFailure exchange
 -- sufficed, and no device failed.
 pub record IsUndisturbed (held : Held) (exchanges : List Exchange) : Type 0 where
   pub after : Held
-  pub served : Served held exchanges after
+  pub served : AreExchanges held exchanges after
   pub chosen : EachLineIsChosen held exchanges
   pub enough : AllByRecursion HadEnough exchanges

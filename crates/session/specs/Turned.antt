@@ -16,9 +16,9 @@ pub record IsExchange (held : Held) (exchange : Exchange) (after : Held) : Type 
   pub fits : IsShown held exchange.call exchange.reply exchange.shown
 
 -- from what is held the exchanges are turns, one after the other, and this is held then
-abbrev pub Served : Held → List Exchange → Held → Type 0
-Served held [] after = after ≡ held
-Served held (exchange ∷ exchanges) after = (between : Held) × IsExchange held exchange between × Served between exchanges after
+abbrev pub AreExchanges : Held → List Exchange → Held → Type 0
+AreExchanges held [] after = after ≡ held
+AreExchanges held (exchange ∷ exchanges) after = (between : Held) × IsExchange held exchange between × AreExchanges between exchanges after
 
 -- what is shown tells that a device failed, or that the store was stopped by then
 abbrev pub ShowsFailure : Exchange → Type 0
@@ -42,7 +42,7 @@ turns_of made (e ∷ es) = record { call = e.call; receipt = record { turn = mad
 
 -- The turns that a desk made are just those of these exchanges, in their order.
 pub record MakesTurns {D : Type 0} (keeps : D → Type 0) (desk : DeskState D) (exchanges : List Exchange) (after : DeskState D) : Type 0 where
-  pub served : Served desk.held exchanges after.held
+  pub served : AreExchanges desk.held exchanges after.held
   pub chosen : EachLineIsChosen desk.held exchanges
   pub turns : after.turns ≡ desk.turns ++ turns_of (length desk.turns) exchanges
   pub opening : after.opening ≡ desk.opening

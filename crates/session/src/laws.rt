@@ -14,15 +14,15 @@ ghost use Rattle.session.specs.Current.{EachFileTellsARun, EachLineIsRightNow, E
 ghost use Rattle.session.specs.OneText.{IsUndisturbed};
 ghost use Rattle.session.specs.Openings.{DesksAreOverFiles, EachFileHasATrace, NoLineIsBelowGarbageOverFiles, SessionsAreOverFiles, WhatIsHeldIsOpened};
 ghost use Rattle.session.specs.SessionText.{Grounds, IsSession, Mean, joined, session_text};
-ghost use Rattle.session.specs.Turned.{Served, ShowsFailure};
+ghost use Rattle.session.specs.Turned.{AreExchanges, ShowsFailure};
 ghost use Rattle.session.specs.TwoOpenings.{TwoOpeningsArePossible};
 
 /// What is held behind exchanges that took turns is told by the exchanges alone: they come to it, and to nothing else; and at each
 /// place among them something is held.
 pub fn exchanges_tell_what_is_accepted()
-    ensures comes { (held after : Held) (exchanges : List Exchange) → Served held exchanges after → ComeTo held exchanges after }
+    ensures comes { (held after : Held) (exchanges : List Exchange) → AreExchanges held exchanges after → ComeTo held exchanges after }
     ensures one { (held after other : Held) (exchanges : List Exchange) → ComeTo held exchanges after → ComeTo held exchanges other → after ≡ other }
-    ensures places { (held after : Held) (exchanges before later : List Exchange) → Served held exchanges after → exchanges ≡ before ++ later → (at : Held) × ComeTo held before at }
+    ensures places { (held after : Held) (exchanges before later : List Exchange) → AreExchanges held exchanges after → exchanges ≡ before ++ later → (at : Held) × ComeTo held before at }
 {}
 
 /// From a folded list, with an epoch for each report and a front that counts them, exchanges come to such a list; and from what admission
@@ -62,7 +62,7 @@ pub fn no_line_is_below_garbage_over_files()
 
 /// Where the store is stopped neither before the exchanges nor behind them, no device failed in between.
 pub fn served_without_a_device()
-    ensures { (held after : Held) (exchanges : List Exchange) → held.stopped ≡ false → after.stopped ≡ false → Served held exchanges after → AllByRecursion (λ e. ¬ ShowsFailure e) exchanges }
+    ensures { (held after : Held) (exchanges : List Exchange) → held.stopped ≡ false → after.stopped ≡ false → AreExchanges held exchanges after → AllByRecursion (λ e. ¬ ShowsFailure e) exchanges }
 {}
 
 /// The rounds choose one text for what is held and the names that are asked.

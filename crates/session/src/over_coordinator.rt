@@ -9,7 +9,7 @@ ghost use Rattle.coordinator.specs.Passes.{IsAnswered};
 ghost use Rattle.desk.specs.Files.{IsShort};
 ghost use Rattle.desk.specs.Records.{IsReadOff};
 ghost use Rattle.session.specs.Gained.{GainsEach, LinkServed};
-ghost use Rattle.session.specs.Parts.{Serves, PutsLast, refused_as, one_reply};
+ghost use Rattle.session.specs.working.Parts.{Serves, PutsLast, refused_as, one_reply};
 ghost use Rattle.session.specs.SessionText.{at_pass};
 
 use crate::handing::HandOn;
@@ -100,14 +100,14 @@ fn serve_by_pass<R: Threads + Wait + Sync, L: Ledger, D: Disk, G: Gate, K: Link>
 
 /// A coordinator makes the turns.
 #[derive(Drop)]
-struct Shared<'a, R, L: Ledger, D: Disk, G> {
+struct OverCoordinator<'a, R, L: Ledger, D: Disk, G> {
     rt: &'a R,
     coordinator: &'a Coordinator<L, D>,
     gate: &'a G,
 }
 
 impl<'a, R: Threads + Wait + Sync, L: Ledger, D: Disk, G: Gate> Server<Pass<L>>
-    for Shared<'a, R, L, D, G> {
+    for OverCoordinator<'a, R, L, D, G> {
     ghost makes = { GainsEach };
 
     ghost grounds = { at_pass };
@@ -138,7 +138,7 @@ pub fn serve_link<R: Threads + Wait + Sync, L: Ledger, D: Disk, G: Gate, K: Link
 ) -> SessionEnd
     ensures { LinkServed K.told link.old link.new pass.old pass.new result.kind result.replies }
 {
-    let server = Shared {
+    let server = OverCoordinator {
         rt,
         coordinator,
         gate,

@@ -4,7 +4,7 @@ ghost use Rattle.std.specs.Prelude.{◌≡◌, ◌↔◌, [], ◌∷◌, Ok, IsT
 ghost use Rattle.report_line.specs.Cutting.{IsLine};
 ghost use Rattle.report_line.specs.declared.call.Call.TheVariants as calls;
 ghost use Rattle.session.specs.Ends.{Ended, Leaves};
-ghost use Rattle.session.specs.Parts.{Serves, ended_by, one_reply};
+ghost use Rattle.session.specs.working.Parts.{Serves, ended_by, one_reply};
 ghost use Rattle.session.specs.SessionText.{at_desk};
 ghost use Rattle.session.specs.Turned.{MakesTurns};
 

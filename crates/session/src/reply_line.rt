@@ -108,9 +108,9 @@ fn put_state<K: Link>(
     let reports = of_reports.format(reports).as_bytes();
     let elements = of_elements.format(elements).as_bytes();
     let word = if live {
-        b"live".as_slice()
+        b" live ".as_slice()
     } else {
-        b"retired".as_slice()
+        b" retired ".as_slice()
     };
     put_all(
         link,
@@ -121,9 +121,7 @@ fn put_state<K: Link>(
             reports,
             b" ".as_slice(),
             elements,
-            b" ".as_slice(),
             word,
-            b" ".as_slice(),
             id.as_bytes(),
             b"\n".as_slice(),
         ],

@@ -4,7 +4,7 @@ ghost use Rattle.std.specs.Prelude.{List, [], ◌∷◌};
 ghost use Rattle.report_line.specs.Cutting.{IsLine};
 ghost use Rattle.session.specs.Exchanges.{Exchange};
 ghost use Rattle.session.specs.SessionText.{Grounds};
-ghost use Rattle.session.specs.Parts.{Serves, one_reply};
+ghost use Rattle.session.specs.working.Parts.{Serves, one_reply};
 
 use crate::kind::Kind;
 use client_link::Link;

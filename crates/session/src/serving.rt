@@ -3,7 +3,7 @@
 ghost use Rattle.std.specs.List.{AllByRecursion};
 ghost use Rattle.std.specs.Prelude.{◌≡◌, ◌≤◌, IsTrue, Some, false, length};
 ghost use Rattle.report_line.specs.Cutting.{IsLine};
-ghost use Rattle.session.specs.Parts.{AreLawful, HandsOn, ServesLines, one_reply};
+ghost use Rattle.session.specs.working.Parts.{AreLawful, HandsOn, ServesLines, one_reply};
 ghost use Rattle.session.specs.declared.handing.HandOn.TheVariants as hand_ons;
 
 use crate::handing::HandOn;

@@ -3,7 +3,7 @@
 ghost use Rattle.std.specs.Prelude.{◌≡◌, ◌≢◌, ◌≤◌, ◌<◌, ◌^◌, ℕ, None};
 ghost use Rattle.session.specs.SessionText.{ending_line, ending_count};
 ghost use Rattle.session.specs.Ends.{Leaves};
-ghost use Rattle.session.specs.Parts.{AreLawful, Follows, StepsOn, Closing, Closes, Ran};
+ghost use Rattle.session.specs.working.Parts.{AreLawful, Follows, StepsOn, Closing, Closes, Ran};
 
 use crate::handing::HandOn;
 use crate::kind::{Kind, SessionEnd};
@@ -97,13 +97,14 @@ fn kind_after(end: Option<Kind>, feed: &Feed) -> Option<Kind>
     }
 }
 
-/// One read: the lines that it completes are answered. Answers why the session ends, if it does, and how many replies
+/// One read into the buffer: the lines that it completes are answered. Answers why the session ends, if it does, and how many replies
 /// were written whole.
 fn step<S, V: Server<S>, K: Link>(
     server: &V,
     state: &mut S,
     feed: &mut Feed,
     link: &mut K,
+    buf: &mut [u8; 8192],
     when: HandOn,
 ) -> (Option<Kind>, u64)
     requires leave { V.leave }
@@ -112,8 +113,7 @@ fn step<S, V: Server<S>, K: Link>(
     ensures steps { StepsOn V.makes V.grounds K.told when link.old link.new feed.old feed.new state.old state.new result.0 result.1 }
     ensures few { result.1 ≤ 8192 }
 {
-    let mut buf = [0u8; 8192];
-    let Ok(n) = link.read(&mut buf) else {
+    let Ok(n) = link.read(buf) else {
         return (Some(Kind::ReadFailed), 0);
     };
     if n == 0 {
@@ -140,6 +140,7 @@ pub(crate) fn serve<S, V: Server<S>, K: Link>(
     ensures leaves { Leaves result.kind (K.told link.old) (K.told link.new) }
 {
     let mut feed = Feed::new(server.alloc(state));
+    let mut buf = [0u8; 8192];
     let mut replies = 0u64;
     for _ in 0..MOST_READS {
         let Ok(()) = link.hand_on() else {
@@ -148,7 +149,7 @@ pub(crate) fn serve<S, V: Server<S>, K: Link>(
                 replies,
             };
         };
-        let (end, more) = step(server, state, &mut feed, link, when);
+        let (end, more) = step(server, state, &mut feed, link, &mut buf, when);
         replies += more;
         if let Some(kind) = end {
             return close(link, kind, replies);

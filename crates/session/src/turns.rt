@@ -6,7 +6,7 @@ ghost use Rattle.desk.specs.Files.{IsShort};
 ghost use Rattle.desk.specs.Records.{IsReadOff};
 ghost use Rattle.reasons.specs.Shown.{IsShown};
 ghost use Rattle.line_text.specs.Questions.{IsChosenFor};
-ghost use Rattle.session.specs.Parts.{MakesTurn, call_read};
+ghost use Rattle.session.specs.working.Parts.{MakesTurn, call_read};
 
 use chains::Chains;
 use desk::{Desk, TurnFault};

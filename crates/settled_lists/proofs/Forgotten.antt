@@ -7,8 +7,8 @@ use Rattle.report_line.specs.declared.report.Report.{Report}
 use Rattle.report_line.specs.declared.report.Report.TheVariants.{Begin}
 use Rattle.report_line.specs.declared.step.Deed.TheVariants.{Fork, Retire}
 use Rattle.report_line.specs.declared.step.Step.{Step}
-use Rattle.report_line.specs.History.{Name, History, Does, Event, event_of}
-use Rattle.report_line.specs.Events.{Occurs, step, earlier}
+use Rattle.report_line.specs.histories.History.{Name, History, Does, Event, event_of}
+use Rattle.report_line.specs.histories.Events.{Occurs, step, earlier}
 use Rattle.histories.proofs.Chain.{first_occurs, old, stepped, child, entry}
 use Rattle.histories.proofs.Retiring.{none_after}
 use Rattle.chains.specs.declared.position.Position.{Position}

@@ -1,7 +1,7 @@
 -- A run without its reports is a log of steps and settlements.
 use Rattle.std.proofs.Common.{◌≡◌, ℕ, suc, ◌<◌, cond, [], ◌∷◌, refl, sym, ◌∙◌, ap, subst}
 use Rattle.std.specs.Prelude.{◌==◌}
-use Rattle.report_line.specs.History.{Name, History}
+use Rattle.report_line.specs.histories.History.{Name, History}
 use Rattle.histories.specs.Rules.{IsNewest, Obeys}
 use Rattle.settled_histories.specs.Kept.{IsClosed, kept}
 use Rattle.settled_histories.specs.Settlements.{Made as LogMade, epoch as epoch_in, current as current_in, IsObeyed as IsObeyedLog, nothing as log_nothing, made as log_made, left_behind as log_left_behind, settled as log_settled}

@@ -6,9 +6,9 @@ use Rattle.report_line.specs.declared.report.NumberedReport.{NumberedReport}
 use Rattle.report_line.specs.declared.report.Report.{Report}
 use Rattle.report_line.specs.declared.report.Report.TheVariants.{Begin, Numbered}
 use Rattle.report_line.specs.declared.step.Step.{Step}
-use Rattle.report_line.specs.History.{Name, History, Event, event_of}
-use Rattle.report_line.specs.Lawful.{IsLawful, start}
-use Rattle.report_line.specs.StepReports.{IsReportOf, newest, earlier as before_step}
+use Rattle.report_line.specs.histories.History.{Name, History, Event, event_of}
+use Rattle.report_line.specs.histories.Lawful.{IsLawful, start}
+use Rattle.report_line.specs.histories.StepReports.{IsReportOf, newest, earlier as before_step}
 use Rattle.histories.proofs.Rules.{obeying_is_lawful}
 use Rattle.chains.specs.declared.position.Position.{Position}
 use Rattle.chains.specs.Folded.{IsFolded, nothing_folded, one_folded}

@@ -15,10 +15,10 @@ use Rattle.report_line.specs.declared.report.Report.{Report}
 use Rattle.report_line.specs.declared.report.Report.TheVariants.{Begin, Numbered}
 use Rattle.report_line.specs.declared.step.Deed.TheVariants.{Work, Check, Present, Fork}
 use Rattle.report_line.specs.declared.step.Step.{Step}
-use Rattle.report_line.specs.History.{Name, History, Event, event_of, Living, status}
-use Rattle.report_line.specs.Lawful.{IsOwnWork, IsAllowed, IsLawful, next}
-use Rattle.report_line.specs.Events.{step, earlier as occurred}
-use Rattle.report_line.specs.StepReports.{report_of}
+use Rattle.report_line.specs.histories.History.{Name, History, Event, event_of, Living, status}
+use Rattle.report_line.specs.histories.Lawful.{IsOwnWork, IsAllowed, IsLawful, next}
+use Rattle.report_line.specs.histories.Events.{step, earlier as occurred}
+use Rattle.report_line.specs.histories.StepReports.{report_of}
 use Rattle.histories.specs.Example.{a, b, left, right, halves, act}
 use Rattle.histories.specs.Rules.{IsNewest, Obeys}
 use Rattle.histories.proofs.Bytes.{bytes_same, bytes_are}

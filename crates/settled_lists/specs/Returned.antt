@@ -2,8 +2,8 @@
 use Rattle.std.specs.Prelude.{◌≡◌, ℕ, zero, suc, ◌≤◌, List, Some}
 use Rattle.report_line.specs.declared.report.Report.{Report}
 use Rattle.report_line.specs.declared.step.Deed.TheVariants.{Retire}
-use Rattle.report_line.specs.History.{Name, History, Does, Event}
-use Rattle.report_line.specs.Events.{Occurs}
+use Rattle.report_line.specs.histories.History.{Name, History, Does, Event}
+use Rattle.report_line.specs.histories.Events.{Occurs}
 use Rattle.histories.specs.Rules.{IsNewest, IsNew}
 use Rattle.chains.specs.declared.position.Position.{Position}
 use Rattle.chains.specs.declared.position.Position.TheVariants.{At, Retired}

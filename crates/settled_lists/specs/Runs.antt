@@ -4,8 +4,8 @@ use Rattle.report_line.specs.declared.report.NumberedReport.{NumberedReport}
 use Rattle.report_line.specs.declared.report.Report.{Report}
 use Rattle.report_line.specs.declared.report.Report.TheVariants.{Begin, Numbered}
 use Rattle.report_line.specs.declared.step.Step.{Step}
-use Rattle.report_line.specs.History.{Name, History, Event}
-use Rattle.report_line.specs.StepReports.{report_of}
+use Rattle.report_line.specs.histories.History.{Name, History, Event}
+use Rattle.report_line.specs.histories.StepReports.{report_of}
 use Rattle.histories.specs.Rules.{IsNewest, Obeys}
 use Rattle.chains.specs.declared.position.Position.{Position}
 use Rattle.chains.specs.Folded.{IsFit}

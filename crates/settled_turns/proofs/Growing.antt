@@ -12,8 +12,8 @@ use Rattle.report_line.specs.declared.report.Report.TheVariants.{Begin, Numbered
 use Rattle.report_line.specs.declared.step.Deed.{Deed}
 use Rattle.report_line.specs.declared.step.Deed.TheVariants.{Work, Check, Present, Send, Receive, Fork, Retire, Absorb}
 use Rattle.report_line.specs.declared.step.Step.{Step}
-use Rattle.report_line.specs.History.{Name, History}
-use Rattle.report_line.specs.StepReports.{report_by}
+use Rattle.report_line.specs.histories.History.{Name, History}
+use Rattle.report_line.specs.histories.StepReports.{report_by}
 use Rattle.chains.specs.declared.position.Position.{Position}
 use Rattle.chains.specs.Held.{Held, with_report}
 use Rattle.chains.specs.Admission.{IsAdmission}

@@ -14,8 +14,8 @@ use Rattle.report_line.specs.declared.report.NumberedReport.{NumberedReport}
 use Rattle.report_line.specs.declared.report.Report.{Report}
 use Rattle.report_line.specs.declared.report.Report.TheVariants.{Begin, Numbered}
 use Rattle.report_line.specs.declared.step.Step.{Step}
-use Rattle.report_line.specs.History.{Name, History}
-use Rattle.report_line.specs.StepReports.{report_of, reports}
+use Rattle.report_line.specs.histories.History.{Name, History}
+use Rattle.report_line.specs.histories.StepReports.{report_of, reports}
 use Rattle.chains.specs.declared.position.Position.{Position}
 use Rattle.chains.specs.Greatest.{IsGreatestCut}
 use Rattle.chains.specs.Held.{Held, counting, present, with_report}

@@ -20,10 +20,10 @@ use Rattle.report_line.specs.declared.report.Report.TheVariants.{Begin, Numbered
 use Rattle.report_line.specs.declared.step.Deed.{Deed}
 use Rattle.report_line.specs.declared.step.Deed.TheVariants.{Work, Check, Present, Send, Receive, Fork, Retire, Absorb}
 use Rattle.report_line.specs.declared.step.Step.{Step}
-use Rattle.report_line.specs.History.{Name, History, Birth, Does, Event, event_of, birth_of_root, Living, status}
-use Rattle.report_line.specs.Lawful.{IsLawful, start, next}
-use Rattle.report_line.specs.Events.{Occurs, to_next}
-use Rattle.report_line.specs.StepReports.{reporting_steps, report_by, report_of, reports, IsReportOf, newest, earlier as before_step}
+use Rattle.report_line.specs.histories.History.{Name, History, Birth, Does, Event, event_of, birth_of_root, Living, status}
+use Rattle.report_line.specs.histories.Lawful.{IsLawful, start, next}
+use Rattle.report_line.specs.histories.Events.{Occurs, to_next}
+use Rattle.report_line.specs.histories.StepReports.{reporting_steps, report_by, report_of, reports, IsReportOf, newest, earlier as before_step}
 use Rattle.histories.proofs.Bytes.{bytes_same, bytes_are}
 use Rattle.histories.proofs.Later.{birth_first}
 use Rattle.histories.proofs.Reported.{IsEventAs, event_of_report, birth_of_report, says, own_step, no_begin, number_up_to, report_entry, of_step, of_earlier}

@@ -17,7 +17,7 @@ use Rattle.report_line.specs.declared.report.Report.{Report}
 use Rattle.report_line.specs.declared.report.Report.TheVariants.{Begin, Numbered}
 use Rattle.report_line.specs.declared.step.Deed.TheVariants.{Work, Check, Present, Fork}
 use Rattle.report_line.specs.declared.step.Step.{Step}
-use Rattle.report_line.specs.History.{Name}
+use Rattle.report_line.specs.histories.History.{Name}
 use Rattle.histories.specs.Example.{a, b, left, right, halves, act}
 use Rattle.chains.specs.declared.position.Position.{Position}
 use Rattle.chains.specs.declared.position.Position.TheVariants.{At}

@@ -11,7 +11,7 @@ use Rattle.report_line.specs.declared.code.Code.TheVariants.{OtherEpoch}
 use Rattle.report_line.specs.declared.reply.Reply.TheVariants.{Accepted, No, Settled}
 use Rattle.report_line.specs.declared.report.Action.TheVariants as reported
 use Rattle.report_line.specs.declared.report.Report.TheVariants.{Begin, Numbered}
-use Rattle.report_line.specs.History.{Name, status}
+use Rattle.report_line.specs.histories.History.{Name, status}
 use Rattle.histories.specs.Example.{a, b, right, halves}
 use Rattle.lawful_reports.specs.HandedOver.{IsNext, HasLine}
 use Rattle.lawful_reports.proofs.Example.{line, name_a, name_b, one, on_left, on_right, leaf, halved}

@@ -8,7 +8,7 @@ use Rattle.report_line.specs.declared.reply.Reply.TheVariants.{Accepted}
 use Rattle.report_line.specs.declared.report.NumberedReport.{NumberedReport}
 use Rattle.report_line.specs.declared.report.Report.{Report as AnyReport}
 use Rattle.report_line.specs.declared.report.Report.TheVariants.{Numbered}
-use Rattle.report_line.specs.History.{Name, History}
+use Rattle.report_line.specs.histories.History.{Name, History}
 use Rattle.chains.specs.declared.position.Position.{Position}
 use Rattle.chains.specs.Greatest.{IsConsistentCut}
 use Rattle.chains.specs.Held.{Held, counting, with_report}

@@ -1,6 +1,6 @@
 -- Turns with settlements among them, over processes that obey, make a run that is obeyed; so each line is right for the current history.
 use Rattle.std.specs.Prelude.{◌≡◌, ◌↔◌, ℕ, ◌<◌, List, [], ◌++◌, Contains, Some, length}
-use Rattle.report_line.specs.History.{Name}
+use Rattle.report_line.specs.histories.History.{Name}
 use Rattle.chains.specs.declared.position.Position.{Position}
 use Rattle.chains.specs.declared.position.Position.TheVariants.{At}
 use Rattle.chains.specs.Elements.{name_of}

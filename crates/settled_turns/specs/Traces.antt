@@ -6,7 +6,7 @@ use Rattle.report_line.specs.declared.reply.Reply.{Reply}
 use Rattle.report_line.specs.declared.reply.Reply.TheVariants.{Accepted, Settled}
 use Rattle.report_line.specs.declared.report.Report.TheVariants.{Begin}
 use Rattle.report_line.specs.declared.step.Step.{Step}
-use Rattle.report_line.specs.History.{Name, Event}
+use Rattle.report_line.specs.histories.History.{Name, Event}
 use Rattle.histories.specs.Rules.{IsNewest, Obeys}
 use Rattle.chains.specs.declared.position.Position.{Position}
 use Rattle.chains.specs.Held.{Held}

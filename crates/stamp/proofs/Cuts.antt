@@ -6,7 +6,7 @@ use Rattle.std.proofs.lemmas.Bool.{and_parts, cases_Bool, both_ways, true≢fals
 use Rattle.std.proofs.lemmas.List.Sums.{split_at_first, passes_at_first}
 use Rattle.std.specs.List.{list_all}
 use Rattle.id_tree.specs.Spelling.{is_tree_byte}
-use Rattle.stamp.specs.Answers.{IsFree}
+use Rattle.stamp.specs.working.Answers.{IsFree}
 
 abbrev is_semicolon : ℕ → Bool
 is_semicolon b = b == 59

@@ -21,7 +21,7 @@ use Rattle.stamp.specs.declared.fault.StampTextFault.{StampTextFault}
 use Rattle.stamp.specs.declared.fault.StampTextFault.TheVariants.{Syntax, NotNormal, TooDeep, TooLarge, Memory}
 use Rattle.stamp.specs.Stamps.{IsStamp, stamp_text}
 use Rattle.stamp.specs.Faults.{Spells, IsFaultOf}
-use Rattle.stamp.specs.Answers.{IsFree, IdTold, EventsTold, StampTold, answer_of}
+use Rattle.stamp.specs.working.Answers.{IsFree, IdTold, EventsTold, StampTold, answer_of}
 use Rattle.stamp.proofs.Cuts.{IsCut, not_free, one_cut, tree_free}
 use Rattle.stamp.proofs.Texts.{one_text}
 

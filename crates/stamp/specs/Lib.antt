@@ -1,4 +1,4 @@
 pub mod Stamps
 pub mod Faults
-pub mod Answers
 pub mod Operations
+pub mod working

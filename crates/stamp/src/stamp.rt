@@ -2,7 +2,7 @@
 
 ghost use Rattle.std.specs.Prelude.{◌≡◌, ◌<◌, ◌==◌, IfSome, length};
 ghost use Rattle.std.specs.List.{position};
-ghost use Rattle.stamp.specs.Answers.{IdTold, EventsTold, answer_of};
+ghost use Rattle.stamp.specs.working.Answers.{IdTold, EventsTold, answer_of};
 
 use crate::fault::StampTextFault;
 use event_tree::{Events, EventsFault};

@@ -5,7 +5,7 @@ use Rattle.line_text.proofs.Texts.{answers_line, answers_garbage}
 use Rattle.line_text.proofs.answer_for.Goals as goal
 
 pub returns-in-Line : goal.returns-in-Line
-returns-in-Line c = IfSome_then c.text_for_names.result c.text_for_names.ensures (λ text for. rw (c.in-Line.is, ← c.as_slice.ensures.value) (answers_line (held_of c.args.chains.now) _ text for))
+returns-in-Line c = IfSome_then c.text_for_names.result c.text_for_names.ensures (λ text for. rw c.in-Line.is (answers_line (held_of c.args.chains.now) _ text for))
 
 pub returns-in-Garbage : goal.returns-in-Garbage
 returns-in-Garbage c = IfSome_then c.text_for_all.result c.text_for_all.ensures (λ text for. rw c.in-Garbage.is (answers_garbage (held_of c.args.chains.now) text for))

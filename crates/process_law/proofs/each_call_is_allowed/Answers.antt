@@ -2,9 +2,9 @@
 use Rattle.std.specs.Prelude.{◌≡◌, ◌∷◌, ℕ, Some}
 use Rattle.std.proofs.Common.{◌∙◌, subst, sym}
 use Rattle.report_line.specs.declared.step.Deed.{Deed}
-use Rattle.report_line.specs.History.{Name, History}
-use Rattle.report_line.specs.Lawful.{IsAllowed}
-use Rattle.report_line.specs.StepReports.{report_of}
+use Rattle.report_line.specs.histories.History.{Name, History}
+use Rattle.report_line.specs.histories.Lawful.{IsAllowed}
+use Rattle.report_line.specs.histories.StepReports.{report_of}
 use Rattle.process.specs.declared.process.Process.{Process}
 use Rattle.process_law.specs.Accounts.{Doing, IsDone, deed_of}
 use Rattle.process_law.specs.Obeying.{line_given}

@@ -1,6 +1,7 @@
 //! Passes of a coordinator over a disk in memory.
 
 ghost use Rattle.std.specs.Prelude.{◌≡◌};
+ghost use Rattle.coordinator.specs.Passes.{ledger_parts};
 
 use super::shared::{close, desk_over, put_end, shared};
 use anyhow::Result;
@@ -100,7 +101,7 @@ fn take_all<L: Ledger, R: Wait, W: Write>(
     out: &mut W,
 ) -> Result<()>
     requires name { blank.name ≡ L.name }
-    requires parts { (blank.parts ≡ L.parts) × (blank.parts ≡ 8193) }
+    requires parts { (blank.parts ≡ L.parts) × (blank.parts ≡ ledger_parts) }
 {
     let desk = desk_over(alloc, MemoryDisk::new(alloc, &[])?, out)?;
     let coordinator = shared::<L, _, W>(alloc, blank, desk, out)?;

@@ -1,6 +1,7 @@
 //! A session over a coordinator of a record file, whose link is standard input and output.
 
 ghost use Rattle.std.specs.Prelude.{◌≡◌};
+ghost use Rattle.coordinator.specs.Passes.{ledger_parts};
 
 use super::shared::{File, close, desk_over, put_end, shared};
 use anyhow::Result;
@@ -67,7 +68,7 @@ fn serve_over<L: Ledger, R: Wait + Threads + Sync, I: Read + Drop, W: Write + Dr
     told: &mut E,
 ) -> Result<()>
     requires name { blank.name ≡ L.name }
-    requires parts { (blank.parts ≡ L.parts) × (blank.parts ≡ 8193) }
+    requires parts { (blank.parts ≡ L.parts) × (blank.parts ≡ ledger_parts) }
 {
     let desk = desk_over(alloc, disk, told)?;
     let coordinator = shared::<L, _, E>(alloc, blank, desk, told)?;

@@ -3,6 +3,7 @@
 ghost use Rattle.std.specs.Prelude.{◌≡◌, ◌≤◌, [], length, IfOk};
 ghost use Rattle.report_line.specs.Replies.{IsWritten};
 ghost use Rattle.desk.specs.Files.{IsShort};
+ghost use Rattle.coordinator.specs.Passes.{ledger_parts};
 
 use super::put_again;
 use anyhow::{Error, Result};
@@ -47,7 +48,7 @@ pub fn shared<L: Ledger, D: Disk + Drop, W: Write>(
     out: &mut W,
 ) -> Result<Coordinator<L, D>>
     requires name { blank.name ≡ L.name }
-    requires parts { (blank.parts ≡ L.parts) × (blank.parts ≡ 8193) }
+    requires parts { (blank.parts ≡ L.parts) × (blank.parts ≡ ledger_parts) }
     requires fresh { desk.turns ≡ [] }
 {
     let (blank, desk) = match Coordinator::new(alloc, blank, desk) {
@@ -206,7 +207,7 @@ pub fn answer<L: Ledger, D: Disk + Drop, R: Wait + Threads + Sync, W: Write>(
     out: &mut W,
 ) -> Result<()>
     requires name { blank.name ≡ L.name }
-    requires parts { (blank.parts ≡ L.parts) × (blank.parts ≡ 8193) }
+    requires parts { (blank.parts ≡ L.parts) × (blank.parts ≡ ledger_parts) }
 {
     let desk = desk_over(alloc, disk, out)?;
     let coordinator = shared::<L, _, W>(alloc, blank, desk, out)?;

@@ -7,7 +7,7 @@ use super::answer::{put_fault, put_number, put_whether};
 use chains::{Chains, Failed, KeepFault, Line, Place, Position};
 use knows_row::{knows, last_known, need};
 use propagate::greatest_cut;
-use report_line::Name;
+use report_line::{Name, Names};
 use std::alloc::{AllocError, Global};
 use std::fmt;
 
@@ -70,10 +70,14 @@ fn are_known<'a>(chains: &Chains, word: &'a str) -> Result<(), WordFault<'a>> {
 }
 
 // The names in the word, parted by commas.
-fn names_of(alloc: Global, word: &str) -> Result<Vec<Name>, AllocError> {
-    word.split(',')
-        .filter_map(|part| Name::from_bytes(part.as_bytes()))
-        .collect(alloc)
+fn names_of(alloc: Global, word: &str) -> Result<Names, AllocError> {
+    let mut names = Names::new(alloc);
+    for part in word.split(',') {
+        if let Some(name) = Name::from_bytes(part.as_bytes()) {
+            names.push(name)?;
+        }
+    }
+    Ok(names)
 }
 
 /// The failed set that a word names: `*` for all processes, `-` for none, or names parted by commas.

@@ -1,6 +1,7 @@
 //! Sessions over one coordinator, of which one waits at a gate.
 
 ghost use Rattle.std.specs.Prelude.{◌≡◌, ◌<◌, ◌≤◌};
+ghost use Rattle.coordinator.specs.Passes.{ledger_parts};
 
 use super::gate::{HeldGate, Place};
 use crate::again::shared::{close, desk_over, put_end, put_replies};
@@ -213,7 +214,7 @@ fn put_all<L: Ledger + Send + Sync, R: Threads + Wait + Sync, W: Write>(
     out: &mut W,
 ) -> Result<()>
     requires name { blank.name ≡ L.name }
-    requires parts { (blank.parts ≡ L.parts) × (blank.parts ≡ 8193) }
+    requires parts { (blank.parts ≡ L.parts) × (blank.parts ≡ ledger_parts) }
     requires workers { (0 < workers) × (workers ≤ 64) }
 {
     let desk = desk_over(alloc, MemoryDisk::new(alloc, &[])?, out)?;

@@ -1,6 +1,7 @@
 //! Sessions that workers serve at once.
 
 ghost use Rattle.std.specs.Prelude.{◌≡◌};
+ghost use Rattle.coordinator.specs.Passes.{ledger_parts};
 
 use super::sessions::{Texts, texts_of};
 use super::streams::{Got, Meeting, Sent, Who};
@@ -157,7 +158,7 @@ fn put_all<L: Ledger + Send + Sync, R: Threads + Wait + Sync, W: Write>(
     out: &mut W,
 ) -> Result<()>
     requires name { blank.name ≡ L.name }
-    requires parts { (blank.parts ≡ L.parts) × (blank.parts ≡ 8193) }
+    requires parts { (blank.parts ≡ L.parts) × (blank.parts ≡ ledger_parts) }
 {
     let desk = desk_over(alloc, MemoryDisk::new(alloc, &[])?, out)?;
     let coordinator = shared::<L, _, W>(alloc, blank, desk, out)?;

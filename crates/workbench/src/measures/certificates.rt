@@ -8,7 +8,7 @@ use chains::{Chains, Failed};
 use propagate::certificate;
 use reason_check::check;
 use reasons::{Certificate, from_json, to_json};
-use report_line::{Call, read_line};
+use report_line::{Call, Names, read_line};
 use std::alloc::Global;
 use std::io::Read;
 use std::rt::Clock;
@@ -41,7 +41,7 @@ fn text_if(chains: &Chains, failed: &Failed) -> Result<String> {
 
 /// The certificate of the line where no process failed.
 fn text_of_line(chains: &Chains) -> Result<String> {
-    match Failed::from_names(chains, &[]) {
+    match Failed::from_names(chains, &Names::new(chains.alloc())) {
         Ok(failed) => text_if(chains, &failed),
         Err(_) => anyhow::bail!("no failed set"),
     }

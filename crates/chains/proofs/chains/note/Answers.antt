@@ -1,6 +1,6 @@
 use Rattle.std.proofs.Common.{◌+◌, Some, refl}
 use Rattle.chains.specs.declared.process.Process.{Process}
-use Rattle.chains.specs.Noting.{noted}
+use Rattle.chains.specs.working.Noting.{noted}
 use Rattle.chains.proofs.Noted.{changed, noted_lasting, noted_other}
 use Rattle.chains.proofs.chains.note.Goals as goal
 

@@ -1,6 +1,6 @@
 use Rattle.std.proofs.Common.{true, refl, sym, arith}
 use Rattle.chains.specs.declared.process.Process.{Process}
-use Rattle.chains.specs.Noting.{taken}
+use Rattle.chains.specs.working.Noting.{taken}
 use Rattle.chains.proofs.Noted.{changed, taken_there, taken_nowhere}
 use Rattle.chains.proofs.chains.note_absorbed.Goals as goal
 

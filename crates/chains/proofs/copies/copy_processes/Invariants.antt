@@ -1,5 +1,5 @@
 use Rattle.std.proofs.Common.{◌≡◌, take, map}
-use Rattle.chains.specs.Keeping.{view_of}
+use Rattle.chains.specs.working.Keeping.{view_of}
 use Rattle.chains.proofs.copies.copy_processes.Given as goal
 
 abbrev pub invariant-loop-process : goal.invariant-loop-process

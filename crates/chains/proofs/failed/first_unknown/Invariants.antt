@@ -1,6 +1,9 @@
-use Rattle.std.proofs.Common.{All, take}
-use Rattle.chains.specs.Processes.{IsKnown}
+use Rattle.std.proofs.Common.{length}
+use Rattle.chains.proofs.LookUps.{AreKnownBefore}
 use Rattle.chains.proofs.failed.first_unknown.Given as goal
 
 abbrev pub invariant-loop-name : goal.invariant-loop-name
-invariant-loop-name l = All (IsKnown l.chains.accepted) (take l.name-index l.names)
+invariant-loop-name l = AreKnownBefore l.chains.accepted l.names l.left
+
+abbrev pub decreases-loop-name : goal.decreases-loop-name
+decreases-loop-name l = length l.left

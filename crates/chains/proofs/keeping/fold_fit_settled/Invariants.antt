@@ -1,6 +1,6 @@
 use Rattle.chains.specs.Processes.{known}
 use Rattle.chains.specs.Held.{held_of}
-use Rattle.chains.specs.Settling.{limits_in, IsKeptTo}
+use Rattle.chains.specs.working.Settling.{limits_in, IsKeptTo}
 use Rattle.chains.proofs.keeping.fold_fit_settled.Given as goal
 
 abbrev pub invariant-loop-i : goal.invariant-loop-i

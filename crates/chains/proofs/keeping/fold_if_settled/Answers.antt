@@ -4,7 +4,7 @@ use Rattle.report_line.specs.declared.report.Report.{Report}
 use Rattle.chains.specs.Processes.{known}
 use Rattle.chains.specs.Held.{held_of}
 use Rattle.chains.specs.Folded.{IsFit}
-use Rattle.chains.specs.Settling.{limits_in, IsKeptTo}
+use Rattle.chains.specs.working.Settling.{limits_in, IsKeptTo}
 use Rattle.chains.proofs.LineReports.{kept_same, kept_more, kept_few, kept_few_known, past_at, not_folded}
 use Rattle.chains.proofs.keeping.fold_if_settled.Goals as goal
 

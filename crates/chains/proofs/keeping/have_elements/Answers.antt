@@ -6,7 +6,7 @@ use Rattle.chains.specs.declared.position.Place.{Place}
 use Rattle.chains.specs.declared.position.Position.{Position}
 use Rattle.chains.specs.Processes.{known}
 use Rattle.chains.specs.Positions.{position_in, positions_of}
-use Rattle.chains.specs.Settling.{HasElementsTo}
+use Rattle.chains.specs.working.Settling.{HasElementsTo}
 use Rattle.chains.proofs.Lists.{refuted}
 use Rattle.chains.proofs.LineElements.{position_there, chosen_there}
 use Rattle.chains.proofs.keeping.have_elements.Goals as goal

@@ -1,6 +1,6 @@
 use Rattle.std.proofs.Common.{ℕ, ◌<◌}
 use Rattle.chains.specs.Positions.{position_in, positions_of}
-use Rattle.chains.specs.Settling.{HasElementsTo}
+use Rattle.chains.specs.working.Settling.{HasElementsTo}
 use Rattle.chains.proofs.keeping.have_elements.Given as goal
 
 abbrev pub invariant-loop-i : goal.invariant-loop-i

@@ -2,7 +2,7 @@ use Rattle.std.proofs.Common.{◌∙◌}
 use Rattle.chains.specs.Processes.{known}
 use Rattle.chains.specs.Positions.{positions_of}
 use Rattle.chains.specs.Held.{held_of}
-use Rattle.chains.specs.Settling.{limits_in}
+use Rattle.chains.specs.working.Settling.{limits_in}
 use Rattle.chains.proofs.Lists.{refuted}
 use Rattle.chains.proofs.LineReports.{kept_counted, kept_all}
 use Rattle.chains.proofs.LineKept.{kept_is, cannot_have, can_be_kept}

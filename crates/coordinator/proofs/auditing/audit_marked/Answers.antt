@@ -1,7 +1,7 @@
 use Rattle.std.proofs.Common.{ℕ, List, refl, ◌∙◌, arith}
 use Rattle.chains.specs.Held.{held_of}
 use Rattle.coordinator.specs.Closing.{entries_of}
-use Rattle.coordinator.specs.Marks.{IsMarked}
+use Rattle.coordinator.specs.working.Marks.{IsMarked}
 use Rattle.coordinator.proofs.Marked.{sum_small, marked_all, marked_once}
 use Rattle.coordinator.proofs.Checked.{wrong_cause}
 use Rattle.coordinator.proofs.Owned.{all_right}

@@ -1,5 +1,5 @@
 use Rattle.std.proofs.Common.{◌≡◌, ℕ, length, subst, arith}
-use Rattle.coordinator.specs.Marks.{AreOwned}
+use Rattle.coordinator.specs.working.Marks.{AreOwned}
 use Rattle.coordinator.proofs.auditing.mark_all.Goals as goal
 
 pub returns-clause-owned : goal.returns-clause-owned

@@ -4,7 +4,7 @@ use Rattle.std.proofs.lemmas.List.{take_more}
 use Rattle.std.proofs.lemmas.Option.{slice_get_read}
 use Rattle.coordinator.specs.Passes.{PassEntry, PassState}
 use Rattle.coordinator.specs.Closing.{entries_of, IsAtTurn}
-use Rattle.coordinator.specs.Marks.{IsMarked}
+use Rattle.coordinator.specs.working.Marks.{IsMarked}
 use Rattle.coordinator.proofs.Marked.{at-below, marked_more, strange_twice}
 use Rattle.coordinator.proofs.Owned.{owned_more, owned_pass}
 use Rattle.coordinator.proofs.marking.mark.Goals as goal

@@ -1,6 +1,6 @@
 use Rattle.std.proofs.Common.{◌++◌, take}
 use Rattle.coordinator.specs.Closing.{entries_of}
-use Rattle.coordinator.specs.Marks.{IsMarked, AreOwned}
+use Rattle.coordinator.specs.working.Marks.{IsMarked, AreOwned}
 use Rattle.coordinator.proofs.marking.mark.Given as goal
 
 abbrev pub invariant-loop-k : goal.invariant-loop-k

@@ -1,6 +1,6 @@
 use Rattle.std.proofs.Common.{◌≡◌, ℕ, length, refl, subst, arith}
 use Rattle.chains.specs.Held.{held_of}
-use Rattle.coordinator.specs.Checks.{AreCheckedTo}
+use Rattle.coordinator.specs.working.Checks.{AreCheckedTo}
 use Rattle.coordinator.proofs.Checked.{replayed_more, checked_more, wrong_there}
 use Rattle.coordinator.proofs.replaying.check_lines.Goals as goal
 

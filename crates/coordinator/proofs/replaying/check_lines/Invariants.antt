@@ -1,5 +1,5 @@
 use Rattle.chains.specs.Held.{held_of}
-use Rattle.coordinator.specs.Checks.{AreCheckedTo}
+use Rattle.coordinator.specs.working.Checks.{AreCheckedTo}
 use Rattle.coordinator.proofs.Checked.{IsReplayed}
 use Rattle.coordinator.proofs.replaying.check_lines.Given as goal
 

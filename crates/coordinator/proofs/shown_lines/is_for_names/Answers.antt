@@ -1,11 +1,6 @@
-use Rattle.std.proofs.Common.{arith}
-use Rattle.coordinator.proofs.Certifying.{told_all, told_not}
+use Rattle.std.proofs.Common.{List, Bool, sym, subst}
+use Rattle.chains.specs.Failures.{AreMarked}
 use Rattle.coordinator.proofs.shown_lines.is_for_names.Goals as goal
 
-pub returns-then-not-is_told : goal.returns-then-not-is_told
-returns-then-not-is_told c =
-    told_not c.args.chains.now.accepted c.args.names.now c.as_slice-failed.result.now c.args.certificate.now c.loop-process.process c.is_told.result c.as_slice-failed.ensures c.is_told.ensures c.if-not-is_told.true
-
 pub returns : goal.returns
-returns c =
-    told_all c.args.chains.now.accepted c.args.names.now c.as_slice-failed.result.now c.args.certificate.now c.loop-process.process c.as_slice-failed.ensures (omega (arith, c.count-process-end.ensures)) c.loop-process.invariant
+returns c = c.are_told.ensures c.args.names.now (subst (λ (l : List Bool). AreMarked c.args.chains.now.accepted c.args.names.now l) (sym c.deref.ensures.value) c.in_ok-named.ensures)

@@ -1,7 +1,5 @@
-use Rattle.std.proofs.Common.{◌≤◌, All, length, ap, sym, refl, ◌∙◌, subst, ℕ, List}
+use Rattle.std.proofs.Common.{◌≤◌, length, ap, sym, refl, ◌∙◌, subst, ℕ, List}
 use Rattle.chains.specs.Held.{held_of}
-use Rattle.chains.specs.Processes.{Name, IsKnown}
-use Rattle.chains.specs.Settled.{IsSettled}
 use Rattle.record_file.specs.Store.{is_stopped}
 use Rattle.desk.specs.Records.{said_settled, settlement_recorded}
 use Rattle.desk.proofs.Spelled.{some_settle_line}
@@ -11,7 +9,7 @@ use Rattle.desk.proofs.returning.return_all.Goals as goal
 
 pub settle_named-requires-clause-known : goal.settle_named-requires-clause-known
 settle_named-requires-clause-known g c =
-    subst (All (IsKnown c.args.chains.now.accepted)) (sym c.as_slice.ensures.value) (tested (held_of c.args.chains.now) c.args.front c.args.names.now c.requires.passes).all_known
+    (tested (held_of c.args.chains.now) c.args.front c.args.names.now c.requires.passes).all_known
 
 pub returns-in_default-write_settle-clause-turn : goal.returns-in_default-write_settle-clause-turn
 returns-in_default-write_settle-clause-turn g c =
@@ -28,12 +26,12 @@ append-requires-clause-some g c =
 
 pub returns-in-Done-clause-turn : goal.returns-in-Done-clause-turn
 returns-in-Done-clause-turn g c =
-    let settled = subst (λ (ns : List Name). IsSettled (held_of c.args.chains.now) ns (held_of c.in-Ok.returned)) c.as_slice.ensures.value c.in-Ok.ensures in
+    let settled = c.in-Ok.ensures in
     turn_done c.args.chains.now c.in-Ok.returned (is_stopped c.append.new.self) c.args.front c.args.names.now _ _ c.settled.result c.requires.passes settled c.epoch-in-Done.ensures c.front.ensures c.settled.ensures (c.in-Done.ensures.stops.1 refl)
 
 pub returns-in-Done-clause-spelled : goal.returns-in-Done-clause-spelled
 returns-in-Done-clause-spelled g c = λ uses.
-    settle_spelled (held_of c.args.chains.now) c.args.front c.args.names.now c.args.names.now c.requires.passes c.lawful.ensures.counted c.ranges.front.fits refl c.as_slice.ensures.names
+    settle_spelled (held_of c.args.chains.now) c.args.front c.args.names.now c.args.names.now c.requires.passes c.lawful.ensures.counted c.ranges.front.fits refl c.known.ensures
 
 pub returns-in-Done-clause-writes : goal.returns-in-Done-clause-writes
 returns-in-Done-clause-writes g c =
@@ -42,7 +40,7 @@ returns-in-Done-clause-writes g c =
     let told = says c.epoch.result c.deref.result.now in
     let is = told_same c.epoch.result c.deref.result.now one c.epoch.ensures (c.deref.ensures.value ∙ c.in-Ok-write_settle.ensures) in
     let tells = appends g.D.Disk.keeps g.D.Disk.view g.D.Disk.failed _ _ told one is c.append.ensures.found c.append.ensures.any_moment c.append.ensures.premise in
-    let settled = subst (λ (ns : List Name). IsSettled (held_of c.args.chains.now) ns (held_of c.in-Ok.returned)) c.as_slice.ensures.value c.in-Ok.ensures in
+    let settled = c.in-Ok.ensures in
     let x = c.settled in
     writes_done g.D.Disk.keeps g.D.Disk.view g.D.Disk.failed _ _ told one is tells (settlement_recorded c.args.front names x.result) x.result
     (recorded_settled c.args.chains.now c.in-Ok.returned c.args.front names _ _ x.result settled c.epoch-in-Done.ensures x.ensures)
@@ -55,7 +53,7 @@ returns-in-Before-clause-turn g c =
 
 pub returns-in-Before-clause-spelled : goal.returns-in-Before-clause-spelled
 returns-in-Before-clause-spelled g c = λ uses.
-    settle_spelled (held_of c.args.chains.now) c.args.front c.args.names.now c.args.names.now c.requires.passes c.lawful.ensures.counted c.ranges.front.fits refl c.as_slice.ensures.names
+    settle_spelled (held_of c.args.chains.now) c.args.front c.args.names.now c.args.names.now c.requires.passes c.lawful.ensures.counted c.ranges.front.fits refl c.known.ensures
 
 pub returns-in-Before-clause-writes : goal.returns-in-Before-clause-writes
 returns-in-Before-clause-writes g c =
@@ -73,13 +71,13 @@ returns-in-Unknown-clause-turn g c =
 
 pub returns-in-Unknown-clause-spelled : goal.returns-in-Unknown-clause-spelled
 returns-in-Unknown-clause-spelled g c = λ uses.
-    settle_spelled (held_of c.args.chains.now) c.args.front c.args.names.now c.args.names.now c.requires.passes c.lawful.ensures.counted c.ranges.front.fits refl c.as_slice.ensures.names
+    settle_spelled (held_of c.args.chains.now) c.args.front c.args.names.now c.args.names.now c.requires.passes c.lawful.ensures.counted c.ranges.front.fits refl c.known.ensures
 
 pub returns-in-Unknown-clause-followed : goal.returns-in-Unknown-clause-followed
 returns-in-Unknown-clause-followed g c =
-    let settled = subst (λ (ns : List Name). IsSettled (held_of c.args.chains.now) ns (held_of c.in-Ok.returned)) c.as_slice.ensures.value c.in-Ok.ensures in
+    let settled = c.in-Ok.ensures in
     follows c.args.chains.now c.in-Ok.returned c.args.front c.args.names.now c.failed-in-Unknown.result
-    (settle_spelled (held_of c.args.chains.now) c.args.front c.args.names.now c.args.names.now c.requires.passes c.lawful.ensures.counted c.ranges.front.fits refl c.as_slice.ensures.names)
+    (settle_spelled (held_of c.args.chains.now) c.args.front c.args.names.now c.args.names.now c.requires.passes c.lawful.ensures.counted c.ranges.front.fits refl c.known.ensures)
     c.requires.passes settled c.failed-in-Unknown.ensures
 
 pub returns-in-Unknown-clause-writes : goal.returns-in-Unknown-clause-writes

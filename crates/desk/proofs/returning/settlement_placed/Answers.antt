@@ -1,16 +1,12 @@
-use Rattle.std.proofs.Common.{sym, subst, ◌∙◌, List}
-use Rattle.chains.specs.Processes.{Name}
-use Rattle.chains.specs.Held.{held_of}
-use Rattle.chains.specs.Answers.{IsSettleRefusal}
-use Rattle.chains.specs.Turns.{PassesSettle}
+use Rattle.std.proofs.Common.{sym, ◌∙◌}
 use Rattle.record_file.specs.Store.{is_stopped}
 use Rattle.desk.proofs.Accepting.{refused_settlement_beside}
 use Rattle.desk.proofs.returning.settlement_placed.Goals as goal
 
 pub return_all-requires-clause-passes : goal.return_all-requires-clause-passes
-return_all-requires-clause-passes g c = subst (λ (ns : List Name). PassesSettle (held_of c.args.chains.now) c.args.front ns) c.as_slice.ensures.value c.in-Ok.ensures.ok
+return_all-requires-clause-passes g c = c.in-Ok.ensures.ok
 
 pub returns-in-Err-clause-turn : goal.returns-in-Err-clause-turn
 returns-in-Err-clause-turn g c =
     refused_settlement_beside c.args.chains.now (is_stopped c.args.store.now) c.args.front c.args.names.now c.in-Err.refusal c.refused_by.result (sym c.stopped.ensures ∙ c.if-stopped.false)
-    (subst (λ (ns : List Name). IsSettleRefusal (held_of c.args.chains.now) c.args.front ns c.in-Err.refusal) c.as_slice.ensures.value c.in-Err.ensures.err) c.refused_by.ensures
+    c.in-Err.ensures.err c.refused_by.ensures

@@ -1,5 +1,5 @@
-use Rattle.driver.specs.Made.{again}
-use Rattle.driver.specs.Tables.{history_in}
+use Rattle.driver.specs.working.Made.{again}
+use Rattle.driver.specs.working.Tables.{history_in}
 use Rattle.driver.proofs.GoingOver.{is_ready, ready_still}
 use Rattle.driver.proofs.Lined.{step_line}
 use Rattle.driver.proofs.keeping.keep.Goals as goal

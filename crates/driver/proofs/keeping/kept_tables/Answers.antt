@@ -1,7 +1,7 @@
 use Rattle.std.proofs.Common.{◌+◌}
 use Rattle.std.specs.Str.{bytes_eq}
 use Rattle.indexmap.specs.IndexMap.{get}
-use Rattle.driver.specs.Marks.{cut_by}
+use Rattle.driver.specs.working.Marks.{cut_by}
 use Rattle.driver.proofs.GoingOver.{nothing_kept, lawful_front, open_front}
 use Rattle.driver.proofs.keeping.kept_tables.Goals as goal
 

@@ -2,8 +2,8 @@ use Rattle.std.proofs.Common.{take}
 use Rattle.std.specs.Prelude.{reverse}
 use Rattle.std.specs.Str.{bytes_eq}
 use Rattle.indexmap.specs.IndexMap.{get}
-use Rattle.driver.specs.Keeping.{AreKept}
-use Rattle.driver.specs.Marks.{cut_by}
+use Rattle.driver.specs.working.Keeping.{AreKept}
+use Rattle.driver.specs.working.Marks.{cut_by}
 use Rattle.driver.proofs.keeping.kept_tables.Given as goal
 
 abbrev pub invariant-loop-i : goal.invariant-loop-i

@@ -1,5 +1,5 @@
 use Rattle.std.proofs.Common.{sym, subst}
-use Rattle.driver.specs.Making.{HasLineIfCounted}
+use Rattle.driver.specs.working.Making.{HasLineIfCounted}
 use Rattle.driver.proofs.Lined.{fields_if_counted}
 use Rattle.driver.proofs.lining.know_report.Goals as goal
 

@@ -2,7 +2,7 @@ use Rattle.std.proofs.Common.{◌≡◌, List, ℕ, take}
 use Rattle.std.specs.Str.{bytes_eq}
 use Rattle.indexmap.specs.IndexMap.{get}
 use Rattle.driver.specs.Lines.{IsNamedOnce}
-use Rattle.driver.specs.Marks.{named}
+use Rattle.driver.specs.working.Marks.{named}
 use Rattle.driver.proofs.marking.marks_by_name.Given as goal
 
 abbrev pub invariant-loop-x : goal.invariant-loop-x

@@ -3,7 +3,7 @@ use Rattle.std.specs.Prelude.{reverse}
 use Rattle.std.specs.Option.{option_map}
 use Rattle.std.specs.Str.{bytes_eq}
 use Rattle.indexmap.specs.IndexMap.{get}
-use Rattle.driver.specs.Marks.{walked}
+use Rattle.driver.specs.working.Marks.{walked}
 use Rattle.driver.proofs.marking.see_all.Given as goal
 
 abbrev pub invariant-loop-i : goal.invariant-loop-i

@@ -1,6 +1,6 @@
 use Rattle.std.proofs.Common.{◌≢◌, All, take}
-use Rattle.report_line.specs.History.{Unborn, status}
-use Rattle.driver.specs.Tables.{history_in}
+use Rattle.report_line.specs.histories.History.{Unborn, status}
+use Rattle.driver.specs.working.Tables.{history_in}
 use Rattle.driver.proofs.settling.are_born.Given as goal
 
 abbrev pub invariant-loop-name : goal.invariant-loop-name

@@ -1,4 +1,4 @@
-use Rattle.driver.specs.Seen.{chronicle_in}
+use Rattle.driver.specs.working.Seen.{chronicle_in}
 use Rattle.driver.proofs.Unknown.{all_known, unknown_failed, unknown_in_line}
 use Rattle.driver.proofs.settling.are_known.Goals as goal
 

@@ -2,7 +2,7 @@ use Rattle.std.proofs.Common.{◌+◌, Result, Ok, Err, IfOk, OnOk, refl, sym, �
 use Rattle.std.proofs.lemmas.Result.{IfOk-weaker, IfErr-weaker}
 use Rattle.std.specs.Str.{bytes_eq}
 use Rattle.indexmap.specs.IndexMap.{get}
-use Rattle.driver.specs.Seen.{chronicle_in}
+use Rattle.driver.specs.working.Seen.{chronicle_in}
 use Rattle.driver.proofs.Settlement.{refuses_by, root_unborn, not_standing, not_closed, is_closed_line, settles}
 use Rattle.driver.proofs.settling.settled.Goals as goal
 

@@ -1,6 +1,6 @@
 use Rattle.std.proofs.Common.{◌≡◌, ◌≤◌, true, arith}
 use Rattle.id_tree.specs.NormalForm.{depth_limit}
-use Rattle.id_tree.specs.Tests.{owns_any}
+use Rattle.id_tree.specs.working.Tests.{owns_any}
 use Rattle.id_tree.specs.Split.{left_part, right_part, parts_depth}
 use Rattle.id_tree.proofs.Preorder.{one_tree, tree_of_preorder}
 use Rattle.id_tree.proofs.Splits.{marks_alone, are_of_left, are_of_right, marks_split}

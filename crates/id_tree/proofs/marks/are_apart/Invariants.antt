@@ -1,6 +1,6 @@
 use Rattle.std.proofs.Common.{◌≡◌, ◌+◌, length}
-use Rattle.id_tree.specs.Marks.{trees_of}
-use Rattle.id_tree.specs.Tests.{all_disjoint}
+use Rattle.id_tree.specs.working.Marks.{trees_of}
+use Rattle.id_tree.specs.working.Tests.{all_disjoint}
 use Rattle.id_tree.proofs.marks.are_apart.Given as goal
 
 -- what is left tells what the whole does

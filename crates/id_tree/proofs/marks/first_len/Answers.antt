@@ -1,5 +1,5 @@
 use Rattle.std.proofs.Common.{arith}
-use Rattle.id_tree.specs.Marks.{trees_of}
+use Rattle.id_tree.specs.working.Marks.{trees_of}
 use Rattle.id_tree.proofs.Preorder.{is_later, at_pair, at_leaf, at_end}
 use Rattle.id_tree.proofs.marks.first_len.Goals as goal
 use Rattle.id_tree.proofs.marks.first_len.Goals.{in-Pair, in-Zero+else-pending-eq1}

@@ -1,5 +1,5 @@
 use Rattle.std.proofs.Common.{◌≡◌, ◌≤◌, ◌+◌, drop}
-use Rattle.id_tree.specs.Marks.{trees_of, later}
+use Rattle.id_tree.specs.working.Marks.{trees_of, later}
 use Rattle.id_tree.proofs.marks.first_len.Given as goal
 
 -- behind the trees that are pending stands what is behind the first tree

@@ -1,4 +1,4 @@
-use Rattle.inspection.specs.Absorbed.{AreFlaggedTo}
+use Rattle.inspection.specs.working.Absorbed.{AreFlaggedTo}
 use Rattle.inspection.proofs.absorbed.absorbed.Given as goal
 
 abbrev pub invariant-loop-i : goal.invariant-loop-i

@@ -3,7 +3,7 @@ use Rattle.event_tree.specs.EventTree.{EventTree}
 use Rattle.event_tree.specs.NormalForm.{greatest, value_limit}
 use Rattle.stamp.specs.declared.stamp.Stamp.{Stamp}
 use Rattle.chains.specs.LastRun.{last_run}
-use Rattle.knows_row.specs.Beyond.{IsBeyondAt, AddsNothing}
+use Rattle.knows_row.specs.working.Beyond.{IsBeyondAt, AddsNothing}
 use Rattle.knows_row.specs.Thresholds.{Passes}
 use Rattle.knows_row.proofs.Thresholding.{threshold_one, threshold_more, threshold_same, threshold_run, elements_are_rising}
 use Rattle.knows_row.proofs.thresholds.threshold_of_many.Goals as goal

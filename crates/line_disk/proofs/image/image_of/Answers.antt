@@ -1,5 +1,5 @@
 use Rattle.std.proofs.Common.{ℕ, ◌+◌, ◌-◌, List, drop, sym, ◌∙◌, ap, arith}
-use Rattle.line_disk.specs.Noting.{noted_calls}
+use Rattle.line_disk.specs.working.Noting.{noted_calls}
 use Rattle.line_disk.specs.Replay.{image_at}
 use Rattle.line_disk.specs.declared.change.Noted.{Noted}
 use Rattle.line_disk.proofs.NotedCalls.{next_noted, stops_before, stops_inside, goes_past}

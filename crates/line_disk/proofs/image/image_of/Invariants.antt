@@ -1,5 +1,5 @@
 use Rattle.std.proofs.Common.{◌≡◌, drop}
-use Rattle.line_disk.specs.Noting.{noted_calls}
+use Rattle.line_disk.specs.working.Noting.{noted_calls}
 use Rattle.line_disk.specs.Replay.{image_at}
 use Rattle.line_disk.proofs.image.image_of.Given as goal
 

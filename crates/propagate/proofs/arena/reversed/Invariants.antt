@@ -1,6 +1,6 @@
 use Rattle.std.proofs.Common.{ℕ, ◌+◌}
 use Rattle.std.specs.Option.{option_map_or}
-use Rattle.propagate.specs.Nodes.{IsUnwinding}
+use Rattle.propagate.specs.working.Nodes.{IsUnwinding}
 use Rattle.propagate.proofs.arena.reversed.Given as goal
 
 abbrev pub invariant-loop-rest : goal.invariant-loop-rest

@@ -1,5 +1,5 @@
 use Rattle.std.proofs.Common.{◌∙◌, ap, List, ℕ}
-use Rattle.propagate.specs.Stages.{chains_at, chains_due}
+use Rattle.propagate.specs.working.Stages.{chains_at, chains_due}
 use Rattle.propagate.proofs.Reached.{cut_reached}
 use Rattle.propagate.proofs.cut.cut_by.Goals as goal
 

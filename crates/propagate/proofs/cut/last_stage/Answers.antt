@@ -1,9 +1,9 @@
 use Rattle.std.proofs.Common.{◌≡◌, ◌≢◌, sym, ◌∙◌, subst, arith, List, ℕ, vec_len}
 use Rattle.std.proofs.lemmas.Bool.{eqb-true, eqb-false}
 use Rattle.std.proofs.lemmas.Option.{IfSome_then}
-use Rattle.propagate.specs.Ranks.{AreNextRanks, RanksAfter}
+use Rattle.propagate.specs.working.Ranks.{AreNextRanks, RanksAfter}
 use Rattle.propagate.proofs.Rounding.{sum_falls}
-use Rattle.propagate.specs.Stages.{IsStanding, AreChosenBy}
+use Rattle.propagate.specs.working.Stages.{IsStanding, AreChosenBy}
 use Rattle.propagate.proofs.Cutting.{running_first, running_more, has_changed, has_settled}
 use Rattle.propagate.proofs.Choosing.{chosen_first, chosen_still, chosen_more}
 use Rattle.propagate.proofs.cut.last_stage.Goals as goal

@@ -2,7 +2,7 @@ use Rattle.std.proofs.Common.{◌≡◌, sum}
 use Rattle.std.specs.Prelude.{IfSome}
 use Rattle.knows_row.specs.Looks.{last_ranks, all_known}
 use Rattle.knows_row.specs.Needs.{IsTableOf}
-use Rattle.propagate.specs.Stages.{AreRunning}
+use Rattle.propagate.specs.working.Stages.{AreRunning}
 use Rattle.propagate.proofs.cut.last_stage.Given as goal
 
 abbrev pub invariant-loop-stage : goal.invariant-loop-stage

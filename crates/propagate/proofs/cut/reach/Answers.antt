@@ -2,7 +2,7 @@ use Rattle.std.proofs.Common.{◌≡◌, ap, sym, subst, ◌∙◌, arith}
 use Rattle.knows_row.proofs.Lawful.{lawful}
 use Rattle.reasons.specs.Certificates.{positions_of}
 use Rattle.propagate.specs.Greatest.{IsGreatestCut}
-use Rattle.propagate.specs.Ranks.{positions_from, places_from}
+use Rattle.propagate.specs.working.Ranks.{positions_from, places_from}
 use Rattle.propagate.specs.Rounds.{AreTops}
 use Rattle.propagate.proofs.Rounding.{settled_is_greatest}
 use Rattle.propagate.proofs.Cutting.{few_tops, line_in_order, line_positions}

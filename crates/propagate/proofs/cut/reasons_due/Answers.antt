@@ -1,7 +1,7 @@
 use Rattle.std.proofs.Common.{◌≡◌, ◌<◌, ap, sym, ◌∙◌, arith, refl, length, get_or, []}
 use Rattle.std.specs.Prelude.{slice_index}
 use Rattle.std.proofs.lemmas.Grind.{get_or_default_zero}
-use Rattle.propagate.specs.Stages.{chains_at}
+use Rattle.propagate.specs.working.Stages.{chains_at}
 use Rattle.std.proofs.lemmas.List.{length-map}
 use Rattle.propagate.proofs.Cutting.{due_more, due_same, due_done, chain_at}
 use Rattle.propagate.proofs.cut.reasons_due.Goals.{then-index-tops+in_ok-chain+in_ok-push, else-index-tops}

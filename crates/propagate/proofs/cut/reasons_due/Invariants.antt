@@ -1,5 +1,5 @@
 use Rattle.std.proofs.Common.{◌≡◌, ◌++◌}
-use Rattle.propagate.specs.Stages.{chains_at, chains_due}
+use Rattle.propagate.specs.working.Stages.{chains_at, chains_due}
 use Rattle.propagate.proofs.Cutting.{due_from}
 use Rattle.propagate.proofs.cut.reasons_due.Given as goal
 

@@ -1,5 +1,5 @@
 use Rattle.std.proofs.Common.{◌≤◌}
-use Rattle.propagate.specs.Brackets.{IsBracket}
+use Rattle.propagate.specs.working.Brackets.{IsBracket}
 use Rattle.propagate.proofs.falls.closer.Given as goal
 
 abbrev pub invariant-loop-high : goal.invariant-loop-high

@@ -1,6 +1,6 @@
 use Rattle.std.proofs.Common.{◌≡◌, ◌+◌, ◌-◌, ℕ, refl, sym, subst, arith}
 use Rattle.knows_row.specs.Looks.{KnowsOne}
-use Rattle.propagate.specs.Ranks.{IsClearRank}
+use Rattle.propagate.specs.working.Ranks.{IsClearRank}
 use Rattle.std.proofs.lemmas.Bool.{true≢false}
 use Rattle.knows_row.proofs.Lawful.{lawful}
 use Rattle.propagate.proofs.Staging.{below_last}

@@ -1,5 +1,5 @@
 use Rattle.std.proofs.Common.{◌+◌, ◌≤◌}
-use Rattle.propagate.specs.Brackets.{IsBracket}
+use Rattle.propagate.specs.working.Brackets.{IsBracket}
 use Rattle.propagate.proofs.falls.narrowed.Given as goal
 
 abbrev pub invariant-loop-below : goal.invariant-loop-below

@@ -5,7 +5,7 @@ use Rattle.std.proofs.lemmas.List.{append-nil, get_or_default}
 use Rattle.chains.specs.declared.position.Place.{Place}
 use Rattle.chains.specs.Positions.{place_at}
 use Rattle.knows_row.proofs.Lawful.{lawful}
-use Rattle.propagate.specs.Ranks.{IsCauseOf}
+use Rattle.propagate.specs.working.Ranks.{IsCauseOf}
 use Rattle.propagate.proofs.Choosing.{BeginsAt, goes_on_at}
 use Rattle.propagate.proofs.Staging.{head_stays, head_starts, head_prolongs, added, added_there}
 use Rattle.propagate.proofs.rounds.next_head.Goals.{then-after-tops+in_ok-before, else-after-tops}

@@ -1,7 +1,7 @@
 use Rattle.std.proofs.Common.{◌≡◌, ◌<◌, ◌++◌, List, [], length, ap, sym, ◌∙◌, append_assoc, append-nil, arith}
 use Rattle.std.proofs.lemmas.List.{get_or_default}
 use Rattle.chains.specs.declared.position.Place.{Place}
-use Rattle.propagate.specs.Ranks.{IsNextRank}
+use Rattle.propagate.specs.working.Ranks.{IsNextRank}
 use Rattle.propagate.proofs.Staging.{next_none, next_fallen, next_stays, next_ranks, next_fell, next_standing, next_lowered, heads_none, heads_more, heads_there, heads_grounded, there_grown, grounded_grown}
 use Rattle.propagate.proofs.Choosing.{chains_more}
 use Rattle.propagate.proofs.rounds.round_by.Goals.{then-low-index+in_ok-push, else-low-index}

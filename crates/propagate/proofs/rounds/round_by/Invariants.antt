@@ -1,6 +1,6 @@
 use Rattle.std.proofs.Common.{◌≡◌, ◌++◌, List}
 use Rattle.chains.specs.declared.position.Place.{Place}
-use Rattle.propagate.specs.Stages.{IsStageFrom}
+use Rattle.propagate.specs.working.Stages.{IsStageFrom}
 use Rattle.propagate.proofs.Staging.{AreNextTo, AreHeadsTo}
 use Rattle.propagate.proofs.Choosing.{AreChainsTo}
 use Rattle.propagate.proofs.rounds.round_by.Given as goal

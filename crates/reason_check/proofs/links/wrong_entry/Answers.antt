@@ -1,5 +1,5 @@
 use Rattle.std.proofs.Common.{arith}
-use Rattle.reason_check.specs.Falling.{IsFalling}
+use Rattle.reason_check.specs.working.Falling.{IsFalling}
 use Rattle.reason_check.proofs.links.wrong_entry.Goals as goal
 
 pub loop-e-init : goal.loop-e-init

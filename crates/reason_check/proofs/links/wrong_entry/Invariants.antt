@@ -1,6 +1,6 @@
 use Rattle.std.proofs.Common.{ℕ, ◌<◌, IsTrue}
 use Rattle.reason_check.specs.Causes.{IsRightEntry}
-use Rattle.reason_check.specs.Falling.{IsFalling}
+use Rattle.reason_check.specs.working.Falling.{IsFalling}
 use Rattle.reason_check.proofs.links.wrong_entry.Given as goal
 
 abbrev pub invariant-loop-e : goal.invariant-loop-e

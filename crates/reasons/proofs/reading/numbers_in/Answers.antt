@@ -6,7 +6,7 @@ use Rattle.chains.specs.Processes.{Name}
 use Rattle.serde_json.specs.Data.{string}
 use Rattle.serde_json.specs.View.{view}
 use Rattle.reasons.specs.CertificateReading.{IsNameKnown}
-use Rattle.reasons.specs.Reading.{AnyName, ReadsAs}
+use Rattle.reasons.specs.working.Reading.{AnyName, ReadsAs}
 use Rattle.reasons.proofs.Taking.{taken_more, taken_all, taken_fails, each_alone, map_itself}
 use Rattle.reasons.proofs.reading.numbers_in.Goals as goal
 

@@ -3,7 +3,7 @@ use Rattle.std.specs.Prelude.{Option, Some}
 use Rattle.chains.specs.Elements.{name_of}
 use Rattle.chains.specs.Processes.{Name}
 use Rattle.serde_json.specs.Data.{string}
-use Rattle.reasons.specs.Reading.{AnyName}
+use Rattle.reasons.specs.working.Reading.{AnyName}
 use Rattle.reasons.proofs.Taking.{TakenSoFar}
 use Rattle.reasons.proofs.reading.numbers_in.Given as goal
 

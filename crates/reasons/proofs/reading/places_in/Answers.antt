@@ -5,7 +5,7 @@ use Rattle.chains.specs.declared.position.Place.{Place}
 use Rattle.chains.specs.Processes.{Name}
 use Rattle.serde_json.specs.View.{view}
 use Rattle.reasons.specs.CertificateReading.{NamedPlace, HasSmallPosition, place_data, place_named, IsNameKnown}
-use Rattle.reasons.specs.Reading.{ReadsAs}
+use Rattle.reasons.specs.working.Reading.{ReadsAs}
 use Rattle.reasons.proofs.Taking.{taken_more, taken_all, taken_fails, each_alone}
 use Rattle.reasons.proofs.reading.places_in.Goals as goal
 

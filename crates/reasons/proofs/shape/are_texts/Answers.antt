@@ -4,7 +4,7 @@ use Rattle.chains.specs.Processes.{Name}
 use Rattle.serde_json.specs.Data.{string}
 use Rattle.serde_json.specs.View.{view}
 use Rattle.serde_json.specs.declared.value.Value.{Value}
-use Rattle.reasons.specs.Reading.{AnyName}
+use Rattle.reasons.specs.working.Reading.{AnyName}
 use Rattle.reasons.proofs.InLists.{list_stands, list_fails, each_more, StandsFor}
 use Rattle.reasons.proofs.shape.are_texts.Goals as goal
 

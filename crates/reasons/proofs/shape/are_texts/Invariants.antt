@@ -1,6 +1,6 @@
 use Rattle.chains.specs.Processes.{Name}
 use Rattle.serde_json.specs.Data.{string}
-use Rattle.reasons.specs.Reading.{AnyName}
+use Rattle.reasons.specs.working.Reading.{AnyName}
 use Rattle.reasons.proofs.InLists.{EachStands}
 use Rattle.reasons.proofs.shape.are_texts.Given as goal
 

@@ -1,5 +1,5 @@
 use Rattle.std.proofs.Common.{inl}
-use Rattle.line_disk.specs.ReadIsLeft.{left_now}
+use Rattle.line_disk.specs.working.ReadIsLeft.{left_now}
 use Rattle.line_disk.specs.Tape.{calls_on, disk_view}
 use Rattle.recline.proofs.asking.ask_by.Goals as goal
 

@@ -1,6 +1,6 @@
 use Rattle.std.proofs.Common.{◌≡◌, ◌≤◌, ◌-◌, drop, map, length}
 use Rattle.report_line.specs.Cutting.{onto, cut_of}
-use Rattle.report_line.specs.Parts.{part_of, ArePartsOf}
+use Rattle.report_line.specs.working.Parts.{part_of, ArePartsOf}
 use Rattle.report_line.proofs.feed.cut_parts.Given as goal
 
 abbrev pub invariant-loop-line : goal.invariant-loop-line

@@ -1,6 +1,6 @@
 use Rattle.std.proofs.Common.{◌≡◌, [], ◌++◌, map, sym, ap, ◌∙◌}
 use Rattle.report_line.specs.Cutting.{cut_of}
-use Rattle.report_line.specs.Parts.{part_of}
+use Rattle.report_line.specs.working.Parts.{part_of}
 use Rattle.report_line.proofs.Streams.{joined_cut, lines_fit}
 use Rattle.report_line.proofs.Parts.{rest_of_parts}
 use Rattle.report_line.proofs.feed.cut_piece.Goals as goal

@@ -1,5 +1,5 @@
 use Rattle.std.proofs.Common.{length}
-use Rattle.script.specs.Driving.{AreTaken}
+use Rattle.script.specs.working.Driving.{AreTaken}
 use Rattle.script.proofs.driving.drive.Given as goal
 
 abbrev pub invariant-loop-line : goal.invariant-loop-line

@@ -1,7 +1,7 @@
 use Rattle.std.proofs.Common.{subst}
 use Rattle.std.specs.Prelude.{OnOk}
 use Rattle.report_line.specs.declared.call.Call.TheVariants as calls
-use Rattle.script.specs.Driving.{PrintsAtOnce}
+use Rattle.script.specs.working.Driving.{PrintsAtOnce}
 use Rattle.script.proofs.Taking.{caught_then}
 use Rattle.script.proofs.printing.print_made.Goals as goal
 

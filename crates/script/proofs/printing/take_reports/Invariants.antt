@@ -1,5 +1,5 @@
 use Rattle.chains.specs.Held.{held_of}
-use Rattle.script.specs.Driving.{TakeTurns}
+use Rattle.script.specs.working.Driving.{TakeTurns}
 use Rattle.script.proofs.printing.take_reports.Given as goal
 
 abbrev pub invariant-loop-report : goal.invariant-loop-report

@@ -1,6 +1,6 @@
 use Rattle.std.proofs.Common.{ap, sym, ◌∙◌}
 use Rattle.std.proofs.lemmas.Bool.{false≢true}
-use Rattle.session.specs.Parts.{call_read}
+use Rattle.session.specs.working.Parts.{call_read}
 use Rattle.session.proofs.TurnSteps.{means_read, short_read, read_off, bye_read}
 use Rattle.session.proofs.Gaining.{some_entries, answered_on, answered_bye, answered_part, none_made}
 use Rattle.session.proofs.over_coordinator.serve_by_pass.Goals as goal

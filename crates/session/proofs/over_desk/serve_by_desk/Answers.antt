@@ -2,7 +2,7 @@ use Rattle.std.proofs.Common.{ap, sym, ◌∙◌, length}
 use Rattle.std.proofs.lemmas.Bool.{false≢true}
 use Rattle.session.specs.SessionText.{at_desk}
 use Rattle.session.specs.Turned.{MakesTurns}
-use Rattle.session.specs.Parts.{call_read}
+use Rattle.session.specs.working.Parts.{call_read}
 use Rattle.session.proofs.TurnSteps.{means_read, short_read, read_off, bye_read}
 use Rattle.session.proofs.ServeSteps.{said_on, said_bye, said_part}
 use Rattle.session.proofs.OverDesk.{desk_lawful, none_said}

@@ -1,6 +1,6 @@
 use Rattle.std.proofs.Common.{◌≡◌, ℕ, List, take, Some, None, subst, arith}
 use Rattle.std.proofs.lemmas.List.{take_all}
-use Rattle.session.specs.Parts.{ServesLines, one_reply}
+use Rattle.session.specs.working.Parts.{ServesLines, one_reply}
 use Rattle.session.proofs.ServeSteps.{line_served, lines_none, lines_to, lines_on}
 use Rattle.session.proofs.TurnSteps.{line_at}
 use Rattle.session.proofs.serving.serve_lines.Goals as goal

@@ -1,5 +1,5 @@
 use Rattle.std.proofs.Common.{◌≤◌, take, None}
-use Rattle.session.specs.Parts.{ServesLines}
+use Rattle.session.specs.working.Parts.{ServesLines}
 use Rattle.session.proofs.serving.serve_lines.Given as goal
 
 abbrev pub invariant-loop-i : goal.invariant-loop-i

@@ -1,5 +1,5 @@
 use Rattle.std.proofs.Common.{◌≤◌, ◌*◌}
-use Rattle.session.specs.Parts.{Going}
+use Rattle.session.specs.working.Parts.{Going}
 use Rattle.session.proofs.session.serve.Given as goal
 
 abbrev pub invariant-loop : goal.invariant-loop

@@ -6,11 +6,11 @@ use Rattle.report_line.specs.declared.report.Report.{Report}
 use Rattle.chains.specs.Processes.{Name}
 use Rattle.chains.specs.Elements.{name_of, lasting_of}
 use Rattle.chains.specs.LastRun.{run_after}
-use Rattle.chains.specs.Fitting.{MayBePut}
-use Rattle.chains.specs.Keeping.{view_of}
-use Rattle.chains.specs.Noting.{names_after, IsKeptBy}
-use Rattle.chains.specs.Inside.{kept_in}
-use Rattle.chains.specs.Birth.{ready_in}
+use Rattle.chains.specs.working.Fitting.{MayBePut}
+use Rattle.chains.specs.working.Keeping.{view_of}
+use Rattle.chains.specs.working.Noting.{names_after, IsKeptBy}
+use Rattle.chains.specs.working.Inside.{kept_in}
+use Rattle.chains.specs.working.Birth.{ready_in}
 use Rattle.chains.proofs.AfterReport.{may_be_kept, is_run_after, after_report}
 use Rattle.chains.proofs.chains.Chains.accept.Goals as goal
 

@@ -1,5 +1,5 @@
 use Rattle.std.proofs.Common.{ap}
-use Rattle.chains.specs.Keeping.{KeptProcess}
+use Rattle.chains.specs.working.Keeping.{KeptProcess}
 use Rattle.chains.proofs.Keeps.{looked_up}
 use Rattle.chains.proofs.chains.Chains.reports_of.Goals as goal
 

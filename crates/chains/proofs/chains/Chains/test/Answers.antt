@@ -7,8 +7,8 @@ use Rattle.report_line.specs.View.{numbered_of}
 use Rattle.chains.specs.Processes.{IsKnown}
 use Rattle.chains.specs.Held.{held_of}
 use Rattle.chains.specs.Admission.{Decides, IsNumberedReply, IsReportReply}
-use Rattle.chains.specs.Keeping.{Tests}
-use Rattle.chains.specs.Testing.{IsNumberIn, IsPlaceOf}
+use Rattle.chains.specs.working.Keeping.{Tests}
+use Rattle.chains.specs.working.Testing.{IsNumberIn, IsPlaceOf}
 use Rattle.chains.proofs.LookUps.{known_from}
 use Rattle.chains.proofs.Tested.{passed_on, refuses_first}
 use Rattle.chains.proofs.chains.Chains.test.Goals as goal

@@ -14,7 +14,7 @@ use Rattle.report_line.specs.declared.reply.Reply.TheVariants.{No}
 use Rattle.chains.specs.Processes.{known, registered_id, last_events}
 use Rattle.chains.specs.Held.{held_of}
 use Rattle.chains.specs.Admission.{Decides, AreGrown, FitsOrNot, IsActionReply}
-use Rattle.chains.specs.Keeping.{Tests}
+use Rattle.chains.specs.working.Keeping.{Tests}
 use Rattle.chains.proofs.Tested.{refuses, passed_on, told_sum}
 use Rattle.chains.proofs.chains.Chains.test_absorb.Goals as goal
 

@@ -4,7 +4,7 @@ use Rattle.report_line.specs.declared.report.Action.TheVariants.{Fork}
 use Rattle.report_line.specs.View.{action_of, numbered_of}
 use Rattle.chains.specs.Held.{held_of}
 use Rattle.chains.specs.Admission.{IsActionReply}
-use Rattle.chains.specs.Keeping.{Tests}
+use Rattle.chains.specs.working.Keeping.{Tests}
 use Rattle.chains.proofs.chains.Chains.test_action.Goals as goal
 
 pub returns-in-Fork : goal.returns-in-Fork

@@ -9,7 +9,7 @@ use Rattle.report_line.specs.View.{numbered_of}
 use Rattle.chains.specs.Processes.{next_number, Waits}
 use Rattle.chains.specs.Held.{held_of}
 use Rattle.chains.specs.Admission.{IsWaitingReply, IsStampReply}
-use Rattle.chains.specs.Keeping.{Tests}
+use Rattle.chains.specs.working.Keeping.{Tests}
 use Rattle.chains.proofs.LookUps.{known_from}
 use Rattle.chains.proofs.Tested.{refuses, passed_on, as_own}
 use Rattle.chains.proofs.Partners.{apart}

@@ -9,7 +9,7 @@ use Rattle.report_line.specs.declared.reply.Reply.TheVariants.{No}
 use Rattle.chains.specs.Processes.{IsKnown}
 use Rattle.chains.specs.Held.{held_of}
 use Rattle.chains.specs.Admission.{FitsOrNot}
-use Rattle.chains.specs.Keeping.{Tests}
+use Rattle.chains.specs.working.Keeping.{Tests}
 use Rattle.chains.proofs.LookUps.{known_from}
 use Rattle.chains.proofs.Tested.{passed_on}
 use Rattle.chains.proofs.chains.Chains.test_retire.Goals as goal

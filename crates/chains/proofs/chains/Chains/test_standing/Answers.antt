@@ -3,7 +3,7 @@ use Rattle.report_line.specs.View.{numbered_of}
 use Rattle.chains.specs.Processes.{Name}
 use Rattle.chains.specs.Held.{held_of}
 use Rattle.chains.specs.Admission.{IsStandingReply}
-use Rattle.chains.specs.Keeping.{Tests}
+use Rattle.chains.specs.working.Keeping.{Tests}
 use Rattle.chains.proofs.Tested.{refuses_ended}
 use Rattle.chains.proofs.chains.Chains.test_standing.Goals as goal
 

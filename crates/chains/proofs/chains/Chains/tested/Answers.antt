@@ -2,7 +2,7 @@ use Rattle.std.proofs.Common.{Err, sym, subst}
 use Rattle.chains.specs.declared.refusal.No.{No}
 use Rattle.chains.specs.Held.{held_of}
 use Rattle.chains.specs.Admission.{IsReportReply}
-use Rattle.chains.specs.Keeping.{Tests}
+use Rattle.chains.specs.working.Keeping.{Tests}
 use Rattle.chains.proofs.chains.Chains.tested.Goals as goal
 
 pub returns-in-Err : goal.returns-in-Err

@@ -1,6 +1,6 @@
 use Rattle.std.proofs.Common.{◌≡◌, length, length-append, List, [], ◌∷◌, ◌++◌, ap, refl, subst, arith}
 use Rattle.coordinator.specs.Passes.{PassEntry, Rises}
-use Rattle.coordinator.specs.Parts.{with_line}
+use Rattle.coordinator.specs.working.Parts.{with_line}
 use Rattle.coordinator.proofs.Rising.{rises-replace}
 use Rattle.coordinator.proofs.pass.Pass.show.Goals as goal
 

@@ -4,7 +4,7 @@ use Rattle.report_line.specs.declared.reply.Reply.{Reply}
 use Rattle.chains.specs.Held.{held_of}
 use Rattle.desk.specs.Files.{UsesDevice}
 use Rattle.desk.specs.Records.{IsRecordOf, IsRecordedCall}
-use Rattle.desk.specs.Parts.{IsFollowed, WritesBy}
+use Rattle.desk.specs.working.Parts.{IsFollowed, WritesBy}
 use Rattle.desk.specs.declared.turn.Turn.{Turn}
 use Rattle.desk.proofs.Deciding.{stopped_only, before_left}
 use Rattle.desk.proofs.Turning.{step_same, placed_same, always_by}

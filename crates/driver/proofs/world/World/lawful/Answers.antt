@@ -2,7 +2,7 @@ use Rattle.std.proofs.Common.{subst}
 use Rattle.history_law.specs.Places.{IsPremise}
 use Rattle.driver.specs.Chronicle.{Chronicle}
 use Rattle.driver.specs.Lines.{reported}
-use Rattle.driver.specs.Tables.{history_in}
+use Rattle.driver.specs.working.Tables.{history_in}
 use Rattle.driver.proofs.Folds.{premise_of}
 use Rattle.driver.proofs.world.World.lawful.Goals as goal
 

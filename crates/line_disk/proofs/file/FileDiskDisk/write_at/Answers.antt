@@ -1,4 +1,4 @@
-use Rattle.line_disk.specs.Known.{first_of, calls_of}
+use Rattle.line_disk.specs.working.Known.{first_of, calls_of}
 use Rattle.line_disk.proofs.Devices.{after_write}
 use Rattle.line_disk.proofs.file.FileDiskDisk.write_at.Goals as goal
 

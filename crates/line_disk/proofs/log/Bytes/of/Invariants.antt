@@ -1,5 +1,5 @@
 use Rattle.std.proofs.Common.{◌≡◌, ◌≤◌, drop, length}
-use Rattle.line_disk.specs.Log.{bytes_in}
+use Rattle.line_disk.specs.working.Log.{bytes_in}
 use Rattle.line_disk.proofs.log.Bytes.of.Given as goal
 
 abbrev pub invariant-loop-i : goal.invariant-loop-i

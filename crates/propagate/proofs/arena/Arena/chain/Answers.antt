@@ -1,7 +1,7 @@
 use Rattle.std.proofs.Common.{[], ◌<◌, arith, ap}
 use Rattle.std.specs.Prelude.{length, List}
 use Rattle.propagate.specs.declared.arena.Node.{Node}
-use Rattle.propagate.specs.Nodes.{unwound}
+use Rattle.propagate.specs.working.Nodes.{unwound}
 use Rattle.propagate.proofs.Unwinding.{unwound-length}
 use Rattle.propagate.proofs.arena.Arena.chain.Goals as goal
 

@@ -1,6 +1,6 @@
 use Rattle.std.proofs.Common.{ℕ, [], ◌<◌, length, Some, refl, arith, subst}
 use Rattle.std.proofs.lemmas.Option.{same_Some}
-use Rattle.propagate.specs.Nodes.{unwound}
+use Rattle.propagate.specs.working.Nodes.{unwound}
 use Rattle.propagate.proofs.Unwinding.{added, behind_added, unwound-length}
 use Rattle.propagate.proofs.arena.Arena.prolong.Goals as goal
 

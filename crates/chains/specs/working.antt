@@ -1,0 +1,9 @@
+pub mod Codes
+pub mod Keeping
+pub mod Inside
+pub mod Birth
+pub mod Testing
+pub mod Noting
+pub mod Room
+pub mod Settling
+pub mod Fitting

@@ -1,0 +1,5 @@
+pub mod Marks
+pub mod Shape
+pub mod Reading
+pub mod Tests
+pub mod Taking

@@ -1,0 +1,5 @@
+pub mod Known
+pub mod Log
+pub mod Noting
+pub mod ReadIsLeft
+pub mod Null

@@ -1,0 +1,4 @@
+pub mod History
+pub mod Lawful
+pub mod Events
+pub mod StepReports

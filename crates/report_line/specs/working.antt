@@ -1,0 +1,5 @@
+pub mod Rows
+pub mod Codes
+pub mod SessionCodes
+pub mod Parts
+pub mod StepCodes

@@ -6,6 +6,7 @@ The keys of the computation NAME, all below /recline/NAME/:
     lines/0000000041          line 41: its run, its number in that, and the line, parted by one space
     places/REPLICA            the line of the log up to which the snapshot of a replica stands, and its front
     digests/00001000/REPLICA  the digest of the first 1,000 accepted lines of a replica
+    asks/RUN                  the replica of a run that waits for its turn (asks.py)
 
 Lines are put by transactions alone, each of which asks that `end` be what its replica knows, puts its lines behind that, and puts the new
 `end`. A run is a word that was drawn by lot. So the numbers of lines have no gap, they stand in the order of the revisions, and within one transaction
@@ -36,6 +37,8 @@ LINE = re.compile(rb"([0-9a-f]+) ([1-9][0-9]*) (.*)", re.DOTALL)
 Last = collections.namedtuple("Last", "position revision mark")
 BEGINNING = Last(0, 0, b"0 0")
 Entry = collections.namedtuple("Entry", "last run number line")
+# That a run asks, since the revision by which it was put first, and by which it was put last.
+Ask = collections.namedtuple("Ask", "created run changed")
 
 
 def text(data):
@@ -107,11 +110,12 @@ class Etcd:
             try:
                 return self.ask_node(body)
             except (OSError, http.client.HTTPException, ValueError) as fault:
-                self.leave_node(str(fault) or type(fault).__name__)
+                why = str(fault) or type(fault).__name__
+                self.leave_node(why)
             if self.stopping.is_set() and self.failed >= len(self.nodes):
                 raise Stopped()
             if self.patience and time.monotonic() - begun > self.patience:
-                raise Silent("no node of etcd answered for %d seconds" % self.patience)
+                raise Silent("no node of etcd did what it was asked for %d seconds: %s" % (self.patience, why))
 
 
 def broken(pair):
@@ -124,6 +128,8 @@ class Log:
     def __init__(self, etcd, name):
         self.etcd = etcd
         self.folder = b"/recline/%s/" % name.encode()
+        # The asks that the last answer had, each with the time at which an answer had it first, and the time of that answer.
+        self.asks, self.asked = {}, 0
 
     def line_key(self, position):
         return self.folder + b"lines/%010d" % position
@@ -134,15 +140,35 @@ class Log:
     def put(self, key, value):
         return {"request_put": {"key": text(key), "value": text(value)}}
 
-    def get_folder(self, name):
+    def get_folder(self, name, **more):
         """All keys below a folder: '0' is the byte behind '/'."""
         key = self.folder + name
-        return self.get(key + b"/", range_end=text(key + b"0"))
+        return self.get(key + b"/", range_end=text(key + b"0"), **more)
 
     def get_behind(self, position):
-        """The requests for the end of the log, for one line, and for the lines behind it. All are answered for the same revision."""
+        """The requests for the end of the log, for one line, for the lines behind it, and for the asks. All are answered for the same revision."""
         lines = self.get(self.line_key(position + 1), range_end=text(self.line_key(10 ** 10 - 1)), limit=PAGE)
-        return [self.get(self.folder + b"end"), self.get(self.line_key(position)), lines]
+        return [self.get(self.folder + b"end"), self.get(self.line_key(position)), lines, self.get_asks()]
+
+    def get_asks(self):
+        """The request for the runs that ask. Whose they are is for people."""
+        return self.get_folder(b"asks", keys_only=True)
+
+    def put_ask(self, run, value):
+        return self.put(self.folder + b"asks/" + run, value)
+
+    def take_ask(self, run):
+        return {"request_delete_range": {"key": text(self.folder + b"asks/" + run)}}
+
+    def note_asks(self, response):
+        self.asked = time.monotonic()
+        asks = [Ask(int(pair["create_revision"]), data(pair, "key")[len(self.folder + b"asks/"):], int(pair["mod_revision"]))
+                for pair in response["response_range"].get("kvs", [])]
+        self.asks = {ask: self.asks.get(ask, self.asked) for ask in asks}
+
+    def change_asks(self, requests):
+        """Makes these requests alone."""
+        self.note_asks(self.etcd.transact([], requests + [self.get_asks()])["responses"][-1])
 
     def entry(self, pair):
         number, words = data(pair, "key")[len(self.folder + b"lines/"):], LINE.fullmatch(data(pair, "value"))
@@ -154,7 +180,8 @@ class Log:
     def page(self, last, responses):
         """The end, and the lines behind the last one that is known, by the answer to `get_behind`. A log whose end is before that line, which has another one
         there, as where etcd was given an old copy of its data, or which lacks it or the next one, is cut."""
-        pairs, line, lines = (response["response_range"].get("kvs", []) for response in responses)
+        self.note_asks(responses[3])
+        pairs, line, lines = (response["response_range"].get("kvs", []) for response in responses[:3])
         end, mark = 0, BEGINNING.mark
         if pairs:
             words = END.fullmatch(data(pairs[0], "value"))
@@ -183,14 +210,15 @@ class Log:
             raise broken(pairs[0])
         return end, entries
 
-    def read(self, last):
+    def read(self, last, ask=[]):
         """How many lines the log has, and those behind the last one that is known, as far as a page has room. Nothing that was in the log before the call is
-        missed: the read is linearizable, as etcd's are where nothing else is asked for."""
-        return self.page(last, self.etcd.transact([], self.get_behind(last.position))["responses"])
+        missed: the read is linearizable, as etcd's are where nothing else is asked for. It may ask, too."""
+        return self.page(last, self.etcd.transact([], ask + self.get_behind(last.position))["responses"][len(ask):])
 
-    def append(self, last, run, lines):
+    def append(self, last, run, lines, ask=[], over=[]):
         """Puts the lines, pairs of a number and a text, behind the last one that is known, where there are no others yet. Answers what `read` does behind
-        that one: with these lines alone, or where there were others with those.
+        that one: with these lines alone, or where there were others with those. In the latter case it makes the request that asks, and in the former
+        those that take asks away.
 
         Whatever becomes of a request, and how often it is made: of those that ask for one `end` one is carried out at most, since `end` grows with
         it. So these lines are in the log once, and are known by their run and numbers, or they are not and never will be at this place."""
@@ -202,9 +230,11 @@ class Log:
                        {"key": text(self.line_key(end)), "target": "MOD", "result": "EQUAL", "mod_revision": str(last.revision)}]
         marks = [b"%s %d" % (run, number) for number, _ in lines]
         puts = [self.put(self.line_key(end + k), b"%s %s" % (mark, line)) for k, (mark, (_, line)) in enumerate(zip(marks, lines), 1)]
-        answer = self.etcd.transact(compare, puts + [self.put(key, b"%d %s" % (end + len(lines), marks[-1]))], self.get_behind(end))
+        puts.append(self.put(key, b"%d %s" % (end + len(lines), marks[-1])))
+        answer = self.etcd.transact(compare, puts + over + [self.get_asks()], ask + self.get_behind(end))
         if not answer.get("succeeded"):
-            return self.page(last, answer["responses"])
+            return self.page(last, answer["responses"][len(ask):])
+        self.note_asks(answer["responses"][-1])
         revision = int(answer["header"]["revision"])
         return end + len(lines), [Entry(Last(end + k, revision, mark), run, number, line) for k, (mark, (number, line)) in enumerate(zip(marks, lines), 1)]
 

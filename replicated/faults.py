@@ -24,7 +24,7 @@ class Wrong(Fault):
 
 
 class Silent(Fault):
-    """No node of etcd has answered for long."""
+    """No node of etcd has done what it was asked for long."""
     again = True
 
 

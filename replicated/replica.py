@@ -10,8 +10,9 @@ import secrets
 import threading
 import time
 
+from asks import Asks
 from coordinator import Coordinator
-from faults import Fault, Stopped
+from faults import Fault, Silent, Stopped
 from snapshot import EVERY, Place, find
 
 # How many lines one transaction puts; etcd takes 128 operations and one and a half megabytes.
@@ -28,6 +29,11 @@ REST = 30
 PATIENCE = 30
 # Digests of others are looked at after so many seconds at least.
 COMPARE_SECONDS = 30
+# How long etcd is asked to take a place or digests while clients are served, and behind how many seconds it is asked again.
+MOMENT, PUBLISH_SECONDS = 0.1, 30
+# How many seconds a replica whose lines are held back waits before it looks again, and how many seconds of work recline may have when they are tried
+# once more.
+HELD, FINISHING, LATE = 0.01, 0.005, 0.05
 
 # What the log takes: each report and each settlement of the grammar, and little else. All other lines change nothing, whatever recline is given
 # them for, so they are asked here.
@@ -67,6 +73,7 @@ class Replica:
         # Each line of this run is known in the log by it and a number, so one that stands there is answered as the first time, however often it was put.
         self.run = secrets.token_hex(8).encode()
         self.numbers = 0
+        self.asks = Asks(log, self.run, identity)
         self.waiting = collections.deque()
         self.work = threading.Condition()
         self.turns = queue.Queue(AHEAD)
@@ -78,7 +85,13 @@ class Replica:
             raise
         # The last line of the log that was handed on, and the last one that was answered.
         self.known = self.answered = self.place.last
+        # The number of the last line that another run put.
+        self.foreign = 0
         self.published, self.exchanged, self.compared = None, 0, 0
+        # Before this time nothing is published.
+        self.publishing = 0
+        # How many seconds recline takes for a line of the log, the last ones above all. Before there are any it is taken for slow.
+        self.pace = LATE / 10
         self.threads = []
 
     def start(self):
@@ -126,6 +139,7 @@ class Replica:
         self.coordinator.end()
         self.keep_place()
         self.publish()
+        self.take_back_ask()
 
     # ---- What sessions ask for
 
@@ -150,7 +164,7 @@ class Replica:
             for item in batch:
                 self.hand_on(None, item)
             rest = 1 if self.known.position - before >= AT_ONCE else min(2 * rest, REST)
-            self.publish()
+            self.publish_by_the_way()
 
     def fill(self, batch, rest=0):
         """Fills a batch with lines that wait, up to as many as one transaction puts, and with the questions between them. Where there is none it waits
@@ -170,6 +184,7 @@ class Replica:
     def append(self, batch):
         """Puts the lines of a batch in the log, and hands on the log up to the last of them. What is left of the batch are questions behind it."""
         found = False
+        self.asks.begin(self.foreign > self.answered.position)
         while any(item.is_logged for item in batch):
             if found:
                 # One transaction put all of them: where the first one was found the others follow.
@@ -177,15 +192,44 @@ class Replica:
             elif self.stopping.is_set():
                 # None of them is in the log, or ever will be.
                 raise Stopped()
+            elif self.is_held_back():
+                _, entries = self.log.read(self.known, self.ask())
             else:
                 # Others were there first, or this is the first time. Of what was asked for before nothing comes any more, so the batch may grow.
                 self.fill(batch)
                 lines = [(item.number, item.line) for item in batch if item.is_logged]
-                _, entries = self.log.append(self.known, self.run, lines)
+                _, entries = self.log.append(self.known, self.run, lines, self.ask(), self.asks.over(len(lines)))
+                self.asks.is_contended = True
             for entry in entries:
                 own = self.placed(batch, entry) if entry.run == self.run else None
                 found = found or own is not None
                 self.hand_on(entry, own)
+        self.take_back_ask()
+
+    def backlog(self):
+        """How many seconds recline takes for the lines that were handed on to it."""
+        return self.pace * (self.known.position - self.answered.position)
+
+    def ask(self):
+        """The request that asks for the turn of this replica, where it is time for it."""
+        return self.asks.due(self.backlog())
+
+    def is_held_back(self):
+        """Whether another is to put its lines first, which is waited for a little. Beside others lines are not tried before recline has answered almost all
+        that was handed on: so they are answered soon when they are put, and the others do not run away from a slow recline."""
+        while self.asks.is_contended and self.backlog() > LATE and not self.stopping.wait(FINISHING):
+            ask = self.ask()
+            if ask:
+                self.log.change_asks(ask)
+        held = self.asks.is_turn_of_another()
+        if held:
+            self.stopping.wait(HELD)
+        return held
+
+    def take_back_ask(self):
+        """Where lines were put by a transaction whose answer was lost the ask may be left, and so it may be where the replica ends."""
+        if self.asks.own():
+            self.log.change_asks(self.asks.over())
 
     def placed(self, batch, entry):
         """The line of the batch that stands in this entry. Questions that came before it are asked before it."""
@@ -223,6 +267,8 @@ class Replica:
                     raise Stopped()
         if entry:
             self.known = entry.last
+            if entry.run != self.run:
+                self.foreign = self.known.position
 
     def publish(self):
         """Puts the place that is kept, and the digests that are new, and compares digests. The log is cut off by places that are on the device already."""
@@ -238,6 +284,18 @@ class Replica:
                 if digests.get(front, digest) != digest:
                     raise Fault("the first %d accepted lines are others than those of replica %s" % (front, replica), status=4)
 
+    def publish_by_the_way(self):
+        """An etcd that has no room still answers questions: what it does not take at once it is given later."""
+        if time.monotonic() < self.publishing:
+            return
+        self.log.etcd.patience = MOMENT
+        try:
+            self.publish()
+        except Silent:
+            self.publishing = time.monotonic() + PUBLISH_SECONDS
+        finally:
+            self.log.etcd.patience = PATIENCE
+
     # ---- The turns
 
     def run_turns(self):
@@ -252,8 +310,10 @@ class Replica:
             entry, item = turn
             if entry or item:
                 self.coordinator.renew()
+                begun = time.monotonic()
                 reply = self.coordinator.ask(entry.line if entry else item.line)
                 if entry:
+                    self.pace += (time.monotonic() - begun - self.pace) / 16
                     self.judge_reply(entry, reply)
                 elif reply.startswith((b"OK ", b"OLD ", b"SETTLED ", b"FAIL ", b"NO 17 ")):
                     raise Fault("a question was answered %s" % reply[:40].decode(errors="replace"), again=True)

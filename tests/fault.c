@@ -185,7 +185,7 @@ int fsync(int file)
 
 int fdatasync(int file)
 {
-    CALLED("sync", given_fdatasync(file));
+    CALLED("sync_data", given_fdatasync(file));
 }
 
 int ftruncate(int file, off_t length)

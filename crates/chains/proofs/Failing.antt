@@ -8,7 +8,8 @@ use Rattle.std.proofs.lemmas.Option.{same_Some, slice_get_within, get_or_from_sl
 use Rattle.report_line.specs.declared.report.Report.{Report}
 use Rattle.chains.specs.Processes.{Name, known, IsKnown}
 use Rattle.chains.specs.Elements.{name_of}
-use Rattle.chains.specs.Failures.{IsFailedSet, IsFirstUnknown, AreMarked, AreNumbersOf, AreFlagged}
+use Rattle.chains.specs.Failures.{IsFailedSet, IsFirstUnknown, AreMarked}
+use Rattle.chains.specs.working.Flags.{AreNumbersOf, AreFlagged}
 use Rattle.chains.specs.working.Inside.{AreDistinctNames}
 use Rattle.chains.proofs.LookUps.{known_from}
 use Rattle.chains.proofs.Listing.{AreListedTo}

@@ -28,16 +28,7 @@ FailsAs (Ok failed) accepted names = IsFailedSet accepted names failed
 FailsAs (Err (Unknown name)) accepted names = IsFirstUnknown accepted names name
 FailsAs (Err Memory) accepted names = All (IsKnown accepted) names
 
--- Working definitions: a flag for each known process, set for just those that are named; a flag for each number below a
--- count, set for just those among these; and the places of set flags.
+-- a flag for each known process, set for just those that are named
 pub record AreMarked (accepted : List Report) (names : List Name) (flags : List Bool) : Type 0 where
   pub complete : length flags ≡ length (known accepted)
   pub named : (p : ℕ) (name : Name) → name_of accepted p ≡ Some name → (IsTrue (slice_index_or flags p false) ↔ Contains names name)
-
-pub record AreFlagged (numbers : List ℕ) (count : ℕ) (flags : List Bool) : Type 0 where
-  pub complete : length flags ≡ count
-  pub just : (p : ℕ) → p < count → (IsTrue (slice_index_or flags p false) ↔ Contains numbers p)
-
-pub record AreNumbersOf (flags : List Bool) (numbers : List ℕ) : Type 0 where
-  pub in_order : IsStrictlyIncreasing numbers
-  pub just_set : (p : ℕ) → (Contains numbers p ↔ ((p < length flags) × IsTrue (slice_index_or flags p false)))

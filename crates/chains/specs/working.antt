@@ -7,3 +7,4 @@ pub mod Noting
 pub mod Room
 pub mod Settling
 pub mod Fitting
+pub mod Flags

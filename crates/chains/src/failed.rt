@@ -3,7 +3,8 @@
 ghost use Rattle.std.specs.Prelude.{◌≡◌, ◌<◌, ◌^◌, ◌↔◌, List, ℕ, Err, IfOk, IfErr, OnOk, IsTrue, MatchOption, All, Contains, length};
 ghost use Rattle.std.specs.List.Sorted.{IsStrictlyIncreasing};
 ghost use Rattle.chains.specs.Processes.{known, IsKnown};
-ghost use Rattle.chains.specs.Failures.{IsFailedSet, IsFirstUnknown, FailsAs, AreMarked, AreFlagged, AreNumbersOf};
+ghost use Rattle.chains.specs.Failures.{IsFailedSet, IsFirstUnknown, FailsAs, AreMarked};
+ghost use Rattle.chains.specs.working.Flags.{AreFlagged, AreNumbersOf};
 
 use crate::chains::Chains;
 use report_line::{Name, Names};

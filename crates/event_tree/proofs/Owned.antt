@@ -13,9 +13,9 @@ use Rattle.event_tree.specs.working.Entries.{entry, preorder}
 use Rattle.event_tree.specs.Event.{Cost, cost, grow, grows_left}
 use Rattle.event_tree.specs.working.Walks.{filled, IsFilled}
 use Rattle.event_tree.specs.working.Beside.{half_of, part_at, base_at}
-use Rattle.event_tree.specs.working.OwnLeaf.{other_of, before, place_at, EndsAtLeaf, EndsAbove, EndsLow, IsBelow, IsEndOf, IsOwnLeaf, IsThere, IsOwnPart}
+use Rattle.event_tree.specs.working.OwnLeaf.{other_of, before, place_at, EndsAtLeaf, EndsAbove, EndsUnfilled, IsBelow, IsEndOf, IsOwnLeaf, IsThere, IsOwnPart}
 use Rattle.event_tree.specs.declared.event.one_part.Found.{Found}
-use Rattle.event_tree.specs.declared.event.one_part.Found.TheVariants.{Own, Above, Low}
+use Rattle.event_tree.specs.declared.event.one_part.Found.TheVariants.{Own, Above, Unfilled}
 use Rattle.event_tree.specs.declared.event.one_part.OwnLeaf.{OwnLeaf}
 use Rattle.event_tree.specs.declared.event.one_part.Below.{Below}
 use Rattle.event_tree.specs.declared.layout.entries.Entry.{Entry}
@@ -30,7 +30,7 @@ use Rattle.event_tree.proofs.Closed.{written}
 pub record IsOnTheWay (way : Point) (e : EventTree) (rest : Point) (part : EventTree) (at base beside : ℕ) : Type 0 where
   pub ends : EndsAtLeaf beside rest part ↔ EndsAtLeaf 0 way e
   pub ends_above : EndsAbove rest part → EndsAbove way e
-  pub ends_low : EndsLow beside rest part → EndsLow 0 way e
+  pub ends_unfilled : EndsUnfilled beside rest part → EndsUnfilled 0 way e
   pub place : at + place_at rest part ≡ place_at way e
   pub above : base_at rest base part ≡ base_at way 0 e
   pub there : part_at rest part ≡ part_at way e
@@ -38,7 +38,7 @@ pub record IsOnTheWay (way : Point) (e : EventTree) (rest : Point) (part : Event
   pub within : at + size part ≤ size e
 
 pub at_the_top : (way : Point) (e : EventTree) → greatest e < 4294967296 → IsOnTheWay way e way e 0 0 0
-at_the_top way e small = record { ends = (λ h. h, λ h. h); ends_above = λ h. h; ends_low = λ h. h; place = omega arith; above = refl; there = refl; small = omega (arith, small); within = omega arith }
+at_the_top way e small = record { ends = (λ h. h, λ h. h); ends_above = λ h. h; ends_unfilled = λ h. h; place = omega arith; above = refl; there = refl; small = omega (arith, small); within = omega arith }
 
 half_within : (turn : Bool) (n : ℕ) (a b : EventTree) → (n + greatest (half_of turn (Node n a b)) ≤ greatest (Node n a b)) × (before turn (Node n a b) + size (half_of turn (Node n a b)) ≤ size (Node n a b))
 half_within false n a b = (omega arith, omega arith)
@@ -61,7 +61,7 @@ farther way e rest behind turn part at base beside b turns h on =
         rw (half_is, base_is, before_is, beside_is) (record {
           ends = on_node.ends;
           ends_above = on_node.ends_above;
-          ends_low = on_node.ends_low;
+          ends_unfilled = on_node.ends_unfilled;
           place = omega (arith, on_node.place);
           above = on_node.above;
           there = on_node.there;
@@ -75,11 +75,11 @@ pub on_above : (way : Point) (e : EventTree) (rest behind : Point) (turn : Bool)
 on_above way e rest behind turn (Leaf n) at base beside turns leaf on = let h = rw turns at on in h.ends_above tt
 on_above way e rest behind turn (Node n a b) at base beside turns leaf on = absurd cc
 
-pub on_low_leaf : (way : Point) (e : EventTree) (rest : Point) (part : EventTree) (at base beside own : ℕ) → rest ≡ [] → part ≡ Leaf own → own < beside → IsOnTheWay way e rest part at base beside → EndsLow 0 way e
-on_low_leaf way e rest part at base beside own ended leaf low on = let h = rw (ended, leaf) at on in h.ends_low (omega (arith, low))
+pub on_unfilled_leaf : (way : Point) (e : EventTree) (rest : Point) (part : EventTree) (at base beside own : ℕ) → rest ≡ [] → part ≡ Leaf own → own < beside → IsOnTheWay way e rest part at base beside → EndsUnfilled 0 way e
+on_unfilled_leaf way e rest part at base beside own ended leaf low on = let h = rw (ended, leaf) at on in h.ends_unfilled (omega (arith, low))
 
-pub on_low_node : (way : Point) (e : EventTree) (rest : Point) (part : EventTree) (at base beside n : ℕ) (a b : EventTree) → rest ≡ [] → part ≡ Node n a b → IsOnTheWay way e rest part at base beside → EndsLow 0 way e
-on_low_node way e rest part at base beside n a b ended node on = let h = rw (ended, node) at on in h.ends_low tt
+pub on_unfilled_node : (way : Point) (e : EventTree) (rest : Point) (part : EventTree) (at base beside n : ℕ) (a b : EventTree) → rest ≡ [] → part ≡ Node n a b → IsOnTheWay way e rest part at base beside → EndsUnfilled 0 way e
+on_unfilled_node way e rest part at base beside n a b ended node on = let h = rw (ended, node) at on in h.ends_unfilled tt
 
 -- ---- growth there
 
@@ -246,12 +246,12 @@ filled_above (true ∷ p) (Node n a b) hi he h =
     filled_kept Zero (id_of_way p) n a b hi he (λ o. absurd cc) (λ o. absurd (none_above p b h o)) refl (filled_above p b hi.1 he.1 h)
 
 -- and what is low there does
-low_fills : (k : ℕ) (p : Point) (e : EventTree) → IsNormalId (id_of_way p) → IsNormal e → EndsLow k p e → ¬ IsFilled k (id_of_way p) e
-low_fills k [] (Leaf n) hi he h f = absurd (omega (arith, h, f.above refl))
-low_fills k [] (Node n a b) hi he h f = whole_node k n a b f
-low_fills k (turn ∷ p) (Leaf n) hi he h f = absurd h
-low_fills k (false ∷ p) (Node n a b) hi he h f = low_fills (root b) p a hi.0 he.0 h (kept_halves (id_of_way p) Zero k n a b hi he f).0
-low_fills k (true ∷ p) (Node n a b) hi he h f = low_fills (root a) p b hi.1 he.1 h (kept_halves Zero (id_of_way p) k n a b hi he f).1
+unfilled_changes : (k : ℕ) (p : Point) (e : EventTree) → IsNormalId (id_of_way p) → IsNormal e → EndsUnfilled k p e → ¬ IsFilled k (id_of_way p) e
+unfilled_changes k [] (Leaf n) hi he h f = absurd (omega (arith, h, f.above refl))
+unfilled_changes k [] (Node n a b) hi he h f = whole_node k n a b f
+unfilled_changes k (turn ∷ p) (Leaf n) hi he h f = absurd h
+unfilled_changes k (false ∷ p) (Node n a b) hi he h f = unfilled_changes (root b) p a hi.0 he.0 h (kept_halves (id_of_way p) Zero k n a b hi he f).0
+unfilled_changes k (true ∷ p) (Node n a b) hi he h f = unfilled_changes (root a) p b hi.1 he.1 h (kept_halves Zero (id_of_way p) k n a b hi he f).1
 
 pub own_leaf_found : (i : IdTree) (e : EventTree) (f : Found) (leaf : OwnLeaf) → IsOwnPart i e f → f ≡ Own leaf → IsOwnLeaf i e leaf
 own_leaf_found i e f leaf h is = let there : IsThere h.way e (Own leaf) = rw is at h.there in record { way = h.way; alone = h.alone; end_of = there }
@@ -259,7 +259,7 @@ own_leaf_found i e f leaf h is = let there : IsThere h.way e (Own leaf) = rw is 
 pub above_found : (i : IdTree) (e : EventTree) (f : Found) → IsNormalId i → IsNormal e → IsOwnPart i e f → f ≡ Above → filled i e ≡ e
 above_found i e f hi he h is = let there : IsThere h.way e Above = rw is at h.there in rw h.alone (filled_above h.way e (rw h.alone at hi) he there)
 
-pub low_found : (i : IdTree) (e : EventTree) (f : Found) → IsNormalId i → IsNormal e → IsOwnPart i e f → f ≡ Low → filled i e ≢ e
-low_found i e f hi he h is =
-    let there : IsThere h.way e Low = rw is at h.there in
-    λ same. low_fills 0 h.way e (rw h.alone at hi) he there (record { kept = rw h.alone at same; above = λ o. omega arith })
+pub unfilled_found : (i : IdTree) (e : EventTree) (f : Found) → IsNormalId i → IsNormal e → IsOwnPart i e f → f ≡ Unfilled → filled i e ≢ e
+unfilled_found i e f hi he h is =
+    let there : IsThere h.way e Unfilled = rw is at h.there in
+    λ same. unfilled_changes 0 h.way e (rw h.alone at hi) he there (record { kept = rw h.alone at same; above = λ o. omega arith })

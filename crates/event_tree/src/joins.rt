@@ -1,8 +1,8 @@
 //! The join and the meet of two event trees, each in one pass over both. Which way is taken:
 //!
 //! - A join with a leaf at or below the other tree is a copy of that tree.
-//! - `by_place`, for most joins: a join goes over all of both trees, so it is written by place into room for both. For few entries that
-//!   room takes no memory.
+//! - `by_place`, for most joins: a join goes over all of both trees, so it is written by place into room for both. Room for few entries
+//!   is an array, and only the tree that comes of it takes memory.
 //! - `in_list`, where the trees are not few entries, and a join mostly takes parts of them as they are: it grows in a list.
 //! - `meet`, for each meet: it passes over what is greater everywhere, however large that is.
 
@@ -41,10 +41,10 @@ impl Pick {
     }
 }
 
-// For how many entries a join has room without memory. It has one less than both trees at most.
+// How many entries the array of a join has room for. A join has one less than both trees at most.
 const FEW: usize = 16;
 
-// The join, in normal form, by way of room for both. Of few entries it takes no memory.
+// The join, in normal form, by way of room for both, which is an array where the entries are few.
 fn joined_in_room(alloc: Global, e: EventView, f: EventView) -> Result<Node, AllocError>
     requires e_fits { greatest e < 2 ^ 32 }
     requires e_normal { IsNormal e }

@@ -2,8 +2,8 @@
 //!
 //! - For an id that owns everything, a copy of the tree; for one that owns nothing, one leaf.
 //! - `one_part`, where the id owns one part alone: only the way to it and the part are written, over a list of leaves.
-//! - `by_halves`, where the id owns several parts, or so many entries stand at the one part that they are not to be written twice: one walk
-//!   over the id and the tree.
+//! - `by_halves`, where the id owns several parts, or one part with many entries, which `one_part` would write twice: one walk over the id
+//!   and the tree.
 
 ghost use Rattle.std.specs.Prelude.{◌≡◌, ◌<◌, ◌^◌, IsTrue, IfOk};
 ghost use Rattle.id_tree.specs.IdTree.{One};

@@ -264,7 +264,7 @@ impl<P: Device> Disk for FileDisk<P> {
         if self.known.failed {
             return Err(self.failures.add(FileCall::Sync, None));
         }
-        // The bytes and the length, and of the rest (as times) nothing: a read after a crash needs no more.
+        // The bytes and the length reach the device. Times of change need not: no read after a crash looks at them.
         let synced = self.file.sync_data();
         let done = synced.is_ok();
         self.known.synced(done);

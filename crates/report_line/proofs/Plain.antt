@@ -1,5 +1,5 @@
 -- No space is in a word of a call.
-use Rattle.std.proofs.Common.{◌≡◌, ℕ, false, List, [], ◌∷◌, ◌++◌, length, refl, IsTrue}
+use Rattle.std.proofs.Common.{◌≡◌, ◌≤◌, ℕ, false, List, [], ◌∷◌, ◌++◌, length, refl, IsTrue, arith, leb-true}
 use Rattle.std.specs.Prelude.{◌&&◌, nat_le}
 use Rattle.std.specs.List.{list_all, AllByRecursion}
 use Rattle.id_tree.specs.IdTree.{IdTree}
@@ -29,6 +29,14 @@ Lacks-name c (b ∷ bs) fails first is =
     let outer = and_both (is_letter b && nat_le (length bs) 31) (list_all is_name_byte bs) is in
     let inner = and_both (is_letter b) (nat_le (length bs) 31) outer.0 in
     (passes_other is_letter b c inner.0 first, Lacks-passing is_name_byte c bs fails outer.1)
+
+pub short_name : (word : List ℕ) → IsTrue (is_name word) → length word ≤ 32
+unfolding is_name
+short_name [] is = omega arith
+short_name (b ∷ bs) is =
+    let outer = and_both (is_letter b && nat_le (length bs) 31) (list_all is_name_byte bs) is in
+    let inner = and_both (is_letter b) (nat_le (length bs) 31) outer.0 in
+    omega (arith, leb-true _ _ inner.1)
 
 pub byte_32 : is_name_byte 32 ≡ false
 unfolding is_name_byte is_letter

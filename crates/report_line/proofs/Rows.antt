@@ -1,6 +1,6 @@
 -- Names in a row, parted by commas.
 use Rattle.std.proofs.Common.{◌≡◌, ◌≢◌, ℕ, true, false, eqb, List, [], ◌∷◌, ◌++◌, length, refl, sym, ap, subst, ◌∙◌, IsTrue, arith, append_assoc}
-use Rattle.std.specs.Prelude.{◌&&◌, nat_le, codes, Option, Some, None, MatchOption, IfNone, OnOk, OnErr, Result, Ok, Err, Bool, ◌↔◌, ◌+◌}
+use Rattle.std.specs.Prelude.{◌&&◌, nat_le, codes, OnOk, OnErr, Result, Ok, Err, Bool, ◌↔◌, ◌+◌}
 use Rattle.std.specs.List.{list_all, join_with_byte, slice_split, count_by}
 use Rattle.std.proofs.lemmas.Bool.{true≢false}
 use Rattle.std.proofs.lemmas.List.Splits.{slice_split_none, slice_split_at, length-slice_split, join_with_byte-slice_split}
@@ -160,35 +160,22 @@ named_same (b ∷ bs) [] e = absurd (some_part (b ∷ bs) e)
 named_same (b ∷ bs) (c ∷ cs) e = sym (parts_joined (b ∷ bs)) ∙ ap (join_with_byte 44) e ∙ parts_joined (c ∷ cs)
 
 -- what is left of names is taken from the front
-last_part : (rest : List ℕ) → Lacks 44 rest → parts_in rest ≡ rest ∷ []
+pub last_part : (rest : List ℕ) → Lacks 44 rest → parts_in rest ≡ rest ∷ []
 unfolding parts_in
 last_part rest lacks = slice_split_none (λ b. eqb b 44) rest (All-from_recursion (λ b. eqb b 44 ≡ false) rest lacks)
 
-first_part : (rest part behind : List ℕ) → Lacks 44 part → rest ≡ part ++ 44 ∷ behind → parts_in rest ≡ part ∷ parts_in behind
+pub first_part : (rest part behind : List ℕ) → Lacks 44 part → rest ≡ part ++ 44 ∷ behind → parts_in rest ≡ part ∷ parts_in behind
 unfolding parts_in
 first_part rest part behind lacks is = ap (slice_split (λ b. eqb b 44)) is ∙ slice_split_at (λ b. eqb b 44) part 44 behind (All-from_recursion (λ b. eqb b 44 ≡ false) part lacks) refl
 
--- a part of names is read as a name
-abbrev pub IsReadName : List ℕ → Option (List ℕ) → Type 0
-IsReadName part read = MatchOption read (is_name part ≡ false) (λ n. (n ≡ part) × IsTrue (is_name part))
+pub last_name : (rest : List ℕ) → Lacks 44 rest → AreNames (parts_in rest) → IsTrue (is_name rest)
+last_name rest lacks are = (subst AreNames (last_part rest lacks) are).0
 
-taken_as : (left behind : List (List ℕ)) (part : List ℕ) (read : Option (List ℕ)) → left ≡ part ∷ behind → AreNames left → IsReadName part read → MatchOption read (left ≡ []) (λ n. left ≡ n ∷ behind)
-taken_as left behind part None is are wrong = absurd (true≢false (sym (subst AreNames is are).0 ∙ wrong))
-taken_as left behind part (Some n) is are read = is ∙ ap (λ (m : List ℕ). m ∷ behind) (sym read.0)
-
-pub last_taken : (rest : List ℕ) (read : Option (List ℕ)) → Lacks 44 rest → AreNames (parts_in rest) → IsReadName rest read → MatchOption read (parts_in rest ≡ []) (λ n. parts_in rest ≡ n ∷ [])
-last_taken rest read lacks are is = taken_as (parts_in rest) [] rest read (last_part rest lacks) are is
-
-pub first_taken : (rest part behind : List ℕ) (read : Option (List ℕ)) → Lacks 44 part → rest ≡ part ++ 44 ∷ behind → AreNames (parts_in rest) → IsReadName part read → MatchOption read (parts_in rest ≡ []) (λ n. parts_in rest ≡ n ∷ parts_in behind)
-first_taken rest part behind read lacks cut are is = taken_as (parts_in rest) (parts_in behind) part read (first_part rest part behind lacks cut) are is
+pub first_name : (rest part behind : List ℕ) → Lacks 44 part → rest ≡ part ++ 44 ∷ behind → AreNames (parts_in rest) → IsTrue (is_name part)
+first_name rest part behind lacks cut are = (subst AreNames (first_part rest part behind lacks cut) are).0
 
 pub first_taken_are : (rest part behind : List ℕ) → Lacks 44 part → rest ≡ part ++ 44 ∷ behind → AreNames (parts_in rest) → AreNames (parts_in behind)
 first_taken_are rest part behind lacks cut are = (subst AreNames (first_part rest part behind lacks cut) are).1
-
--- a part of names is never refused
-pub never_none : (rest part behind : List ℕ) (read : Option (List ℕ)) → Lacks 44 part → rest ≡ part ++ 44 ∷ behind → AreNames (parts_in rest) → IsReadName part read → IfNone read (parts_in behind ≡ [])
-never_none rest part behind None lacks cut are wrong = absurd (true≢false (sym (subst AreNames (first_part rest part behind lacks cut) are).0 ∙ wrong))
-never_none rest part behind (Some n) lacks cut are read = tt
 
 -- what a push makes of the text
 pub named_push_if : {E : Type 0} (text new name : List ℕ) (result : Result (Unit {0}) E) → OnOk result (new ≡ appended text name) → OnErr result (new ≡ text) → AreNames (named_in text) → IsTrue (is_name name) → AreNames (named_in new)

@@ -34,8 +34,7 @@ fn are_name_bytes(bytes: &[u8]) -> bool
 
 #[tactic(auto, unfolding(crate::specs::Names::is_name))]
 fn is_name(bytes: &[u8]) -> bool
-    ensures test { result ≡ is_name bytes.now }
-    ensures short { IsTrue result → length bytes.now ≤ 32 }
+    ensures { result ≡ is_name bytes.now }
 {
     match bytes {
         [] => false,
@@ -76,14 +75,11 @@ impl Name {
     pub fn from_bytes(bytes: &[u8]) -> Option<Name>
         ensures { MatchOption result (is_name bytes.now ≡ false) (λ n. (n ≡ bytes.now) × IsTrue (is_name bytes.now)) }
     {
-        if !is_name(bytes) {
-            return None;
+        if is_name(bytes) {
+            Some(name_of(bytes))
+        } else {
+            None
         }
-        let text = padded(bytes);
-        Some(Name {
-            text,
-            length: bytes.len() as u8,
-        })
     }
 
     /// The bytes of the name.
@@ -102,6 +98,19 @@ impl Name {
             text: self.text,
             length: self.length,
         }
+    }
+}
+
+/// The name of these bytes, which are one.
+#[tactic(auto, using(crate::proofs::Plain::short_name))]
+pub fn name_of(bytes: &[u8]) -> Name
+    requires { IsTrue (is_name bytes.now) }
+    ensures { result ≡ bytes.now }
+{
+    let text = padded(bytes);
+    Name {
+        text,
+        length: bytes.len() as u8,
     }
 }
 

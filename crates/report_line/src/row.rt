@@ -6,7 +6,7 @@ ghost use Rattle.report_line.specs.Names.{AreNames};
 ghost use Rattle.report_line.specs.working.Rows.{appended, named_in};
 ghost use Rattle.report_line.specs.Spelling.{names_text};
 
-use crate::name::Name;
+use crate::name::{Name, name_of};
 use crate::words::cut_once;
 use std::alloc::{AllocError, Global};
 use std::marker::Model;
@@ -159,7 +159,8 @@ impl Names {
 
     /// Appends the word that the names have in a call.
     pub fn write_to(&self, out: &mut Vec<u8>) -> Result<(), AllocError>
-        ensures { OnOk result (out.new.items ≡ out.old.items ++ names_text self.now) }
+        ensures ok { OnOk result (out.new.items ≡ out.old.items ++ names_text self.now) }
+        ensures err { OnErr result (out.new.items ≡ out.old.items) }
     {
         out.extend_from_slice(word_of(&self.text))
     }
@@ -193,11 +194,11 @@ impl<'a> NamesLeft<'a> {
         match cut_once(b',', rest) {
             None => {
                 self.rest = None;
-                Name::from_bytes(rest)
+                Some(name_of(rest))
             }
             Some((part, behind)) => {
                 self.rest = Some(behind);
-                Name::from_bytes(part)
+                Some(name_of(part))
             }
         }
     }

@@ -1,5 +1,6 @@
--- What a tree has where an id owns one part alone: a leaf at or above the half beside it, a leaf that the way there goes
--- on below, or what is low, which is a node, or a leaf below the half beside it.
+-- What a tree has where an id owns one part alone: a leaf at or above the least value of the half beside it, a leaf that the way
+-- there goes on below, or what is not filled, which is a node, or a leaf below that least value. In normal form the least value of a
+-- half is its root.
 use Rattle.std.specs.Prelude.{◌≡◌, ◌≤◌, ◌<◌, ◌+◌, ℕ, Bool, true, false, [], ◌∷◌, ⊤}
 use Rattle.id_tree.specs.IdTree.{IdTree}
 use Rattle.id_tree.specs.Points.{Point}
@@ -11,7 +12,7 @@ use Rattle.event_tree.specs.working.Beside.{half_of, part_at, base_at}
 use Rattle.event_tree.specs.declared.event.one_part.OwnLeaf.{OwnLeaf}
 use Rattle.event_tree.specs.declared.event.one_part.Below.{Below}
 use Rattle.event_tree.specs.declared.event.one_part.Found.{Found}
-use Rattle.event_tree.specs.declared.event.one_part.Found.TheVariants.{Own, Above, Low}
+use Rattle.event_tree.specs.declared.event.one_part.Found.TheVariants.{Own, Above, Unfilled}
 
 -- the half beside the one that a turn leads to, and how many entries stand before that one
 abbrev pub other_of : Bool → EventTree → EventTree
@@ -43,11 +44,11 @@ EndsAbove (turn ∷ p) (Node n a b) = EndsAbove p (half_of turn (Node n a b))
 
 -- The way goes by nodes, and at its end stands a node, or a leaf that is below k, if the way has no turn, and else below the root of the
 -- half beside it.
-abbrev pub EndsLow : ℕ → Point → EventTree → Type 0
-EndsLow k [] (Leaf n) = n < k
-EndsLow k [] (Node n a b) = ⊤
-EndsLow k (turn ∷ p) (Leaf n) = ⊥
-EndsLow k (turn ∷ p) (Node n a b) = EndsLow (root (other_of turn (Node n a b))) p (half_of turn (Node n a b))
+abbrev pub EndsUnfilled : ℕ → Point → EventTree → Type 0
+EndsUnfilled k [] (Leaf n) = n < k
+EndsUnfilled k [] (Node n a b) = ⊤
+EndsUnfilled k (turn ∷ p) (Leaf n) = ⊥
+EndsUnfilled k (turn ∷ p) (Node n a b) = EndsUnfilled (root (other_of turn (Node n a b))) p (half_of turn (Node n a b))
 
 -- the tree is a node, and this is the half that a turn leads to
 pub record IsBelow (turn : Bool) (e : EventTree) (b : Below) : Type 0 where
@@ -74,7 +75,7 @@ pub record IsOwnLeaf (i : IdTree) (e : EventTree) (leaf : OwnLeaf) : Type 0 wher
 abbrev pub IsThere : Point → EventTree → Found → Type 0
 IsThere p e (Own leaf) = IsEndOf p e leaf
 IsThere p e Above = EndsAbove p e
-IsThere p e Low = EndsLow 0 p e
+IsThere p e Unfilled = EndsUnfilled 0 p e
 
 -- the id owns one part alone, and this is what the tree has there
 pub record IsOwnPart (i : IdTree) (e : EventTree) (f : Found) : Type 0 where

@@ -1,5 +1,5 @@
-//! What a tree has where an id owns one part alone. A leaf there, at or above the half beside it, is raised by an event, and all other
-//! entries stay as they are; else the way there tells whether the event fills.
+//! What a tree has where an id owns one part alone. A leaf there, at or above the least value of the half beside it, is raised by an
+//! event, and all other entries stay as they are; else the way there tells whether the event fills.
 
 ghost use Rattle.std.specs.Prelude.{◌≡◌, ◌≢◌, ◌<◌, ◌≤◌, ◌^◌, IfOk, MatchOption};
 ghost use Rattle.id_tree.specs.Points.{Point};
@@ -28,12 +28,12 @@ pub struct OwnLeaf {
 /// What a tree has where a way leads to.
 #[derive(Clone, Copy)]
 pub enum Found {
-    /// A leaf at the end of the way, at or above the half beside it.
+    /// A leaf at the end of the way, at or above the least value of the half beside it.
     Own(OwnLeaf),
     /// A leaf that the way goes on below.
     Above,
-    /// A node at the end of the way, or a leaf below the half beside it.
-    Low,
+    /// What an event fills: a node at the end of the way, or a leaf there that is below the least value of the half beside it.
+    Unfilled,
 }
 
 /// The half that a turn leads to: the base of its node, how many entries stand before it, the root of the half beside it, and itself.
@@ -96,10 +96,10 @@ fn end_of(way: Way, e: EventView) -> Found
             if beside <= own {
                 Found::Own(OwnLeaf { at, base, own })
             } else {
-                Found::Low
+                Found::Unfilled
             }
         }
-        EventPart::Node(_, _, _) => Found::Low,
+        EventPart::Node(_, _, _) => Found::Unfilled,
     }
 }
 

@@ -1,4 +1,4 @@
-//! How a node's own entry is written once both halves stand behind it.
+//! How a node is closed once both halves stand behind it: its own entry is written, and the first entry of each half anew.
 
 ghost use Rattle.std.specs.Prelude.{◌≡◌, ◌<◌, ◌≤◌, ◌+◌, ◌-◌, ◌↔◌, ◌++◌, ◌∷◌, IsTrue, IfOk, OnOk, List, ℕ, length, take};
 ghost use Rattle.std.proofs.Common.{set};

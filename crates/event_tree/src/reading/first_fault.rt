@@ -1,4 +1,5 @@
-//! Reads a text of any depth in a loop, for the fault that it has. No tree is kept, only what is told of the nodes around it.
+//! Reads a text of any depth in a loop, for the first fault that it has in the order of `EventsFault`. No tree is kept, only what is told
+//! of the nodes around it.
 
 ghost use Rattle.std.specs.Prelude.{◌≡◌, ◌≤◌, ◌+◌, ◌-◌, ◌*◌, Some, None, IsTrue, false, IfOk, IfErr, OnOk, option_map};
 ghost use Rattle.std.specs.Char.{is_ascii_digit};

@@ -1,6 +1,7 @@
 //! The calls of a coordinator over a record file.
 
 ghost use Rattle.std.specs.Prelude.{◌≡◌, ◌≤◌, [], length, IfOk};
+ghost use Rattle.report_line.specs.Cutting.{line_limit};
 ghost use Rattle.report_line.specs.Replies.{IsWritten};
 ghost use Rattle.desk.specs.Files.{IsShort};
 ghost use Rattle.coordinator.specs.Passes.{ledger_parts};
@@ -81,7 +82,7 @@ fn ask_once<L: Ledger, D: Disk, G: Gate + Sync, R: Wait + Threads + Sync>(
 
 // The call of a line.
 fn read(alloc: Global, line: &[u8]) -> Result<Call, LineFault>
-    requires { length line.now ≤ 8192 }
+    requires { length line.now ≤ line_limit }
     ensures { IfOk result IsShort }
 {
     match read_line(alloc, line) {
@@ -100,7 +101,7 @@ fn ask<L: Ledger, D: Disk, G: Gate + Sync, R: Wait + Threads + Sync, W: Write>(
     line: &[u8],
     out: &mut W,
 ) -> Result<()>
-    requires { length line.now ≤ 8192 }
+    requires { length line.now ≤ line_limit }
 {
     let call = read(coordinator.alloc(), line)?;
     match ask_once(rt, coordinator, pass, gate, call) {

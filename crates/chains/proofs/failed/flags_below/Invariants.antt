@@ -1,5 +1,5 @@
 use Rattle.std.specs.Prelude.{take}
-use Rattle.chains.specs.Failures.{AreFlagged}
+use Rattle.chains.specs.working.Flags.{AreFlagged}
 use Rattle.chains.proofs.failed.flags_below.Given as goal
 
 abbrev pub invariant-loop-i : goal.invariant-loop-i

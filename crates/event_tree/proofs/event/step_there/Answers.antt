@@ -1,7 +1,7 @@
 use Rattle.std.proofs.Common.{refl}
 use Rattle.event_tree.proofs.Places.{if_ok}
 use Rattle.event_tree.proofs.Steps.{grown_tells}
-use Rattle.event_tree.proofs.Owned.{found_filled, own_leaf_found, above_found, low_found}
+use Rattle.event_tree.proofs.Owned.{found_filled, own_leaf_found, above_found, unfilled_found}
 use Rattle.event_tree.proofs.event.step_there.Goals as goal
 
 pub raised-requires-clause-own : goal.raised-requires-clause-own
@@ -19,4 +19,4 @@ returns-in-Above c =
     if_ok c.grown.result (λ fits known. grown_tells fits _ _ _ _ c.requires.normal c.requires.tree_normal c.view-in-Above.ensures kept known) told
 
 pub filled_step-requires-clause-other : goal.filled_step-requires-clause-other
-filled_step-requires-clause-other c = rw c.view-in-Low.ensures (low_found _ _ _ c.requires.normal c.requires.tree_normal c.requires.own c.in-Low.is)
+filled_step-requires-clause-other c = rw c.view-in-Unfilled.ensures (unfilled_found _ _ _ c.requires.normal c.requires.tree_normal c.requires.own c.in-Unfilled.is)

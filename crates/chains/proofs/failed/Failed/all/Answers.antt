@@ -1,6 +1,6 @@
 use Rattle.std.proofs.Common.{subst, List, Bool}
 use Rattle.chains.specs.Processes.{known}
-use Rattle.chains.specs.Failures.{AreNumbersOf}
+use Rattle.chains.specs.working.Flags.{AreNumbersOf}
 use Rattle.chains.proofs.Failing.{failed_set, all_set, all_are_known}
 use Rattle.chains.proofs.failed.Failed.all.Goals as goal
 

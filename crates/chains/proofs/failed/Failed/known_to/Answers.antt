@@ -1,6 +1,6 @@
 use Rattle.std.proofs.Common.{ℕ, List, Bool, subst, ◌<◌, ◌↔◌}
 use Rattle.std.specs.Prelude.{Contains}
-use Rattle.chains.specs.Failures.{AreNumbersOf, AreFlagged}
+use Rattle.chains.specs.working.Flags.{AreNumbersOf, AreFlagged}
 use Rattle.chains.proofs.Failing.{flagged_numbers}
 use Rattle.chains.proofs.failed.Failed.known_to.Goals as goal
 

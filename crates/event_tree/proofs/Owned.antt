@@ -245,7 +245,7 @@ filled_above (false ∷ p) (Node n a b) hi he h =
 filled_above (true ∷ p) (Node n a b) hi he h =
     filled_kept Zero (id_of_way p) n a b hi he (λ o. absurd cc) (λ o. absurd (none_above p b h o)) refl (filled_above p b hi.1 he.1 h)
 
--- and what is low there does
+-- and what is not filled there is changed
 unfilled_changes : (k : ℕ) (p : Point) (e : EventTree) → IsNormalId (id_of_way p) → IsNormal e → EndsUnfilled k p e → ¬ IsFilled k (id_of_way p) e
 unfilled_changes k [] (Leaf n) hi he h f = absurd (omega (arith, h, f.above refl))
 unfilled_changes k [] (Node n a b) hi he h f = whole_node k n a b f

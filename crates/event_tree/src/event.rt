@@ -1,8 +1,8 @@
 //! The step of an event: fill where that changes the tree, and grow otherwise. Which way is taken:
 //!
 //! - `one_part`, where the id owns one part alone: it looks at what the tree has there. A leaf at or above the least value of the half
-//!   beside it is raised in a copy, and that is all. Where the way goes on below a leaf the tree grows (`grow`); a node, or a leaf below
-//!   that least value, is filled (`fill`).
+//!   beside it, if there is one, is raised in a copy, and that is all. Where the way goes on below a leaf the tree grows (`grow`); a node,
+//!   or a leaf below that least value, is filled (`fill`).
 //! - `fill_in_copy`, for any other id: walks over the id and the tree. The first part that filling changes makes the copy. Where none
 //!   changes, the tree grows (`grow`).
 

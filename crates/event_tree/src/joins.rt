@@ -2,8 +2,8 @@
 //!
 //! - A join with a leaf at or below the other tree is a copy of that tree.
 //! - `by_place`, for most joins: a join goes over all of both trees, so it is written by place into room for both. Room for few entries
-//!   is an array, and only the tree that comes of it takes memory.
-//! - `in_list`, where the trees are not few entries, and a join mostly takes parts of them as they are: it grows in a list.
+//!   is an array; the tree that comes of it takes memory where it has more than eight.
+//! - `in_list`, where the trees have more entries, and a join mostly takes parts of them as they are: it grows in a list.
 //! - `meet`, for each meet: it passes over what is greater everywhere, however large that is.
 
 ghost use Rattle.std.specs.Prelude.{◌≡◌, ◌<◌, ◌≤◌, ◌^◌, IsTrue, IfOk};

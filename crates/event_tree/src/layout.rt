@@ -3,7 +3,7 @@
 //! - `entries`: the list that a tree is kept as, an entry for each node and leaf.
 //! - `view`: a look at a part of a tree, one level at a time.
 //! - `adjacent`: a look at several parts that stand one after the other.
-//! - `node_entry`: how a node is closed, once both halves stand behind it.
+//! - `node_entry`: how the first entries of a node are written, once both halves stand behind it.
 //! - `in_place`: how a tree is written into a slice that has room for it.
 
 pub mod adjacent;

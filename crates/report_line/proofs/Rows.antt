@@ -168,6 +168,7 @@ pub first_part : (rest part behind : List ℕ) → Lacks 44 part → rest ≡ pa
 unfolding parts_in
 first_part rest part behind lacks is = ap (slice_split (λ b. eqb b 44)) is ∙ slice_split_at (λ b. eqb b 44) part 44 behind (All-from_recursion (λ b. eqb b 44 ≡ false) part lacks) refl
 
+-- they are names
 pub last_name : (rest : List ℕ) → Lacks 44 rest → AreNames (parts_in rest) → IsTrue (is_name rest)
 last_name rest lacks are = (subst AreNames (last_part rest lacks) are).0
 

@@ -101,7 +101,7 @@ impl Name {
     }
 }
 
-/// The name of these bytes, which are one.
+/// The name that these bytes are. They are not tested.
 #[tactic(auto, using(crate::proofs::Plain::short_name))]
 pub fn name_of(bytes: &[u8]) -> Name
     requires { IsTrue (is_name bytes.now) }

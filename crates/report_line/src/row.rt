@@ -95,7 +95,7 @@ impl Names {
         Ok(Names { text })
     }
 
-    /// Appends a name.
+    /// Appends a name. On a refused growth they are the names of before.
     pub fn push(&mut self, name: Name) -> Result<(), AllocError>
         ensures ok { OnOk result (self.new ≡ self.old ++ name ∷ []) }
         ensures err { OnErr result (self.new ≡ self.old) }
@@ -157,7 +157,7 @@ impl Names {
         Ok(Names { text })
     }
 
-    /// Appends the word that the names have in a call.
+    /// Appends the word that the names have in a call. On a refused growth `out` is as it was.
     pub fn write_to(&self, out: &mut Vec<u8>) -> Result<(), AllocError>
         ensures ok { OnOk result (out.new.items ≡ out.old.items ++ names_text self.now) }
         ensures err { OnErr result (out.new.items ≡ out.old.items) }

@@ -1,6 +1,5 @@
--- What a tree has where an id owns one part alone: a leaf at or above the least value of the half beside it, a leaf that the way
--- there goes on below, or what is not filled, which is a node, or a leaf below that least value. In normal form the least value of a
--- half is its root.
+-- What a tree has where an id owns one part alone: a leaf at or above the root of the half beside it, a leaf that the way there goes
+-- on below, or what is not filled, which is a node, or a leaf below that root. In normal form the root of a half is its least value.
 use Rattle.std.specs.Prelude.{◌≡◌, ◌≤◌, ◌<◌, ◌+◌, ℕ, Bool, true, false, [], ◌∷◌, ⊤}
 use Rattle.id_tree.specs.IdTree.{IdTree}
 use Rattle.id_tree.specs.Points.{Point}
@@ -58,14 +57,14 @@ pub record IsBelow (turn : Bool) (e : EventTree) (b : Below) : Type 0 where
   pub half : b.half ≡ half_of turn e
   pub node : e ≡ Node (root e) (left e) (right e)
 
--- this is the leaf at the end of the way
+-- this is the leaf at the end of the way, which is not below the root of the half beside it
 pub record IsEndOf (p : Point) (e : EventTree) (leaf : OwnLeaf) : Type 0 where
   pub ends : EndsAtLeaf 0 p e
   pub at_is : leaf.at ≡ place_at p e
   pub base_is : leaf.base ≡ base_at p 0 e
   pub own_is : leaf.own ≡ root (part_at p e)
 
--- the id owns this leaf, and nothing else
+-- the same for the way to the one part that the id owns
 pub record IsOwnLeaf (i : IdTree) (e : EventTree) (leaf : OwnLeaf) : Type 0 where
   pub way : Point
   pub alone : i ≡ id_of_way way

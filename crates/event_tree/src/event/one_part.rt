@@ -1,5 +1,5 @@
-//! What a tree has where an id owns one part alone. A leaf there, at or above the least value of the half beside it, is raised by an
-//! event, and all other entries stay as they are; else the way there tells whether the event fills.
+//! What a tree has where an id owns one part alone. A leaf there, at or above the root of the half beside it (in normal form its least
+//! value), is raised by an event, and all other entries stay as they are; else what the way meets tells whether the event fills.
 
 ghost use Rattle.std.specs.Prelude.{◌≡◌, ◌≢◌, ◌<◌, ◌≤◌, ◌^◌, IfOk, MatchOption};
 ghost use Rattle.id_tree.specs.Points.{Point};
@@ -28,11 +28,11 @@ pub struct OwnLeaf {
 /// What a tree has where a way leads to.
 #[derive(Clone, Copy)]
 pub enum Found {
-    /// A leaf at the end of the way, at or above the least value of the half beside it.
+    /// A leaf at the end of the way, at or above the root of the half beside it, if there is one.
     Own(OwnLeaf),
     /// A leaf that the way goes on below.
     Above,
-    /// What an event fills: a node at the end of the way, or a leaf there that is below the least value of the half beside it.
+    /// What an event fills: a node at the end of the way, or a leaf there that is below the root of the half beside it.
     Unfilled,
 }
 

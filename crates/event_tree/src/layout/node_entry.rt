@@ -1,4 +1,5 @@
-//! How a node is closed once both halves stand behind it: its own entry is written, and the first entry of each half anew.
+//! The first entries of a node whose halves stand behind it: `seal` writes its own alone, `close_at` puts the node in normal form, and
+//! `raise_owned` raises a half.
 
 ghost use Rattle.std.specs.Prelude.{◌≡◌, ◌<◌, ◌≤◌, ◌+◌, ◌-◌, ◌↔◌, ◌++◌, ◌∷◌, IsTrue, IfOk, OnOk, List, ℕ, length, take};
 ghost use Rattle.std.proofs.Common.{set};

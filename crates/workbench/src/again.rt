@@ -2,6 +2,7 @@
 //! by a line `AGAIN` with what it is for; what is written besides does not tell whether there was one.
 
 pub mod failing;
+pub mod over_disk;
 pub mod passes;
 pub mod served;
 pub mod shared;

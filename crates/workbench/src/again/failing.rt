@@ -2,6 +2,7 @@
 
 ghost use Rattle.std.specs.Prelude.{◌≡◌};
 
+use super::over_disk::PARTS;
 use super::shared::answer;
 use anyhow::Result;
 use line_disk::{Effect, MemoryDisk};
@@ -33,7 +34,7 @@ pub fn answer_all<T: Wait + Threads + Sync>(
     answer::<Brand, _, _, _>(
         threads,
         alloc,
-        Blank::new(8193),
+        Blank::new(PARTS),
         disk_of(alloc, call, effect)?,
         &input,
         &mut rt.stdout(),

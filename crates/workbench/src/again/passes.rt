@@ -3,7 +3,7 @@
 ghost use Rattle.std.specs.Prelude.{◌≡◌};
 ghost use Rattle.coordinator.specs.Passes.{ledger_parts};
 
-use super::shared::{close, desk_over, put_end, shared};
+use super::over_disk::{PARTS, coordinator_over, put_closed};
 use anyhow::Result;
 use coordinator::{Coordinator, Pass, Unclosed};
 use line_disk::MemoryDisk;
@@ -88,8 +88,7 @@ fn close_twice<L: Ledger, W: Write>(
         return Ok(());
     };
     passes.push(last)?;
-    let ended = close(coordinator, passes, out)?;
-    put_end(alloc, ended, out)
+    put_closed(coordinator, passes, out)
 }
 
 // Takes so many passes of a coordinator of its own, and closes it.
@@ -103,8 +102,8 @@ fn take_all<L: Ledger, R: Wait, W: Write>(
     requires name { blank.name ≡ L.name }
     requires parts { (blank.parts ≡ L.parts) × (blank.parts ≡ ledger_parts) }
 {
-    let desk = desk_over(alloc, MemoryDisk::new(alloc, &[])?, out)?;
-    let coordinator = shared::<L, _, W>(alloc, blank, desk, out)?;
+    let disk = MemoryDisk::new(alloc, &[])?;
+    let coordinator = coordinator_over::<L, _, W>(alloc, blank, disk, 1, out)?;
     let mut passes = Vec::new(alloc);
     take(rt, &coordinator, &mut passes, count, out)?;
     close_twice(alloc, coordinator, passes, out)
@@ -114,5 +113,5 @@ fn take_all<L: Ledger, R: Wait, W: Write>(
 /// the coordinator is not closed without it, and how it ends with all.
 pub fn put_passes<T: Wait>(rt: &HostRuntime, threads: &T, count: u32) -> Result<()> {
     let alloc = rt.alloc();
-    take_all::<Brand, _, _>(threads, alloc, Blank::new(8193), count, &mut rt.stdout())
+    take_all::<Brand, _, _>(threads, alloc, Blank::new(PARTS), count, &mut rt.stdout())
 }

@@ -3,7 +3,8 @@
 ghost use Rattle.std.specs.Prelude.{◌≡◌};
 ghost use Rattle.coordinator.specs.Passes.{ledger_parts};
 
-use super::shared::{File, close, desk_over, put_end, shared};
+use super::over_disk::{PARTS, coordinator_over, put_closed};
+use super::shared::File;
 use anyhow::Result;
 use client_link::Streams;
 use coordinator::{Coordinator, OpenGate, Pass};
@@ -57,6 +58,22 @@ fn put_kind<W: Write>(alloc: Global, end: SessionEnd, out: &mut W) -> Result<()>
     Ok(out.write_all(text.as_bytes())?)
 }
 
+// Serves the client by one pass, and tells how the session ended; answers the pass.
+fn serve_by<L: Ledger, R: Wait + Threads + Sync, I: Read + Drop, W: Write + Drop, E: Write>(
+    rt: &R,
+    coordinator: &Coordinator<L, File>,
+    input: I,
+    output: W,
+    told: &mut E,
+) -> Result<Vec<Pass<L>>> {
+    let mut pass = coordinator.pass(rt)?;
+    let end = serve_streams(rt, coordinator, &mut pass, input, output)?;
+    put_kind(coordinator.alloc(), end, told)?;
+    let mut passes = Vec::new(coordinator.alloc());
+    passes.push(pass)?;
+    Ok(passes)
+}
+
 // Serves the client over a coordinator of its own, and tells how that ended.
 fn serve_over<L: Ledger, R: Wait + Threads + Sync, I: Read + Drop, W: Write + Drop, E: Write>(
     rt: &R,
@@ -70,15 +87,9 @@ fn serve_over<L: Ledger, R: Wait + Threads + Sync, I: Read + Drop, W: Write + Dr
     requires name { blank.name ≡ L.name }
     requires parts { (blank.parts ≡ L.parts) × (blank.parts ≡ ledger_parts) }
 {
-    let desk = desk_over(alloc, disk, told)?;
-    let coordinator = shared::<L, _, E>(alloc, blank, desk, told)?;
-    let mut pass = coordinator.pass(rt)?;
-    let end = serve_streams(rt, &coordinator, &mut pass, input, output)?;
-    put_kind(alloc, end, told)?;
-    let mut passes = Vec::new(alloc);
-    passes.push(pass)?;
-    let ended = close(coordinator, passes, told)?;
-    put_end(alloc, ended, told)
+    let coordinator = coordinator_over::<L, _, E>(alloc, blank, disk, 1, told)?;
+    let passes = serve_by(rt, &coordinator, input, output, told)?;
+    put_closed(coordinator, passes, told)
 }
 
 /// Serves the client of standard input and output over a coordinator of the record file of this path. Tells on standard error how the
@@ -93,7 +104,7 @@ pub fn serve_one<T: Wait + Threads + Sync>(
     serve_over::<Brand, _, _, _, _>(
         threads,
         alloc,
-        Blank::new(8193),
+        Blank::new(PARTS),
         disk,
         rt.reader(),
         rt.stdout(),

@@ -1,17 +1,15 @@
-//! The calls of a coordinator over a record file.
+//! The calls of a coordinator over a disk, a line of input each.
 
-ghost use Rattle.std.specs.Prelude.{◌≡◌, ◌≤◌, [], length, IfOk};
+ghost use Rattle.std.specs.Prelude.{◌≡◌, ◌≤◌, length, IfOk};
 ghost use Rattle.report_line.specs.Cutting.{line_limit};
 ghost use Rattle.report_line.specs.Replies.{IsWritten};
 ghost use Rattle.desk.specs.Files.{IsShort};
 ghost use Rattle.coordinator.specs.Passes.{ledger_parts};
 
+use super::over_disk::{PARTS, coordinator_over, put_closed};
 use super::put_again;
 use anyhow::{Error, Result};
-use coordinator::{
-    CallFault, CloseFault, Coordinator, Ended, Gate, OpenGate, Pass, Refused, Unclosed,
-};
-use desk::{Desk, DeskFault};
+use coordinator::{CallFault, Coordinator, Gate, OpenGate, Pass};
 use line_disk::{Disk, FileDisk, Modelled};
 use record_file::RecordReach;
 use report_line::{Call, LineFault, Reply, read_line, write_reply};
@@ -22,46 +20,11 @@ use std::sync::Wait;
 use std::sync::ledger::{Blank, Ledger};
 use std::thread::Threads;
 
+/// How many bytes a line has at most.
+const LONGEST: usize = 8192;
+
 /// The disk of a record file.
 pub type File = FileDisk<Modelled>;
-
-/// A desk over the file on the disk.
-pub fn desk_over<D: Disk + Drop, W: Write>(alloc: Global, disk: D, out: &mut W) -> Result<Desk<D>>
-    ensures { IfOk result (λ desk. desk.turns ≡ []) }
-{
-    let disk = match Desk::open(alloc, disk) {
-        Ok(desk) => return Ok(desk),
-        Err((DeskFault::Memory, disk)) => disk,
-        Err((fault, _)) => return Err(Error::from(fault)),
-    };
-    put_again(out, b"open")?;
-    match Desk::open(alloc, disk) {
-        Ok(desk) => Ok(desk),
-        Err((fault, _)) => Err(Error::from(fault)),
-    }
-}
-
-/// A coordinator of the desk.
-pub fn shared<L: Ledger, D: Disk + Drop, W: Write>(
-    alloc: Global,
-    blank: Blank,
-    desk: Desk<D>,
-    out: &mut W,
-) -> Result<Coordinator<L, D>>
-    requires name { blank.name ≡ L.name }
-    requires parts { (blank.parts ≡ L.parts) × (blank.parts ≡ ledger_parts) }
-    requires fresh { desk.turns ≡ [] }
-{
-    let (blank, desk) = match Coordinator::new(alloc, blank, desk) {
-        Ok(coordinator) => return Ok(coordinator),
-        Err(Refused { blank, desk }) => (blank, desk),
-    };
-    put_again(out, b"new")?;
-    match Coordinator::new(alloc, blank, desk) {
-        Ok(coordinator) => Ok(coordinator),
-        Err(_) => Err(Error::from(CallFault::Memory)),
-    }
-}
 
 // Makes the turn of a call.
 fn ask_once<L: Ledger, D: Disk, G: Gate + Sync, R: Wait + Threads + Sync>(
@@ -151,7 +114,7 @@ pub fn put_replies<L: Ledger, D: Disk, G: Gate + Sync, R: Wait + Threads + Sync,
     out: &mut W,
 ) -> Result<()> {
     for line in input.split(|b| *b == b'\n') {
-        if line.len() > 0 && line.len() <= 8192 {
+        if line.len() > 0 && line.len() <= LONGEST {
             ask(rt, coordinator, pass, gate, line, out)?;
             put_shown(coordinator.alloc(), pass, out)?;
         }
@@ -159,43 +122,18 @@ pub fn put_replies<L: Ledger, D: Disk, G: Gate + Sync, R: Wait + Threads + Sync,
     Ok(())
 }
 
-/// Closes the coordinator.
-pub fn close<L: Ledger, D: Disk + Drop, W: Write>(
-    coordinator: Coordinator<L, D>,
-    passes: Vec<Pass<L>>,
+// Answers the lines by one pass; answers that.
+fn answer_by<L: Ledger, D: Disk, R: Wait + Threads + Sync, W: Write>(
+    rt: &R,
+    coordinator: &Coordinator<L, D>,
+    input: &[u8],
     out: &mut W,
-) -> Result<Ended<D>> {
-    let (coordinator, passes) = match coordinator.close(passes) {
-        Ok(ended) => return Ok(ended),
-        Err(
-            Unclosed {
-                fault: CloseFault::Memory,
-                coordinator,
-                passes,
-            },
-        ) => (coordinator, passes),
-        Err(unclosed) => return Err(Error::from(unclosed.fault)),
-    };
-    put_again(out, b"close")?;
-    match coordinator.close(passes) {
-        Ok(ended) => Ok(ended),
-        Err(unclosed) => Err(Error::from(unclosed.fault)),
-    }
-}
-
-/// Writes how many turns there were, the front at the end, and that of a desk that is opened over the disk.
-pub fn put_end<D: Disk + Drop, W: Write>(
-    alloc: Global,
-    ended: Ended<D>,
-    out: &mut W,
-) -> Result<()> {
-    let Ended { disk, front, turns } = ended;
-    let text = format!(in alloc; "TURNS {turns}\nENDED {front}\n")?;
-    out.write_all(text.as_bytes())?;
-    let desk = desk_over(alloc, disk, out)?;
-    let opened = desk.front();
-    let text = format!(in alloc; "OPENED {opened}\n")?;
-    Ok(out.write_all(text.as_bytes())?)
+) -> Result<Vec<Pass<L>>> {
+    let mut pass = coordinator.pass(rt)?;
+    put_replies(rt, coordinator, &mut pass, &OpenGate, input, out)?;
+    let mut passes = Vec::new(coordinator.alloc());
+    passes.push(pass)?;
+    Ok(passes)
 }
 
 /// Answers the lines over a coordinator of its own.
@@ -210,14 +148,9 @@ pub fn answer<L: Ledger, D: Disk + Drop, R: Wait + Threads + Sync, W: Write>(
     requires name { blank.name ≡ L.name }
     requires parts { (blank.parts ≡ L.parts) × (blank.parts ≡ ledger_parts) }
 {
-    let desk = desk_over(alloc, disk, out)?;
-    let coordinator = shared::<L, _, W>(alloc, blank, desk, out)?;
-    let mut pass = coordinator.pass(rt)?;
-    put_replies(rt, &coordinator, &mut pass, &OpenGate, input, out)?;
-    let mut passes = Vec::new(alloc);
-    passes.push(pass)?;
-    let ended = close(coordinator, passes, out)?;
-    put_end(alloc, ended, out)
+    let coordinator = coordinator_over::<L, _, W>(alloc, blank, disk, 1, out)?;
+    let passes = answer_by(rt, &coordinator, input, out)?;
+    put_closed(coordinator, passes, out)
 }
 
 /// Makes the turns of the lines of standard input over the record file of this path, and writes what is shown for each; closes the
@@ -234,7 +167,7 @@ pub fn answer_all<T: Wait + Threads + Sync>(
     answer::<Brand, _, _, _>(
         threads,
         alloc,
-        Blank::new(8193),
+        Blank::new(PARTS),
         disk,
         &input,
         &mut rt.stdout(),

@@ -4,10 +4,11 @@ ghost use Rattle.std.specs.Prelude.{◌≡◌, ◌<◌, ◌≤◌};
 ghost use Rattle.coordinator.specs.Passes.{ledger_parts};
 
 use super::gate::{HeldGate, Place};
-use crate::again::shared::{close, desk_over, put_end, put_replies};
-use anyhow::{Error, Result};
+use crate::again::over_disk::{PARTS, coordinator_over, put_closed};
+use crate::again::shared::put_replies;
+use anyhow::Result;
 use client_link::MemoryLink;
-use coordinator::{CallFault, Coordinator, Gate, OpenGate, Pass, PassFault};
+use coordinator::{Coordinator, Gate, OpenGate, Pass, PassFault};
 use line_disk::MemoryDisk;
 use session::serve_link;
 use std::alloc::{AllocError, Global};
@@ -217,19 +218,15 @@ fn put_all<L: Ledger + Send + Sync, R: Threads + Wait + Sync, W: Write>(
     requires parts { (blank.parts ≡ L.parts) × (blank.parts ≡ ledger_parts) }
     requires workers { (0 < workers) × (workers ≤ 64) }
 {
-    let desk = desk_over(alloc, MemoryDisk::new(alloc, &[])?, out)?;
-    let Ok(coordinator) = Coordinator::<L, MemoryDisk>::with_workers(alloc, blank, desk, workers)
-    else {
-        return Err(Error::from(CallFault::Memory));
-    };
+    let disk = MemoryDisk::new(alloc, &[])?;
+    let coordinator = coordinator_over::<L, _, W>(alloc, blank, disk, workers, out)?;
     let passes = serve_all(rt, &coordinator, place, texts, out)?;
-    let ended = close(coordinator, passes, out)?;
-    put_end(alloc, ended, out)
+    put_closed(coordinator, passes, out)
 }
 
 /// Serves three clients over a coordinator that computes a line by so many threads, 64 at most, the last two at once; a line of the last one, by calls
 /// or in a session, waits at its place until the one before was served. Their texts are parted by empty lines, and so is what they get. Tells what the gate
-/// counted, and how the coordinator ended.
+/// counted, how the coordinator ended, and what the front of a desk is that is opened over its disk.
 pub fn answer_all<T: Wait + Threads + Sync>(
     rt: &HostRuntime,
     threads: &T,
@@ -242,7 +239,7 @@ pub fn answer_all<T: Wait + Threads + Sync>(
     put_all::<Brand, _, _>(
         threads,
         alloc,
-        Blank::new(8193),
+        Blank::new(PARTS),
         workers.get().min(64) as usize,
         place,
         &texts_of(&input),

@@ -5,7 +5,7 @@ ghost use Rattle.coordinator.specs.Passes.{ledger_parts};
 
 use super::sessions::{Texts, texts_of};
 use super::streams::{Got, Meeting, Sent, Who};
-use crate::again::shared::{close, desk_over, put_end, shared};
+use crate::again::over_disk::{PARTS, coordinator_over, put_closed};
 use anyhow::{Error, Result};
 use client_link::Streams;
 use coordinator::{Coordinator, OpenGate, Pass};
@@ -160,11 +160,10 @@ fn put_all<L: Ledger + Send + Sync, R: Threads + Wait + Sync, W: Write>(
     requires name { blank.name ≡ L.name }
     requires parts { (blank.parts ≡ L.parts) × (blank.parts ≡ ledger_parts) }
 {
-    let desk = desk_over(alloc, MemoryDisk::new(alloc, &[])?, out)?;
-    let coordinator = shared::<L, _, W>(alloc, blank, desk, out)?;
+    let disk = MemoryDisk::new(alloc, &[])?;
+    let coordinator = coordinator_over::<L, _, W>(alloc, blank, disk, 1, out)?;
     let passes = serve_all(rt, &coordinator, texts, most, out)?;
-    let ended = close(coordinator, passes, out)?;
-    put_end(alloc, ended, out)
+    put_closed(coordinator, passes, out)
 }
 
 /// Serves three clients by two workers, the first alone and then the other two at once: the first reads of these wait for each other. What
@@ -181,7 +180,7 @@ pub fn answer_all<T: Wait + Threads + Sync>(
     put_all::<Brand, _, _>(
         threads,
         alloc,
-        Blank::new(8193),
+        Blank::new(PARTS),
         &texts_of(&input),
         most.get() as usize,
         &mut rt.stdout(),

@@ -2,7 +2,7 @@
 use Rattle.std.specs.Prelude.{◌≡◌, ◌&&◌, Bool, true, false, List, [], map, filter, flat_map, Some, is_some, if◌then◌else◌, codes, Result, IfOk}
 use Rattle.std.specs.List.{list_any}
 use Rattle.std.specs.Str.{bytes_eq}
-use Rattle.clap.specs.Words.{FailsBy, Row, Text, first_of, found_of, rows_of}
+use Rattle.clap.specs.Words.{App, FailsBy, Row, Text, app_of, first_of, found_of, rows_of}
 use Rattle.clap.specs.Simple.{is_positional}
 use Rattle.clap.specs.declared.error.Error.{Error}
 use Rattle.clap.specs.declared.parser.matches.ArgMatches.{ArgMatches}
@@ -15,6 +15,10 @@ use Rattle.command_line.specs.Arguments.{HasValues, each_command, is_set, name_o
 -- no argument of the command counts for its subcommands, too
 abbrev pub IsLocal : Made → Type 0
 IsLocal made = (out-Command made).has_globals ≡ false
+
+-- the command, where there was memory for it, is this one, and no argument of it counts for its subcommands
+abbrev pub IsMade : {E : Type 0} → App → Result Made E → Type 0
+IsMade app made = IfOk made (λ m. (app_of m ≡ app) × IsLocal m)
 
 -- the values that were read
 abbrev pub values_of : ArgMatches → List Row

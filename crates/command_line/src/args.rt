@@ -1,10 +1,11 @@
 //! The words of the command line.
 
 ghost use Rattle.std.specs.Prelude.{◌≡◌, ◌≤◌, [], ◌∷◌, IfNone, IfOk, IfSome, Some, codes, false, is_some, map, option_map, true};
-ghost use Rattle.clap.specs.Words.{FailsBy, HasKind, IsUnsignedIn, app_of, first_of, new_rule, rule_of};
+ghost use Rattle.clap.specs.Words.{App, FailsBy, HasKind, IsUnsignedIn, Rule, app_of, first_of, new_app, new_rule, rule_of, with_rule, with_subcommand};
+ghost use Rattle.clap.specs.Simple.{on_top};
 ghost use Rattle.clap.specs.declared.error.kind.ErrorKind.TheVariants as kinds;
 ghost use Rattle.command_line.specs.Arguments.{AsksFor, IsFront, IsNumber, MayBeNumber, alone, check, draw, draw_wants, drive, explain, flag_rule, front_rule, garbage, has_front, has_number, is_set, line, may_have_number, option_rule, program, refusals, run, serve, serve_wants, show, wanted_option, wanted_rule, with_why};
-ghost use Rattle.command_line.specs.Parts.{HasWanted, IsAnswer, IsLocal, IsWanted, is_command, values_of};
+ghost use Rattle.command_line.specs.Parts.{HasWanted, IsAnswer, IsMade, IsWanted, is_command, values_of};
 
 use clap::error::ErrorKind;
 use clap::{Arg, ArgAction, ArgMatches, Command as Program, Error};
@@ -142,6 +143,14 @@ fn script_argument<'a>(alloc: Global) -> Arg<'a>
     )
 }
 
+/// The argument that is the path of a record file.
+fn file_argument<'a>(alloc: Global) -> Arg<'a>
+    ensures rule { rule_of result ≡ wanted_rule (codes "FILE") }
+    ensures local { result.global ≡ false }
+{
+    word_argument(alloc, "FILE", "The file that keeps the accepted reports")
+}
+
 /// The flag that says that a script has comments.
 fn comments_argument<'a>(alloc: Global) -> Arg<'a>
     ensures rule { rule_of result ≡ flag_rule (codes "comments") }
@@ -154,81 +163,127 @@ fn comments_argument<'a>(alloc: Global) -> Arg<'a>
     )
 }
 
+/// A command with this name and its first argument. Its help says what it does, and which statuses it ends with.
+fn told_command<'a>(
+    alloc: Global,
+    name: &'a str,
+    about: &'a str,
+    statuses: &'a str,
+    first: Arg<'a>,
+) -> Result<Program<'a>, AllocError>
+    requires { first.global ≡ false }
+    ensures { (r : Rule) → rule_of first.entry ≡ r → IsMade (with_rule (new_app name.now) r) result }
+{
+    Program::new(alloc, name)
+        .about(about)
+        .after_help(statuses)
+        .arg(first)
+}
+
+/// A command with one argument more, where it was made.
+fn with_argument<'a>(
+    command: Result<Program<'a>, AllocError>,
+    argument: Arg<'a>,
+) -> Result<Program<'a>, AllocError>
+    requires { argument.global ≡ false }
+    ensures { (app : App) (r : Rule) → IsMade app command.entry → rule_of argument.entry ≡ r → IsMade (with_rule app r) result }
+{
+    match command {
+        Ok(command) => command.arg(argument),
+        Err(error) => Err(error),
+    }
+}
+
 /// A command with the flag by which faults say why.
-fn explaining<'a>(alloc: Global, command: Program<'a>) -> Result<Program<'a>, AllocError>
-    requires { IsLocal command }
-    ensures app { IfOk result (λ made. app_of made ≡ with_why (app_of command.entry)) }
-    ensures local { IfOk result (λ made. IsLocal made) }
+fn explaining<'a>(
+    alloc: Global,
+    command: Result<Program<'a>, AllocError>,
+) -> Result<Program<'a>, AllocError>
+    ensures { (app : App) → IsMade app command.entry → IsMade (with_why app) result }
 {
     let explain = flag_argument(
         alloc,
         "explain",
         "Says on standard error why a file or a stream failed, in the system's words",
     );
-    command.arg(explain)
+    with_argument(command, explain)
+}
+
+/// A program with one command more, where both were made.
+fn with_command<'a>(
+    program: Result<Program<'a>, AllocError>,
+    command: Result<Program<'a>, AllocError>,
+) -> Result<Program<'a>, AllocError>
+    ensures { (above app : App) → IfOk program.entry (λ p. app_of p ≡ above) → IsMade app command.entry → IfOk result (λ made. app_of made ≡ with_subcommand above app.top) }
+{
+    let program = program?;
+    program.subcommand(command?)
 }
 
 /// The command `run`.
 fn run_command<'a>(alloc: Global) -> Result<Program<'a>, AllocError>
-    ensures app { IfOk result (λ made. app_of made ≡ run) }
-    ensures local { IfOk result (λ made. IsLocal made) }
+    ensures { IsMade run result }
 {
-    let file = optional_argument(
+    told_command(
         alloc,
-        "FILE",
-        "The file that keeps the accepted reports; it is made if it is missing",
-    );
-    Program::new(alloc, "run")
-        .about("Answers each line of standard input on standard output")
-        .after_help(
-            "Status: 0 the input ended; 2 wrong words; 3 a file, a stream or memory failed; 5 too many lines",
-        )
-        .arg(file)
+        "run",
+        "Answers each line of standard input on standard output",
+        "Status: 0 the input ended; 2 wrong words; 3 a file, a stream or memory failed; 5 too many lines",
+        optional_argument(
+            alloc,
+            "FILE",
+            "The file that keeps the accepted reports; it is made if it is missing",
+        ),
+    )
 }
 
 /// The command `serve`, with the options that are wanted.
 fn serve_wanted<'a>(alloc: Global) -> Result<Program<'a>, AllocError>
-    ensures app { IfOk result (λ made. app_of made ≡ serve_wants) }
-    ensures local { IfOk result (λ made. IsLocal made) }
+    ensures { IsMade serve_wants result }
 {
-    let file = word_argument(
+    let command = told_command(
         alloc,
-        "FILE",
-        "The file that keeps the accepted reports; it is made if it is missing",
+        "serve",
+        "Answers the lines of clients that connect, and ends after the last session",
+        "Status: 0 all sessions ended; 2 wrong words; 3 a file, the port, a stream or memory failed",
+        word_argument(
+            alloc,
+            "FILE",
+            "The file that keeps the accepted reports; it is made if it is missing",
+        ),
     );
-    let port = wanted_argument(
-        alloc,
-        "port",
-        "P",
-        "The port on this machine, 0 to 65535; 0 lets the system choose",
+    let command = with_argument(
+        command,
+        wanted_argument(
+            alloc,
+            "port",
+            "P",
+            "The port on this machine, 0 to 65535; 0 lets the system choose",
+        ),
     );
-    let sessions = wanted_argument(
-        alloc,
-        "sessions",
-        "N",
-        "How many sessions are served, 1 to 4096",
+    let command = with_argument(
+        command,
+        wanted_argument(
+            alloc,
+            "sessions",
+            "N",
+            "How many sessions are served, 1 to 4096",
+        ),
     );
-    let workers = wanted_argument(
-        alloc,
-        "workers",
-        "W",
-        "How many threads serve them, 1 to 64",
-    );
-    Program::new(alloc, "serve")
-        .about("Answers the lines of clients that connect, and ends after the last session")
-        .after_help(
-            "Status: 0 all sessions ended; 2 wrong words; 3 a file, the port, a stream or memory failed",
-        )
-        .arg(file)?
-        .arg(port)?
-        .arg(sessions)?
-        .arg(workers)
+    with_argument(
+        command,
+        wanted_argument(
+            alloc,
+            "workers",
+            "W",
+            "How many threads serve them, 1 to 64",
+        ),
+    )
 }
 
 /// The command `serve`.
 fn serve_command<'a>(alloc: Global) -> Result<Program<'a>, AllocError>
-    ensures app { IfOk result (λ made. app_of made ≡ serve) }
-    ensures local { IfOk result (λ made. IsLocal made) }
+    ensures { IsMade serve result }
 {
     let idle = option_argument(
         alloc,
@@ -236,7 +291,7 @@ fn serve_command<'a>(alloc: Global) -> Result<Program<'a>, AllocError>
         "SECONDS",
         "How long a client may be silent, 1 to 4294967295; without it any time",
     );
-    serve_wanted(alloc)?.arg(idle)
+    with_argument(serve_wanted(alloc), idle)
 }
 
 /// The option that says how many of the first records count.
@@ -254,25 +309,24 @@ fn front_argument<'a>(alloc: Global) -> Arg<'a>
 
 /// The command `check`.
 fn check_command<'a>(alloc: Global) -> Result<Program<'a>, AllocError>
-    ensures app { IfOk result (λ made. app_of made ≡ check) }
-    ensures local { IfOk result (λ made. IsLocal made) }
+    ensures { IsMade check result }
 {
-    let file = word_argument(alloc, "FILE", "The file that keeps the accepted reports");
-    let certificate = word_argument(
+    let command = told_command(
         alloc,
-        "CERT",
-        "A file with the text that stands behind 'LINE ' in a reply; '-' is standard input",
+        "check",
+        "Checks a certificate over the accepted reports, and prints YES or NO with the cause",
+        "Status: 0 YES; 2 no certificate, or wrong words; 3 a file, a stream or memory failed; 4 NO",
+        file_argument(alloc),
     );
-    Program::new(alloc, "check")
-        .about(
-            "Checks a certificate over the accepted reports, and prints YES or NO with the cause",
-        )
-        .after_help(
-            "Status: 0 YES; 2 no certificate, or wrong words; 3 a file, a stream or memory failed; 4 NO",
-        )
-        .arg(file)?
-        .arg(certificate)?
-        .arg(front_argument(alloc))
+    let command = with_argument(
+        command,
+        word_argument(
+            alloc,
+            "CERT",
+            "A file with the text that stands behind 'LINE ' in a reply; '-' is standard input",
+        ),
+    );
+    with_argument(command, front_argument(alloc))
 }
 
 /// The statuses of a command that asks one question.
@@ -281,155 +335,175 @@ const QUESTION_STATUSES: &str =
 
 /// The command `line`.
 fn line_command<'a>(alloc: Global) -> Result<Program<'a>, AllocError>
-    ensures app { IfOk result (λ made. app_of made ≡ line) }
-    ensures local { IfOk result (λ made. IsLocal made) }
+    ensures { IsMade line result }
 {
-    let file = word_argument(alloc, "FILE", "The file that keeps the accepted reports");
-    let names = word_argument(
+    let command = told_command(
         alloc,
-        "NAMES",
-        "The processes that failed, parted by commas, or '-' for none",
+        "line",
+        "Prints on standard output what 'LINE NAMES' is answered over the records",
+        QUESTION_STATUSES,
+        file_argument(alloc),
     );
-    Program::new(alloc, "line")
-        .about("Prints on standard output what 'LINE NAMES' is answered over the records")
-        .after_help(QUESTION_STATUSES)
-        .arg(file)?
-        .arg(names)?
-        .arg(front_argument(alloc))
+    let command = with_argument(
+        command,
+        word_argument(
+            alloc,
+            "NAMES",
+            "The processes that failed, parted by commas, or '-' for none",
+        ),
+    );
+    with_argument(command, front_argument(alloc))
 }
 
 /// The command `garbage`.
 fn garbage_command<'a>(alloc: Global) -> Result<Program<'a>, AllocError>
-    ensures app { IfOk result (λ made. app_of made ≡ garbage) }
-    ensures local { IfOk result (λ made. IsLocal made) }
+    ensures { IsMade garbage result }
 {
-    let file = word_argument(alloc, "FILE", "The file that keeps the accepted reports");
-    Program::new(alloc, "garbage")
-        .about("Prints on standard output what 'GARBAGE' is answered over the records")
-        .after_help(QUESTION_STATUSES)
-        .arg(file)?
-        .arg(front_argument(alloc))
+    let command = told_command(
+        alloc,
+        "garbage",
+        "Prints on standard output what 'GARBAGE' is answered over the records",
+        QUESTION_STATUSES,
+        file_argument(alloc),
+    );
+    with_argument(command, front_argument(alloc))
 }
 
 /// The command `show`.
 fn show_command<'a>(alloc: Global) -> Result<Program<'a>, AllocError>
-    ensures app { IfOk result (λ made. app_of made ≡ show) }
-    ensures local { IfOk result (λ made. IsLocal made) }
+    ensures { IsMade show result }
 {
-    let file = word_argument(alloc, "FILE", "The file that keeps the accepted reports");
-    let reports = flag_argument(alloc, "reports", "Tells each record, too");
-    let json = flag_argument(alloc, "json", "Writes JSON");
-    Program::new(alloc, "show")
-        .about("Tells on standard output what a record file has")
-        .after_help("Status: 0 all was told; 2 wrong words; 3 a file, a stream or memory failed")
-        .arg(file)?
-        .arg(front_argument(alloc))?
-        .arg(reports)?
-        .arg(json)
+    let command = told_command(
+        alloc,
+        "show",
+        "Tells on standard output what a record file has",
+        "Status: 0 all was told; 2 wrong words; 3 a file, a stream or memory failed",
+        file_argument(alloc),
+    );
+    let command = with_argument(command, front_argument(alloc));
+    let command = with_argument(
+        command,
+        flag_argument(alloc, "reports", "Tells each record, too"),
+    );
+    with_argument(command, flag_argument(alloc, "json", "Writes JSON"))
 }
 
 /// The command `explain`.
 fn explain_command<'a>(alloc: Global) -> Result<Program<'a>, AllocError>
-    ensures app { IfOk result (λ made. app_of made ≡ explain) }
-    ensures local { IfOk result (λ made. IsLocal made) }
+    ensures { IsMade explain result }
 {
-    let line = optional_argument(
+    told_command(
         alloc,
-        "LINE",
-        "A line, as one word of the shell; without it each line of standard input",
-    );
-    Program::new(alloc, "explain")
-        .about("Says on standard output which call a line is, or why it is none")
-        .after_help(
-            "Status: 0 each is a call; 2 wrong words; 3 a stream or memory failed; 4 a line is none",
-        )
-        .arg(line)
+        "explain",
+        "Says on standard output which call a line is, or why it is none",
+        "Status: 0 each is a call; 2 wrong words; 3 a stream or memory failed; 4 a line is none",
+        optional_argument(
+            alloc,
+            "LINE",
+            "A line, as one word of the shell; without it each line of standard input",
+        ),
+    )
 }
 
 /// The command `drive`.
 fn drive_command<'a>(alloc: Global) -> Result<Program<'a>, AllocError>
-    ensures app { IfOk result (λ made. app_of made ≡ drive) }
-    ensures local { IfOk result (λ made. IsLocal made) }
+    ensures { IsMade drive result }
 {
-    Program::new(alloc, "drive")
-        .about("Stamps the steps of a script and prints the lines that report them")
-        .after_help(
-            "Status: 0 each step was taken; 2 one was refused, or wrong words; 3 a file, a stream or memory failed",
-        )
-        .arg(script_argument(alloc))?
-        .arg(comments_argument(alloc))
+    let command = told_command(
+        alloc,
+        "drive",
+        "Stamps the steps of a script and prints the lines that report them",
+        "Status: 0 each step was taken; 2 one was refused, or wrong words; 3 a file, a stream or memory failed",
+        script_argument(alloc),
+    );
+    with_argument(command, comments_argument(alloc))
 }
 
 /// The command `draw`, with what says what is drawn.
 fn draw_wanted<'a>(alloc: Global) -> Result<Program<'a>, AllocError>
-    ensures app { IfOk result (λ made. app_of made ≡ draw_wants) }
-    ensures local { IfOk result (λ made. IsLocal made) }
+    ensures { IsMade draw_wants result }
 {
-    let records = flag_argument(
+    let command = told_command(
         alloc,
-        "records",
-        "SCRIPT is a file that keeps accepted reports, and these are drawn",
+        "draw",
+        "Draws the history of a script with its recovery line as SVG",
+        "Status: 0 all is drawn; 2 a step or a name was refused, or wrong words; 3 a file, a stream or memory failed",
+        script_argument(alloc),
     );
-    Program::new(alloc, "draw")
-        .about("Draws the history of a script with its recovery line as SVG")
-        .after_help(
-            "Status: 0 all is drawn; 2 a step or a name was refused, or wrong words; 3 a file, a stream or memory failed",
-        )
-        .arg(script_argument(alloc))?
-        .arg(comments_argument(alloc))?
-        .arg(records)
+    let command = with_argument(command, comments_argument(alloc));
+    with_argument(
+        command,
+        flag_argument(
+            alloc,
+            "records",
+            "SCRIPT is a file that keeps accepted reports, and these are drawn",
+        ),
+    )
 }
 
 /// The command `draw`.
 fn draw_command<'a>(alloc: Global) -> Result<Program<'a>, AllocError>
-    ensures app { IfOk result (λ made. app_of made ≡ draw) }
-    ensures local { IfOk result (λ made. IsLocal made) }
+    ensures { IsMade draw result }
 {
-    let failed = option_argument(
-        alloc,
-        "failed",
-        "NAMES",
-        "The processes that failed, parted by commas, or '-' for none",
+    let command = with_argument(
+        draw_wanted(alloc),
+        option_argument(
+            alloc,
+            "failed",
+            "NAMES",
+            "The processes that failed, parted by commas, or '-' for none",
+        ),
     );
-    let why = option_argument(
-        alloc,
-        "why",
-        "NAME",
-        "With --records, the process whose reasons to return are drawn",
+    let command = with_argument(
+        command,
+        option_argument(
+            alloc,
+            "why",
+            "NAME",
+            "With --records, the process whose reasons to return are drawn",
+        ),
     );
-    draw_wanted(alloc)?
-        .arg(failed)?
-        .arg(why)?
-        .arg(front_argument(alloc))
+    with_argument(command, front_argument(alloc))
+}
+
+/// The program with its name alone.
+fn named_program<'a>(alloc: Global) -> Result<Program<'a>, AllocError>
+    ensures { IfOk result (λ made. app_of made ≡ new_app (codes "recline")) }
+{
+    Program::new(alloc, "recline").bin_name("recline")
+}
+
+/// This program with its version and what it does; one of its commands is wanted.
+fn with_version<'a>(program: Program<'a>) -> Program<'a>
+    ensures { app_of result ≡ on_top (λ s. record s { has_version = true; subcommand_required = true }) (app_of program.entry) }
+{
+    program
+        .version("0.1.0")
+        .about("Says where processes that failed have to recover from")
+        .subcommand_required(true)
 }
 
 /// The program, without its commands.
 fn program_alone<'a>(alloc: Global) -> Result<Program<'a>, AllocError>
     ensures app { IfOk result (λ made. app_of made ≡ alone) }
 {
-    let named = Program::new(alloc, "recline").bin_name("recline")?;
-    Ok(
-        named
-            .version("0.1.0")
-            .about("Says where processes that failed have to recover from")
-            .subcommand_required(true),
-    )
+    Ok(with_version(named_program(alloc)?))
 }
 
 /// The command line, with the texts of its help.
 fn command_line<'a>(alloc: Global) -> Result<Program<'a>, AllocError>
     ensures { IfOk result (λ made. app_of made ≡ program) }
 {
-    program_alone(alloc)?
-        .subcommand(explaining(alloc, run_command(alloc)?)?)?
-        .subcommand(explaining(alloc, serve_command(alloc)?)?)?
-        .subcommand(explaining(alloc, check_command(alloc)?)?)?
-        .subcommand(explaining(alloc, line_command(alloc)?)?)?
-        .subcommand(explaining(alloc, garbage_command(alloc)?)?)?
-        .subcommand(explaining(alloc, show_command(alloc)?)?)?
-        .subcommand(explain_command(alloc)?)?
-        .subcommand(explaining(alloc, drive_command(alloc)?)?)?
-        .subcommand(explaining(alloc, draw_command(alloc)?)?)
+    let program = program_alone(alloc);
+    let program = with_command(program, explaining(alloc, run_command(alloc)));
+    let program = with_command(program, explaining(alloc, serve_command(alloc)));
+    let program = with_command(program, explaining(alloc, check_command(alloc)));
+    let program = with_command(program, explaining(alloc, line_command(alloc)));
+    let program = with_command(program, explaining(alloc, garbage_command(alloc)));
+    let program = with_command(program, explaining(alloc, show_command(alloc)));
+    let program = with_command(program, explain_command(alloc));
+    let program = with_command(program, explaining(alloc, drive_command(alloc)));
+    with_command(program, explaining(alloc, draw_command(alloc)))
 }
 
 /// The number that a text spells, if it lies within these limits.

@@ -1,0 +1,5 @@
+use Rattle.command_line.proofs.args.drive_command.Goals as goal
+
+pub returns : goal.returns
+returns c =
+    c.with_argument.ensures _ _ (c.told_command-command.ensures _ c.script_argument.ensures.rule) c.comments_argument.ensures.rule

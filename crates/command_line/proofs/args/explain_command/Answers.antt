@@ -1,0 +1,5 @@
+use Rattle.command_line.proofs.args.explain_command.Goals as goal
+
+pub returns : goal.returns
+returns c =
+    c.told_command.ensures _ c.optional_argument.ensures.rule

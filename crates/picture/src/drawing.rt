@@ -44,19 +44,24 @@ fn try_picture(alloc: Global, followed: &Followed, failed: &Names) -> Result<Vec
     }
 }
 
+/// The picture of what was followed to this ending, where the processes of these names failed, and how that ends.
+fn drawn(alloc: Global, followed: &Followed, ending: Ending, failed: &Names) -> (Vec<u8>, Ending) {
+    if matches!(ending, Ending::Memory) {
+        return (Vec::new(alloc), ending);
+    }
+    match try_picture(alloc, followed, failed) {
+        Ok(svg) => (svg, ending),
+        Err(Undrawn::Unknown(name)) => (Vec::new(alloc), Ending::Unknown(name)),
+        Err(Undrawn::Memory) => (Vec::new(alloc), Ending::Memory),
+    }
+}
+
 /// The picture of a script, where the processes of these names failed: the steps that its world takes, its settlements with what
 /// each undid, the recovery line through what is left, and what is obsolete. A script of which not even the first line is taken has no picture.
 pub fn draw(alloc: Global, script: &[u8], failed: &Names) -> (Vec<u8>, Ending) {
     let (followed, ending) = follow(alloc, script);
-    let Some(followed) = followed else {
-        return (Vec::new(alloc), ending);
-    };
-    if matches!(ending, Ending::Memory) {
-        return (Vec::new(alloc), ending);
-    }
-    match try_picture(alloc, &followed, failed) {
-        Ok(svg) => (svg, ending),
-        Err(Undrawn::Unknown(name)) => (Vec::new(alloc), Ending::Unknown(name)),
-        Err(Undrawn::Memory) => (Vec::new(alloc), Ending::Memory),
+    match &followed {
+        Some(followed) => drawn(alloc, followed, ending, failed),
+        None => (Vec::new(alloc), ending),
     }
 }

@@ -66,26 +66,58 @@ fn is_short(script: &[u8]) -> bool {
     cut_line(rest).is_none()
 }
 
-/// The beginning by the first line.
-fn begin(alloc: Global, line: &[u8], tells: bool) -> Result<Followed, Stop> {
-    let Some(root) = read_root(line) else {
-        return Err(Stop::Refused(Cause::Grammar));
-    };
-    let Ok((world, report)) = World::start(alloc, root.copy()) else {
-        return Err(Stop::Refused(Cause::Fault(StepFault::Memory)));
-    };
-    let report = PackedReport::of(report);
-    let Ok(scripted) = Scripted::begun(alloc, root, &report, tells) else {
-        return Err(Stop::Memory);
-    };
+/// The chains of the first report.
+fn chains_of(alloc: Global, report: &PackedReport) -> Result<Chains, Stop> {
     let mut chains = Chains::new(alloc);
-    match admit(&mut chains, &report) {
-        Ok(()) => Ok(Followed {
+    match admit(&mut chains, report) {
+        Ok(()) => Ok(chains),
+        Err(stop) => Err(stop),
+    }
+}
+
+/// The chains that accept the first report, and what a picture shows of it.
+fn parts_of(
+    alloc: Global,
+    root: Name,
+    report: &PackedReport,
+    tells: bool,
+) -> Result<(Chains, Scripted), Stop> {
+    let chains = match chains_of(alloc, report) {
+        Ok(chains) => chains,
+        Err(stop) => return Err(stop),
+    };
+    match Scripted::begun(alloc, root, report, tells) {
+        Ok(scripted) => Ok((chains, scripted)),
+        Err(_) => Err(Stop::Memory),
+    }
+}
+
+/// The beginning in this world, by the first report of its root.
+fn begin_with(
+    alloc: Global,
+    root: Name,
+    world: World,
+    report: &PackedReport,
+    tells: bool,
+) -> Result<Followed, Stop> {
+    match parts_of(alloc, root, report, tells) {
+        Ok((chains, scripted)) => Ok(Followed {
             world,
             chains,
             scripted,
         }),
         Err(stop) => Err(stop),
+    }
+}
+
+/// The beginning by the first line.
+fn begin(alloc: Global, line: &[u8], tells: bool) -> Result<Followed, Stop> {
+    let Some(root) = read_root(line) else {
+        return Err(Stop::Refused(Cause::Grammar));
+    };
+    match World::start(alloc, root.copy()) {
+        Ok((world, report)) => { begin_with(alloc, root, world, &PackedReport::of(report), tells) }
+        Err(_) => Err(Stop::Refused(Cause::Fault(StepFault::Memory))),
     }
 }
 
@@ -177,15 +209,32 @@ fn take_event(followed: &mut Followed, step: &Step) -> Result<(), Stop> {
     }
 }
 
+/// What the world reports of a step that it takes.
+fn given_by(world: &mut World, step: &Step) -> Result<Option<PackedReport>, Stop> {
+    match world.step(step.copy()) {
+        Ok(Some(report)) => Ok(Some(PackedReport::of(report))),
+        Ok(None) => Ok(None),
+        Err(fault) => Err(Stop::Refused(Cause::Fault(fault))),
+    }
+}
+
+/// Takes what the world reports of a step.
+fn take_given(
+    followed: &mut Followed,
+    step: &Step,
+    given: &Option<PackedReport>,
+) -> Result<(), Stop> {
+    match given {
+        Some(report) => take_report(followed, step, report),
+        None => take_event(followed, step),
+    }
+}
+
 /// Takes a step.
 fn take_step(followed: &mut Followed, step: &Step) -> Result<(), Stop> {
-    let given = match followed.world.step(step.copy()) {
-        Ok(given) => given,
-        Err(fault) => return Err(Stop::Refused(Cause::Fault(fault))),
-    };
-    match given {
-        None => take_event(followed, step),
-        Some(report) => take_report(followed, step, &PackedReport::of(report)),
+    match given_by(&mut followed.world, step) {
+        Ok(given) => take_given(followed, step, &given),
+        Err(stop) => Err(stop),
     }
 }
 

@@ -192,26 +192,46 @@ fn pass_over_absorbed(fresh: &mut [Fresh], chains: &Chains, absorbed: Option<u32
     pass_over(fresh, chains, through);
 }
 
-/// What the report at this place is the first one of its process to know. A child knows from its birth what its parent knew.
+/// What of this a process learns at first hand, by a report that may have absorbed a process.
+fn first_hand(
+    chains: &Chains,
+    fresh: &mut [Fresh],
+    absorbed: Option<u32>,
+) -> Result<Vec<Source>, AllocError> {
+    pass_over_absorbed(fresh, chains, absorbed);
+    part(fresh, chains);
+    direct(chains.alloc(), fresh)
+}
+
+/// The process of a report learns of its events, and so does its child, if it has one: a child knows from its birth what its parent knew.
+/// Answers what the process learns at first hand.
+fn learn_both(
+    reports: &mut Reports,
+    chains: &Chains,
+    events: &Events,
+    report: Told,
+) -> Result<Vec<Source>, AllocError> {
+    if let Some(child) = report.child {
+        let _known = learn(reports, chains, events, child)?;
+    }
+    let mut fresh = learn(reports, chains, events, report.process)?;
+    first_hand(chains, &mut fresh, report.absorbed)
+}
+
+/// What the report at this place is the first one of its process to know.
 fn sources_of(
     reports: &mut Reports,
     chains: &Chains,
     report: Told,
 ) -> Result<Vec<Source>, AllocError> {
-    let none = Vec::new(chains.alloc());
-    let Some(packed) = chains.report(report.index) else {
-        return Ok(none);
+    let events = match chains.report(report.index) {
+        Some(packed) => events_of(packed),
+        None => None,
     };
-    let Some(events) = events_of(packed) else {
-        return Ok(none);
-    };
-    let mut fresh = learn(reports, chains, events, report.process)?;
-    if let Some(child) = report.child {
-        learn(reports, chains, events, child)?;
+    match events {
+        Some(events) => learn_both(reports, chains, events, report),
+        None => Ok(Vec::new(chains.alloc())),
     }
-    pass_over_absorbed(&mut fresh, chains, report.absorbed);
-    part(&mut fresh, chains);
-    direct(chains.alloc(), &fresh)
 }
 
 /// What of a report its sources go by.

@@ -6,6 +6,7 @@ use crate::commented::ScriptForm;
 use crate::copied::desk_of;
 use crate::driving::{ReadScript, Unread, read_script};
 use crate::telling::{tell, tell_all, tell_refusal, tell_unopened, write_all};
+use chains::Chains;
 use client_link::Link;
 use itoa::Buffer;
 use memchr::memchr;
@@ -141,7 +142,19 @@ fn draw_over<K: Link, F: Link>(
     write_picture(client, faults, &svg, &ending_in(&script, ending))
 }
 
-/// The picture of what a record file of these bytes keeps, where the processes of these names failed, with why this one has to return.
+/// The picture of what these chains hold, where the processes of these names failed, with why this one has to return.
+fn draw_held<K: Link, F: Link>(
+    chains: &Chains,
+    client: &mut K,
+    faults: &mut F,
+    failed: &Names,
+    why: Option<&Name>,
+) -> u8 {
+    let (svg, ending) = draw_accepted(chains, failed, why);
+    write_picture(client, faults, &svg, &ending)
+}
+
+/// The same of what a record file of these bytes keeps.
 fn draw_records_over<K: Link, F: Link>(
     alloc: Global,
     bytes: &[u8],
@@ -151,10 +164,7 @@ fn draw_records_over<K: Link, F: Link>(
     why: Option<&Name>,
 ) -> u8 {
     match desk_of(alloc, bytes) {
-        Ok(desk) => {
-            let (svg, ending) = draw_accepted(desk.chains(), failed, why);
-            write_picture(client, faults, &svg, &ending)
-        }
+        Ok(desk) => draw_held(desk.chains(), client, faults, failed, why),
         Err(fault) => {
             tell_unopened(faults, fault);
             3

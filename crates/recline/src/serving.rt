@@ -130,10 +130,12 @@ const NO_BUFFERS: i32 = 105;
 
 /// Why a service stops where it can take no client.
 fn stop_at(error: &io::Error) -> Stop {
-    if error.kind() == ErrorKind::OutOfMemory || error.raw_os_error() == Some(NO_BUFFERS) {
-        Stop::Memory
-    } else {
-        Stop::Device
+    if matches!(error.kind(), ErrorKind::OutOfMemory) {
+        return Stop::Memory;
+    }
+    match error.raw_os_error() {
+        Some(NO_BUFFERS) => Stop::Memory,
+        _ => Stop::Device,
     }
 }
 

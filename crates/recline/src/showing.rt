@@ -118,27 +118,44 @@ fn records_before(fault: DeskFault) -> Option<usize> {
     }
 }
 
-/// The first records of a file, so many, as they are shown: what stands behind them is its tail.
-fn first_text(alloc: Global, bytes: &[u8], count: usize, form: Form) -> Result<Vec<u8>, DeskFault> {
-    let Ok(copy) = first_records(alloc, bytes, count) else {
-        return Err(DeskFault::Memory);
-    };
-    let earlier: &[u8] = &copy;
-    let told = match facts(earlier) {
-        Ok(told) => told,
-        Err(fault) => return Err(fault_of(fault)),
-    };
-    let desk = match desk_of(alloc, earlier) {
-        Ok(desk) => desk,
-        Err(fault) => return Err(fault),
-    };
+/// What is shown of a copy of a file's first records, over which this desk was opened. So many bytes of the file stand behind them.
+fn copied_text(
+    alloc: Global,
+    copy: &[u8],
+    told: FileFacts,
+    tail: usize,
+    desk: &Desk<MemoryDisk>,
+    form: Form,
+) -> Result<Vec<u8>, DeskFault>
+    requires { IsDeskOf copy.now desk.now }
+{
     let facts = FileFacts {
         version: told.version,
         records: told.records,
-        tail: bytes.len().saturating_sub(earlier.len()),
+        tail,
     };
-    match text_of(alloc, earlier, facts, &desk, form) {
+    match text_of(alloc, copy, facts, desk, form) {
         Ok(text) => Ok(text),
+        Err(_) => Err(DeskFault::Memory),
+    }
+}
+
+/// What is shown of such a copy, over a desk of its own.
+fn text_of_copy(alloc: Global, copy: &[u8], tail: usize, form: Form) -> Result<Vec<u8>, DeskFault> {
+    let told = match facts(copy) {
+        Ok(told) => told,
+        Err(fault) => return Err(fault_of(fault)),
+    };
+    match desk_of(alloc, copy) {
+        Ok(desk) => copied_text(alloc, copy, told, tail, &desk, form),
+        Err(fault) => Err(fault),
+    }
+}
+
+/// The first records of a file, so many, as they are shown: what stands behind them is its tail.
+fn first_text(alloc: Global, bytes: &[u8], count: usize, form: Form) -> Result<Vec<u8>, DeskFault> {
+    match first_records(alloc, bytes, count) {
+        Ok(copy) => text_of_copy(alloc, &copy, bytes.len().saturating_sub(copy.len()), form),
         Err(_) => Err(DeskFault::Memory),
     }
 }

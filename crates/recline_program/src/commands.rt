@@ -8,13 +8,13 @@ use crate::files::{bytes_of, explain_disk, open_file, records_of};
 use crate::reporting::{ReportedDisk, ReportedListener, Reporter, tell_whys};
 use crate::telling::{Teller, Why};
 use client_link::{Link, Streams};
-use crossbeam_channel::{Sender, bounded};
+use crossbeam_channel::{Receiver, Sender, bounded};
 use line_disk::{FileDisk, Modelled, NullDisk};
 use recline::{
     Form, HandOn, Host, Question, ScriptForm, Service, ask_on, check_on, copy_of, draw_on,
     draw_records_on, run_handing_on, run_on, serve_on, show_front_on, show_on,
 };
-use std::alloc::AllocError;
+use std::alloc::{AllocError, Global};
 use std::io::{self, BufWriter};
 use std::net::{Ipv4Addr, SocketAddr, SocketAddrV4, TcpListener};
 use std::sync::Wait;
@@ -101,6 +101,23 @@ pub(crate) fn serve_over_file<T: Host, O: Link + Drop, F: Link + Drop>(
 /// So many bytes a line that says why has at most beside the path.
 const ROOM_BESIDE_PATH: usize = 256;
 
+/// What a service that tells why something fails has beside its disk and its listener.
+#[derive(Drop)]
+struct Explaining<T: Host> {
+    /// Hands over why the disk fails.
+    of_disk: Reporter<T>,
+    /// Hands over why the listener fails.
+    of_listener: Reporter<T>,
+    /// Where both come out.
+    told: Receiver<Why>,
+    /// Dropped when the service ends.
+    goes_on: Sender<()>,
+    /// Where that is seen.
+    going: Receiver<()>,
+    /// Room for a line that says why.
+    line: String,
+}
+
 /// Two reporters of one channel, if there is memory for them.
 fn reporters<T: Host>(threads: &T, whys: Sender<Why>) -> Option<(Reporter<T>, Reporter<T>)> {
     let more: Result<Sender<Why>, AllocError> = whys.clone();
@@ -111,6 +128,33 @@ fn reporters<T: Host>(threads: &T, whys: Sender<Why>) -> Option<(Reporter<T>, Re
             Some((Reporter::new(handle, whys), Reporter::new(another, more)))
         }
         _ => None,
+    }
+}
+
+/// Two reporters and the other end of their channel, if there is memory for them.
+fn reporters_with_end<T: Host>(
+    alloc: Global,
+    threads: &T,
+) -> Option<(Reporter<T>, Reporter<T>, Receiver<Why>)> {
+    let (whys, told) = bounded::<Why, _>(alloc, 2).ok()?;
+    let (of_disk, of_listener) = reporters(threads, whys)?;
+    Some((of_disk, of_listener, told))
+}
+
+impl<T: Host> Explaining<T> {
+    /// All of it, with room for lines that name this path, if there is memory for it.
+    fn new(alloc: Global, threads: &T, path: &str) -> Option<Explaining<T>> {
+        let line = String::with_capacity(alloc, path.len().saturating_add(ROOM_BESIDE_PATH)).ok()?;
+        let (goes_on, going) = bounded::<(), _>(alloc, 1).ok()?;
+        let (of_disk, of_listener, told) = reporters_with_end(alloc, threads)?;
+        Some(Explaining {
+            of_disk,
+            of_listener,
+            told,
+            goes_on,
+            going,
+            line,
+        })
     }
 }
 
@@ -127,20 +171,18 @@ fn serve_with_reasons<T: Host, O: Link + Drop, F: Link + Drop>(
     requires { IsService service }
 {
     let rt = teller.rt;
-    let alloc = rt.alloc();
+    let Some(explaining) = Explaining::new(rt.alloc(), threads, path) else {
+        return (teller.fault("memory"), output);
+    };
+    let Explaining {
+        of_disk,
+        of_listener,
+        told,
+        goes_on,
+        going,
+        line,
+    } = explaining;
     let errors = rt.stderr();
-    let Ok(line) = String::with_capacity(alloc, path.len().saturating_add(ROOM_BESIDE_PATH)) else {
-        return (teller.fault("memory"), output);
-    };
-    let (Ok((whys, told)), Ok((goes_on, going))) = (
-        bounded::<Why, _>(alloc, 2),
-        bounded::<(), _>(alloc, 1),
-    ) else {
-        return (teller.fault("memory"), output);
-    };
-    let Some((of_disk, of_listener)) = reporters(threads, whys) else {
-        return (teller.fault("memory"), output);
-    };
     let (disk, listener) = parts;
     let disk = ReportedDisk::new(disk, Some(of_disk));
     let listener = ReportedListener::new(listener, Some(of_listener));
@@ -307,7 +349,7 @@ pub(crate) struct Drawn<'a> {
 }
 
 /// Draws what the record file of this path keeps, or its first records.
-pub(crate) fn draw_file<K: Link, F: Link>(
+fn draw_file<K: Link, F: Link>(
     teller: Teller<'_>,
     path: &str,
     asked: Drawn<'_>,
@@ -325,7 +367,7 @@ pub(crate) fn draw_file<K: Link, F: Link>(
 }
 
 /// Draws the script that is read, of which no reasons and no front are shown.
-pub(crate) fn draw_script<K: Link, F: Link>(
+fn draw_script<K: Link, F: Link>(
     teller: Teller<'_>,
     asked: Drawn<'_>,
     client: &mut K,
@@ -341,4 +383,20 @@ pub(crate) fn draw_script<K: Link, F: Link>(
         form_of(asked.comments),
         asked.failed,
     )
+}
+
+/// Draws what the record file of this path keeps, where `records` says so, or else the script that is read.
+pub(crate) fn draw<K: Link, F: Link>(
+    teller: Teller<'_>,
+    path: &str,
+    records: bool,
+    asked: Drawn<'_>,
+    client: &mut K,
+    faults: &mut F,
+) -> u8 {
+    if records {
+        draw_file(teller, path, asked, client, faults)
+    } else {
+        draw_script(teller, asked, client, faults)
+    }
 }

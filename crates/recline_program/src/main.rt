@@ -7,11 +7,11 @@ mod reporting;
 mod streams;
 mod telling;
 
-use client_link::Streams;
+use client_link::{Link, Streams};
 use command_line::{Command, read_args};
 use commands::{
-    Drawn, ask_line, ask_over_file, check_over_file, draw_file, draw_script, form_of,
-    run_over_file, serve_over_file, show_file,
+    Drawn, ask_line, ask_over_file, check_over_file, draw, form_of, run_over_file, serve_over_file,
+    show_file,
 };
 use recline::{Form, Host, Question, drive_on, explain_on};
 use std::env;
@@ -31,71 +31,50 @@ fn words_of(rt: &HostRuntime) -> io::Result<Vec<String>> {
     Ok(words)
 }
 
-/// Does the command over this input and standard output, with threads where it serves clients. Fault lines are written through at once.
-fn act<T: Host, R: Read + Drop>(
+/// Does the command for this client, with threads where it serves others, and answers the status and the client.
+fn act<T: Host, K: Link + Drop, F: Link + Drop>(
     teller: Teller<'_>,
     threads: &T,
     command: Command<'_>,
-    input: Input<'_, R>,
-) -> u8 {
-    let rt = teller.rt;
-    let Ok(output) = BufWriter::new(rt.alloc(), Kept::new(rt.stdout())) else {
-        return teller.fault("memory");
-    };
-    let Ok(errors) = BufWriter::with_capacity(rt.alloc(), 0, rt.stderr()) else {
-        return teller.fault("memory");
-    };
-    let mut client = Streams::new(Kept::new(input), output);
-    let mut faults = Streams::new(io::empty(), errors);
-    let (status, client) = match command {
-        Command::Run { file } => (
-            run_over_file::<T, _, _>(teller, file, &mut client, &mut faults),
-            client,
-        ),
+    client: K,
+    faults: F,
+) -> (u8, K) {
+    let alloc = teller.rt.alloc();
+    let (mut client, mut faults) = (client, faults);
+    let status = match command {
+        Command::Run { file } => run_over_file::<T, _, _>(teller, file, &mut client, &mut faults),
         Command::Serve {
             file,
             port,
             sessions,
             workers,
             idle,
-        } => serve_over_file(
-            teller,
-            threads,
-            file,
-            port,
-            (sessions, workers, idle),
-            client,
-            faults,
-        ),
-        Command::Check { file, at, .. } => (
-            check_over_file::<T, _, _>(teller, file, at, &mut client, &mut faults),
-            client,
-        ),
-        Command::Line { file, names, at } => ask_line(teller, file, names, at, client, &mut faults),
-        Command::Garbage { file, at } => {
-            ask_over_file(teller, file, at, &Question::Garbage, client, &mut faults)
+        } => {
+            let numbers = (sessions, workers, idle);
+            return serve_over_file(teller, threads, file, port, numbers, client, faults);
         }
-        Command::Explain { .. } => (explain_on(rt.alloc(), &mut client, &mut faults), client),
-        Command::Drive { comments, .. } => (
-            drive_on(rt.alloc(), &mut client, &mut faults, form_of(comments)),
-            client,
-        ),
+        Command::Check { file, at, .. } => {
+            check_over_file::<T, _, _>(teller, file, at, &mut client, &mut faults)
+        }
+        Command::Line { file, names, at } => {
+            return ask_line(teller, file, names, at, client, &mut faults);
+        }
+        Command::Garbage { file, at } => {
+            return ask_over_file(teller, file, at, &Question::Garbage, client, &mut faults);
+        }
+        Command::Explain { .. } => explain_on(alloc, &mut client, &mut faults),
+        Command::Drive { comments, .. } => {
+            drive_on(alloc, &mut client, &mut faults, form_of(comments))
+        }
         Command::Show {
             file,
             at,
             reports,
             json,
-        } => (
-            show_file(
-                teller,
-                file,
-                at,
-                Form { reports, json },
-                &mut client,
-                &mut faults,
-            ),
-            client,
-        ),
+        } => {
+            let form = Form { reports, json };
+            show_file(teller, file, at, form, &mut client, &mut faults)
+        }
         Command::Draw {
             path,
             comments,
@@ -110,17 +89,18 @@ fn act<T: Host, R: Read + Drop>(
                 why,
                 at,
             };
-            let status = if records {
-                draw_file(teller, path, asked, &mut client, &mut faults)
-            } else {
-                draw_script(teller, asked, &mut client, &mut faults)
-            };
-            (status, client)
+            draw(teller, path, records, asked, &mut client, &mut faults)
         }
     };
-    let (input, output) = client.into_inner();
-    // What could not be handed on is not tried once more, as it would be where the buffer is dropped.
-    let (output, _unwritten) = output.into_parts();
+    (status, client)
+}
+
+/// Says why the input or standard output failed, if one did and where that is asked for.
+fn explain_streams<R: Read + Drop, W: Drop>(
+    teller: Teller<'_>,
+    input: &Kept<Input<'_, R>>,
+    output: &Kept<W>,
+) {
     if let Some(error) = input.error {
         let (doing, name) = input.stream.failed_call();
         teller.explain(Reason::Cannot { doing, name, error });
@@ -132,6 +112,29 @@ fn act<T: Host, R: Read + Drop>(
             error,
         });
     }
+}
+
+/// Does the command over this input and standard output. Fault lines are written through at once.
+fn act_over<T: Host, R: Read + Drop>(
+    teller: Teller<'_>,
+    threads: &T,
+    command: Command<'_>,
+    input: Input<'_, R>,
+) -> u8 {
+    let rt = teller.rt;
+    let Ok(output) = BufWriter::new(rt.alloc(), Kept::new(rt.stdout())) else {
+        return teller.fault("memory");
+    };
+    let Ok(errors) = BufWriter::with_capacity(rt.alloc(), 0, rt.stderr()) else {
+        return teller.fault("memory");
+    };
+    let client = Streams::new(Kept::new(input), output);
+    let faults = Streams::new(io::empty(), errors);
+    let (status, client) = act(teller, threads, command, client, faults);
+    let (input, output) = client.into_inner();
+    // What could not be handed on is not tried once more, as it would be where the buffer is dropped.
+    let (output, _unwritten) = output.into_parts();
+    explain_streams(teller, &input, &output);
     status
 }
 
@@ -146,7 +149,7 @@ fn do_words<T: Host>(rt: &HostRuntime, threads: &T) -> u8 {
         Err(error) => return teller.unread(&error),
     };
     match read_args(rt.alloc(), &words) {
-        Ok(wanted) => act(
+        Ok(wanted) => act_over(
             Teller {
                 rt,
                 explains: wanted.explain,

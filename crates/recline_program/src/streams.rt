@@ -146,7 +146,7 @@ impl<S: Drop> Kept<S> {
 
     /// Keeps why a call failed, if it is the first that did. A call that was interrupted is made once more.
     fn keep(&mut self, error: io::Error) {
-        if self.error.is_none() && error.kind() != io::ErrorKind::Interrupted {
+        if self.error.is_none() && !matches!(error.kind(), io::ErrorKind::Interrupted) {
             self.error = Some(error);
         }
     }

@@ -156,7 +156,7 @@ impl<'a> Teller<'a> {
 
     /// Says why the words cannot be read, and answers the status.
     pub(crate) fn unread(self, error: &io::Error) -> u8 {
-        if error.kind() != io::ErrorKind::InvalidData {
+        if !matches!(error.kind(), io::ErrorKind::InvalidData) {
             return self.fault("memory");
         }
         self.misused("a word of the command line is not UTF-8")

@@ -26,6 +26,46 @@ fn put_children(alloc: Global, out: &mut Vec<u8>, count: u32) -> Result<(), Allo
     Ok(())
 }
 
+// A child forks the next of its line and retires into the root.
+fn put_succession(
+    alloc: Global,
+    out: &mut Vec<u8>,
+    child: u32,
+    generation: u32,
+    next: u32,
+) -> Result<(), AllocError> {
+    let lines = format!(in alloc;
+        "fork c{child}g{generation} c{child}g{next}\ncheck c{child}g{next}\nretire c{child}g{generation} r\nabsorb r c{child}g{generation}\n"
+    )?;
+    put_text(out, &lines)
+}
+
+// The root hears from a child, which is presented then.
+fn put_hearing(
+    alloc: Global,
+    out: &mut Vec<u8>,
+    child: u32,
+    generation: u32,
+) -> Result<(), AllocError> {
+    let lines = format!(in alloc;
+        "send c{child}g{generation} h{child}g{generation}\nreceive r h{child}g{generation}\ncheck r\npresent c{child}g{generation}\n"
+    )?;
+    put_text(out, &lines)
+}
+
+// The root tells another child what it heard from this one.
+fn put_telling(
+    alloc: Global,
+    out: &mut Vec<u8>,
+    (child, generation): (u32, u32),
+    (other, told): (u32, u32),
+) -> Result<(), AllocError> {
+    let lines = format!(in alloc;
+        "send r t{child}g{generation}\nreceive c{other}g{told} t{child}g{generation}\ncheck c{other}g{told}\n"
+    )?;
+    put_text(out, &lines)
+}
+
 // A child forks the next of its line and retires into the root, which hears of the next one and tells another line.
 fn put_successor(
     alloc: Global,
@@ -35,19 +75,10 @@ fn put_successor(
     other: u32,
 ) -> Result<(), AllocError> {
     let next = generation.wrapping_add(1);
-    let birth = format!(in alloc;
-        "fork c{child}g{generation} c{child}g{next}\ncheck c{child}g{next}\nretire c{child}g{generation} r\nabsorb r c{child}g{generation}\n"
-    )?;
-    put_text(out, &birth)?;
-    let hears = format!(in alloc;
-        "send c{child}g{next} h{child}g{next}\nreceive r h{child}g{next}\ncheck r\npresent c{child}g{next}\n"
-    )?;
-    put_text(out, &hears)?;
+    put_succession(alloc, out, child, generation, next)?;
+    put_hearing(alloc, out, child, next)?;
     let told = if other > child { generation } else { next };
-    let tells = format!(in alloc;
-        "send r t{child}g{next}\nreceive c{other}g{told} t{child}g{next}\ncheck c{other}g{told}\n"
-    )?;
-    put_text(out, &tells)
+    put_telling(alloc, out, (child, next), (other, told))
 }
 
 /// A family whose root forks so many children, each of which begins a line of so many generations that retire into the root.

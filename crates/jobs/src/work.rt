@@ -68,6 +68,14 @@ fn plan(processes: u32, family: Family, ways: Ways, messages: u32) -> Result<Pla
     })
 }
 
+// The certificate that the last of these replies tells.
+fn told_in(replies: &[u8]) -> Result<&[u8]> {
+    match certificate_in(replies) {
+        Some(certificate) => Ok(certificate),
+        None => bail!("no line was answered"),
+    }
+}
+
 impl Bench {
     // The script of a plan.
     fn script_of(&mut self, plan: &Plan) -> Result<Vec<u8>> {
@@ -84,11 +92,16 @@ impl Bench {
         run(self.alloc, &mut self.digest, lines)
     }
 
+    // Draws how much longer the root works at its beginning in the variant of this number.
+    fn draw_more(&mut self, number: u32) -> u32 {
+        number
+            .saturating_mul(1_000)
+            .saturating_add(self.random.up_to(999))
+    }
+
     // Report lines where the root of these worked longer at its beginning, by the number of a variant.
     fn variant(&mut self, lines: &[u8], number: u32) -> Result<Vec<u8>> {
-        let more = number
-            .saturating_mul(1_000)
-            .saturating_add(self.random.up_to(999));
+        let more = self.draw_more(number);
         Ok(later(self.alloc, lines, more)?)
     }
 
@@ -195,33 +208,48 @@ impl Bench {
         self.settle(1_000, Ways::Groups, 500, 100)
     }
 
-    // A certificate is checked over records, and a wrong one.
-    fn check_both(&mut self, lines: &[u8], replies: &[u8]) -> Result<()> {
+    // A certificate is checked over the records of these lines, and a wrong one.
+    fn check_both(&mut self, lines: &[u8], certificate: &[u8]) -> Result<()> {
         let records = records_of(self.alloc, lines)?;
-        let Some(certificate) = certificate_in(replies) else {
-            bail!("no line was answered");
-        };
         check(self.alloc, &mut self.digest, &records, certificate)?;
         let wrong = changed(self.alloc, certificate)?;
         check(self.alloc, &mut self.digest, &records, &wrong)
     }
 
+    // The same over the lines of another computation, whose root worked so much longer.
+    fn check_later(&mut self, lines: &[u8], more: u32, certificate: &[u8]) -> Result<()> {
+        let other = later(self.alloc, lines, more)?;
+        self.check_both(&other, certificate)
+    }
+
+    // The replies to these lines and to so many questions behind them.
+    fn replies_behind(
+        &mut self,
+        lines: &[u8],
+        processes: NonZeroU32,
+        questions: NonZeroU32,
+    ) -> Result<Vec<u8>> {
+        let mut asked = Vec::from_slice(self.alloc, lines)?;
+        put_questions(
+            self.alloc,
+            &mut asked,
+            &mut self.random,
+            processes,
+            questions,
+        )?;
+        self.run(&asked)
+    }
+
     // The reports of one computation tell of a line, and its certificate is checked over those of two others.
     fn check_records(&mut self, processes: u32, ways: Ways, messages: u32) -> Result<()> {
         let plan = plan(processes, Family::Halves, ways, messages)?;
-        let mut lines = self.lines_of(&plan)?;
-        let first = self.variant(&lines, 1)?;
-        let second = self.variant(&lines, 2)?;
-        put_questions(
-            self.alloc,
-            &mut lines,
-            &mut self.random,
-            plan.processes,
-            count(1)?,
-        )?;
-        let replies = self.run(&lines)?;
-        self.check_both(&first, &replies)?;
-        self.check_both(&second, &replies)
+        let lines = self.lines_of(&plan)?;
+        // Both are drawn in front of the questions, as digests go by that order.
+        let (first, second) = (self.draw_more(1), self.draw_more(2));
+        let replies = self.replies_behind(&lines, plan.processes, count(1)?)?;
+        let certificate = told_in(&replies)?;
+        self.check_later(&lines, first, certificate)?;
+        self.check_later(&lines, second, certificate)
     }
 
     fn check_certificates(&mut self) -> Result<()> {
@@ -281,21 +309,22 @@ impl Bench {
         question_for_processes(self.alloc, &mut lines, processes)?;
         lines.extend_from_slice(b"LINE p0\n")?;
         let replies = self.run(&lines)?;
-        let Some(certificate) = certificate_in(&replies) else {
-            bail!("no line was answered");
-        };
+        let certificate = told_in(&replies)?;
         check(self.alloc, &mut self.digest, &records, certificate)?;
         self.refuse_all(&records, certificate)
     }
 
-    // A certificate with an unknown name at its end, with a byte that no text has, and cut short.
+    // A certificate is refused where `to` stands in place of its last `from`.
+    fn refuse_with(&mut self, records: &[u8], certificate: &[u8], from: u8, to: u8) -> Result<()> {
+        let other = with_last(self.alloc, certificate, from, to)?;
+        refuse(self.alloc, &mut self.digest, records, &other)
+    }
+
+    // A certificate is refused with an unknown name at its end, with a byte that no text has, and cut short.
     fn refuse_all(&mut self, records: &[u8], certificate: &[u8]) -> Result<()> {
-        let unknown = with_last(self.alloc, certificate, b'p', b'z')?;
-        refuse(self.alloc, &mut self.digest, records, &unknown)?;
-        let foreign = with_last(self.alloc, certificate, b'p', 255)?;
-        refuse(self.alloc, &mut self.digest, records, &foreign)?;
-        let short = with_last(self.alloc, certificate, b'}', b' ')?;
-        refuse(self.alloc, &mut self.digest, records, &short)
+        self.refuse_with(records, certificate, b'p', b'z')?;
+        self.refuse_with(records, certificate, b'p', 255)?;
+        self.refuse_with(records, certificate, b'}', b' ')
     }
 
     fn do_families(&mut self) -> Result<()> {

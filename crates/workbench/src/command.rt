@@ -51,37 +51,63 @@ pub enum Stream {
     Script { processes: NonZeroU32, turns: u32 },
 }
 
+// The tool that is named by one word alone.
+fn tool_of(tool: &str) -> Option<Command<'_>> {
+    match tool {
+        "session" => Some(Command::Session),
+        "clocks" => Some(Command::Clocks),
+        "certificate" => Some(Command::Certificate),
+        "calls" => Some(Command::Calls),
+        "world" => Some(Command::World),
+        _ => None,
+    }
+}
+
+// The tool that takes this word.
+fn tool_by_one<'a>(tool: &str, word: &'a str) -> Option<Command<'a>> {
+    match tool {
+        "passes" => Some(Command::Passes(number_of(word)?)),
+        "workers" => Some(Command::Workers(count_of(word)?)),
+        "served" => Some(Command::Served(word)),
+        "shared" => Some(Command::Shared(word)),
+        _ => None,
+    }
+}
+
+// The tool that takes these two words.
+fn tool_by_two<'a>(tool: &str, one: &'a str, other: &'a str) -> Option<Command<'a>> {
+    match tool {
+        "gate" => Some(Command::Gate {
+            workers: count_of(one)?,
+            place: place_of(other)?,
+        }),
+        "table" => Some(Command::Table {
+            workers: count_of(one)?,
+            place: place_of(other)?,
+        }),
+        "failing" => Some(Command::Failing {
+            call: number_of(one)?,
+            effect: effect_of(other)?,
+        }),
+        "steps" => Some(Command::Steps {
+            processes: count_of(one)?,
+            turns: number_of(other)?,
+        }),
+        _ => None,
+    }
+}
+
 /// What the words ask for, of which the first is the program's name; nothing, where they are no command.
 pub fn read(words: &[String]) -> Option<Command<'_>> {
     let (_program, words) = words.split_first()?;
     let (tool, rest) = words.split_first()?;
-    match (tool.as_str(), rest) {
-        ("session", []) => Some(Command::Session),
-        ("clocks", []) => Some(Command::Clocks),
-        ("certificate", []) => Some(Command::Certificate),
-        ("calls", []) => Some(Command::Calls),
-        ("passes", [count]) => Some(Command::Passes(number_of(count.as_str())?)),
-        ("gate", [workers, place]) => Some(Command::Gate {
-            workers: count_of(workers.as_str())?,
-            place: place_of(place.as_str())?,
-        }),
-        ("workers", [most]) => Some(Command::Workers(count_of(most.as_str())?)),
-        ("table", [workers, place]) => Some(Command::Table {
-            workers: count_of(workers.as_str())?,
-            place: place_of(place.as_str())?,
-        }),
-        ("served", [path]) => Some(Command::Served(path.as_str())),
-        ("shared", [path]) => Some(Command::Shared(path.as_str())),
-        ("failing", [call, effect]) => Some(Command::Failing {
-            call: number_of(call.as_str())?,
-            effect: effect_of(effect.as_str())?,
-        }),
-        ("world", []) => Some(Command::World),
-        ("steps", [processes, turns]) => Some(Command::Steps {
-            processes: count_of(processes.as_str())?,
-            turns: number_of(turns.as_str())?,
-        }),
-        ("traffic", rest) => Some(Command::Traffic(stream_of(rest)?)),
+    if tool.as_str() == "traffic" {
+        return Some(Command::Traffic(stream_of(rest)?));
+    }
+    match rest {
+        [] => tool_of(tool.as_str()),
+        [word] => tool_by_one(tool.as_str(), word.as_str()),
+        [one, other] => tool_by_two(tool.as_str(), one.as_str(), other.as_str()),
         _ => None,
     }
 }

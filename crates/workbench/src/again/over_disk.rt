@@ -31,6 +31,26 @@ fn desk_over<D: Disk + Drop, W: Write>(alloc: Global, disk: D, out: &mut W) -> R
     }
 }
 
+// A coordinator of the desk at the second try, with so many threads for a line.
+fn coordinator_again<L: Ledger, D: Disk + Drop, W: Write>(
+    alloc: Global,
+    blank: Blank,
+    desk: Desk<D>,
+    workers: usize,
+    out: &mut W,
+) -> Result<Coordinator<L, D>>
+    requires name { blank.name ≡ L.name }
+    requires parts { (blank.parts ≡ L.parts) × (blank.parts ≡ ledger_parts) }
+    requires fresh { desk.turns ≡ [] }
+    requires workers { (0 < workers) × (workers ≤ 64) }
+{
+    put_again(out, b"new")?;
+    match Coordinator::with_workers(alloc, blank, desk, workers) {
+        Ok(coordinator) => Ok(coordinator),
+        Err(_) => Err(Error::from(CallFault::Memory)),
+    }
+}
+
 // A coordinator of the desk, with so many threads for a line.
 fn coordinator_of<L: Ledger, D: Disk + Drop, W: Write>(
     alloc: Global,
@@ -44,14 +64,9 @@ fn coordinator_of<L: Ledger, D: Disk + Drop, W: Write>(
     requires fresh { desk.turns ≡ [] }
     requires workers { (0 < workers) × (workers ≤ 64) }
 {
-    let (blank, desk) = match Coordinator::with_workers(alloc, blank, desk, workers) {
-        Ok(coordinator) => return Ok(coordinator),
-        Err(Refused { blank, desk }) => (blank, desk),
-    };
-    put_again(out, b"new")?;
     match Coordinator::with_workers(alloc, blank, desk, workers) {
         Ok(coordinator) => Ok(coordinator),
-        Err(_) => Err(Error::from(CallFault::Memory)),
+        Err(Refused { blank, desk }) => coordinator_again(alloc, blank, desk, workers, out),
     }
 }
 
@@ -72,23 +87,12 @@ pub fn coordinator_over<L: Ledger, D: Disk + Drop, W: Write>(
     coordinator_of(alloc, blank, desk, workers, out)
 }
 
-// Closes the coordinator.
-fn close<L: Ledger, D: Disk + Drop, W: Write>(
+// Closes the coordinator at the second try.
+fn close_again<L: Ledger, D: Disk + Drop, W: Write>(
     coordinator: Coordinator<L, D>,
     passes: Vec<Pass<L>>,
     out: &mut W,
 ) -> Result<Ended<D>> {
-    let (coordinator, passes) = match coordinator.close(passes) {
-        Ok(ended) => return Ok(ended),
-        Err(
-            Unclosed {
-                fault: CloseFault::Memory,
-                coordinator,
-                passes,
-            },
-        ) => (coordinator, passes),
-        Err(unclosed) => return Err(Error::from(unclosed.fault)),
-    };
     put_again(out, b"close")?;
     match coordinator.close(passes) {
         Ok(ended) => Ok(ended),
@@ -96,13 +100,42 @@ fn close<L: Ledger, D: Disk + Drop, W: Write>(
     }
 }
 
+// Closes the coordinator.
+fn close<L: Ledger, D: Disk + Drop, W: Write>(
+    coordinator: Coordinator<L, D>,
+    passes: Vec<Pass<L>>,
+    out: &mut W,
+) -> Result<Ended<D>> {
+    match coordinator.close(passes) {
+        Ok(ended) => Ok(ended),
+        Err(
+            Unclosed {
+                fault: CloseFault::Memory,
+                coordinator,
+                passes,
+            },
+        ) => close_again(coordinator, passes, out),
+        Err(unclosed) => Err(Error::from(unclosed.fault)),
+    }
+}
+
+// Writes how many turns there were, and the front at the end.
+fn put_counts<W: Write>(alloc: Global, turns: u32, front: u32, out: &mut W) -> Result<()> {
+    let text = format!(in alloc; "TURNS {turns}\nENDED {front}\n")?;
+    Ok(out.write_all(text.as_bytes())?)
+}
+
+// The front of a desk that is opened over the disk.
+fn front_over<D: Disk + Drop, W: Write>(alloc: Global, disk: D, out: &mut W) -> Result<u32> {
+    let desk = desk_over(alloc, disk, out)?;
+    Ok(desk.front())
+}
+
 // Writes how many turns there were, the front at the end, and that of a desk that is opened over the disk.
 fn put_end<D: Disk + Drop, W: Write>(alloc: Global, ended: Ended<D>, out: &mut W) -> Result<()> {
     let Ended { disk, front, turns } = ended;
-    let text = format!(in alloc; "TURNS {turns}\nENDED {front}\n")?;
-    out.write_all(text.as_bytes())?;
-    let desk = desk_over(alloc, disk, out)?;
-    let opened = desk.front();
+    put_counts(alloc, turns, front, out)?;
+    let opened = front_over(alloc, disk, out)?;
     let text = format!(in alloc; "OPENED {opened}\n")?;
     Ok(out.write_all(text.as_bytes())?)
 }

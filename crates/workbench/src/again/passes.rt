@@ -73,6 +73,32 @@ fn close_short<L: Ledger, W: Write>(
     Ok(Some((coordinator, passes)))
 }
 
+// Closes the coordinator with this pass, too.
+fn close_with<L: Ledger, W: Write>(
+    coordinator: Coordinator<L, MemoryDisk>,
+    mut passes: Vec<Pass<L>>,
+    last: Pass<L>,
+    out: &mut W,
+) -> Result<()> {
+    passes.push(last)?;
+    put_closed(coordinator, passes, out)
+}
+
+// Closes the coordinator without this pass, and then with it.
+fn close_without<L: Ledger, W: Write>(
+    alloc: Global,
+    coordinator: Coordinator<L, MemoryDisk>,
+    passes: Vec<Pass<L>>,
+    last: Pass<L>,
+    out: &mut W,
+) -> Result<()> {
+    put_number(alloc, "PASS", u64::from(last.number()), out)?;
+    match close_short(alloc, coordinator, passes, out)? {
+        Some((coordinator, passes)) => close_with(coordinator, passes, last, out),
+        None => Ok(()),
+    }
+}
+
 // Closes the coordinator without its last pass, and then with it.
 fn close_twice<L: Ledger, W: Write>(
     alloc: Global,
@@ -80,15 +106,10 @@ fn close_twice<L: Ledger, W: Write>(
     mut passes: Vec<Pass<L>>,
     out: &mut W,
 ) -> Result<()> {
-    let Some(last) = passes.pop() else {
-        return Ok(());
-    };
-    put_number(alloc, "PASS", u64::from(last.number()), out)?;
-    let Some((coordinator, mut passes)) = close_short(alloc, coordinator, passes, out)? else {
-        return Ok(());
-    };
-    passes.push(last)?;
-    put_closed(coordinator, passes, out)
+    match passes.pop() {
+        Some(last) => close_without(alloc, coordinator, passes, last, out),
+        None => Ok(()),
+    }
 }
 
 // Takes so many passes of a coordinator of its own, and closes it.

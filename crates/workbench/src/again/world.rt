@@ -102,19 +102,29 @@ fn take<W: Write>(
     step(world, line, out)
 }
 
-// Writes a report, if there is one.
+// Writes a report.
+fn put_packed<W: Write>(
+    alloc: Global,
+    epoch: u32,
+    report: &PackedReport,
+    out: &mut W,
+) -> Result<()> {
+    let mut text = write_marked(alloc, epoch, report)?;
+    text.push(b'\n')?;
+    Ok(out.write_all(&text)?)
+}
+
+// The same, if there is one.
 fn put_report<W: Write>(
     alloc: Global,
     epoch: u32,
     report: Option<Report>,
     out: &mut W,
 ) -> Result<()> {
-    let Some(report) = report else {
-        return Ok(());
-    };
-    let mut text = write_marked(alloc, epoch, &PackedReport::of(report))?;
-    text.push(b'\n')?;
-    Ok(out.write_all(&text)?)
+    match report {
+        Some(report) => put_packed(alloc, epoch, &PackedReport::of(report), out),
+        None => Ok(()),
+    }
 }
 
 // The world goes on by these lines.
@@ -126,6 +136,13 @@ fn go_on<W: Write>(alloc: Global, world: &mut World, lines: &[&str], out: &mut W
     Ok(())
 }
 
+// A world that the first line begins goes on by the others.
+fn drive<W: Write>(alloc: Global, first: &str, lines: &[&str], out: &mut W) -> Result<()> {
+    let (mut world, report) = begin(alloc, first, out)?;
+    put_report(alloc, 0, Some(report), out)?;
+    go_on(alloc, &mut world, lines, out)
+}
+
 /// Drives a world by the lines of standard input, and writes its reports. The first line begins the world as that of a script does, and
 /// the others are steps of scripts, or `return F NAME POSITION NAME POSITION ..`, by which it settles on this line where F failed.
 pub fn drive_all(rt: &HostRuntime) -> Result<()> {
@@ -133,11 +150,8 @@ pub fn drive_all(rt: &HostRuntime) -> Result<()> {
     let mut input = String::new(alloc);
     rt.reader().read_to_string(&mut input)?;
     let lines: Vec<&str> = input.lines().collect(alloc)?;
-    let Some((first, lines)) = lines.split_first() else {
-        return Ok(());
-    };
-    let mut out = rt.stdout();
-    let (mut world, report) = begin(alloc, first, &mut out)?;
-    put_report(alloc, 0, Some(report), &mut out)?;
-    go_on(alloc, &mut world, lines, &mut out)
+    match lines.split_first() {
+        Some((first, lines)) => drive(alloc, first, lines, &mut rt.stdout()),
+        None => Ok(()),
+    }
 }

@@ -147,16 +147,34 @@ fn put_closed(held: &mut Held, out: &mut Vec<u8>) -> Result<(), AllocError> {
     out.extend_from_slice(b"closed")
 }
 
+// Whether the words are a call on the disk, by the first of them.
+fn is_call(words: &[&str]) -> bool {
+    match *words {
+        [word, ..] => matches!(
+            word,
+            "disk" | "open" | "close" | "fail" | "file" | "calls" | "stop"
+        ),
+        [] => false,
+    }
+}
+
+// Answers such a call.
+fn put_call(held: &mut Held, words: &[&str], out: &mut Vec<u8>) -> Result<(), AllocError> {
+    match *words {
+        ["disk"] => put_disk(held, "", out),
+        ["disk", bytes] => put_disk(held, bytes, out),
+        ["open"] => put_opened(held, out),
+        ["close"] => put_closed(held, out),
+        ["fail" | "file" | "calls" | "stop", ..] => put_of(held, words, out),
+        _ => put_no_call(out),
+    }
+}
+
 /// Answers a call on the disk; whether the words are one.
 pub fn answer(held: &mut Held, words: &[&str], out: &mut Vec<u8>) -> Result<bool, AllocError> {
-    match *words {
-        ["disk"] => put_disk(held, "", out)?,
-        ["disk", bytes] => put_disk(held, bytes, out)?,
-        ["open"] => put_opened(held, out)?,
-        ["close"] => put_closed(held, out)?,
-        ["fail" | "file" | "calls" | "stop", ..] => put_of(held, words, out)?,
-        ["disk" | "open" | "close", ..] => put_no_call(out)?,
-        _ => return Ok(false),
+    if !is_call(words) {
+        return Ok(false);
     }
+    put_call(held, words, out)?;
     Ok(true)
 }

@@ -51,16 +51,12 @@ impl Held {
     /// Opens a desk over the disk, behind the end of one that is open. Answers the fault where none was opened.
     pub fn open(&mut self, alloc: Global) -> Result<Option<DeskFault>, AllocError> {
         let held = self.take(alloc)?;
-        match opened(alloc, held) {
-            Ok(desk) => {
-                *self = Held::Open(desk);
-                Ok(None)
-            }
-            Err((fault, disk)) => {
-                *self = Held::Closed(disk);
-                Ok(Some(fault))
-            }
-        }
+        let (held, fault) = match opened(alloc, held) {
+            Ok(desk) => (Held::Open(desk), None),
+            Err((fault, disk)) => (Held::Closed(disk), Some(fault)),
+        };
+        *self = held;
+        Ok(fault)
     }
 
     /// Closes the desk, if one is open.

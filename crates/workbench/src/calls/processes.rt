@@ -179,11 +179,11 @@ fn put_rounds<'a>(
 // Whether the place knows the process after the position.
 fn put_whether_knowing<'a>(
     chains: &Chains,
-    place: Place,
-    process: &'a str,
-    position: &'a str,
+    (knowing, place): (&'a str, &'a str),
+    (process, position): (&'a str, &'a str),
     out: &mut Vec<u8>,
 ) -> Result<(), WordFault<'a>> {
+    let place = place_of(chains, knowing, place)?;
     let known = place_of(chains, process, position)?;
     put_whether(knows(chains, place, known.process, known.position), out)?;
     Ok(())
@@ -191,10 +191,11 @@ fn put_whether_knowing<'a>(
 
 fn put_need<'a>(
     chains: &Chains,
-    place: Place,
+    (needing, place): (&'a str, &'a str),
     process: &'a str,
     out: &mut Vec<u8>,
 ) -> Result<(), WordFault<'a>> {
+    let place = place_of(chains, needing, place)?;
     let process = process_of(chains, process)?;
     put_number(need(chains, place, process), out)?;
     Ok(())
@@ -203,11 +204,12 @@ fn put_need<'a>(
 // One more than the last element of the process from `from` on and below `to` that the place knows.
 fn put_last_known<'a>(
     chains: &Chains,
-    place: Place,
+    (knowing, place): (&'a str, &'a str),
     process: &'a str,
     (from, to): (&'a str, &'a str),
     out: &mut Vec<u8>,
 ) -> Result<(), WordFault<'a>> {
+    let place = place_of(chains, knowing, place)?;
     let process = process_of(chains, process)?;
     let (from, to) = (number_of(from)?, number_of(to)?);
     put_number(last_known(chains, place, process, from, to), out)?;
@@ -224,16 +226,11 @@ fn put_call<'a>(
         ["last_surviving", process, failed] => put_last_surviving(chains, process, failed, out)?,
         ["rounds", failed] => put_rounds(chains, failed, out)?,
         ["knows", process, position, other, after] => {
-            let place = place_of(chains, process, position)?;
-            put_whether_knowing(chains, place, other, after, out)?
+            put_whether_knowing(chains, (process, position), (other, after), out)?
         }
-        ["need", process, position, other] => {
-            let place = place_of(chains, process, position)?;
-            put_need(chains, place, other, out)?
-        }
+        ["need", process, position, other] => put_need(chains, (process, position), other, out)?,
         ["last_known", process, position, other, from, to] => {
-            let place = place_of(chains, process, position)?;
-            put_last_known(chains, place, other, (from, to), out)?
+            put_last_known(chains, (process, position), other, (from, to), out)?
         }
         _ => return Ok(false),
     }

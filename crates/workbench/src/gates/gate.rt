@@ -121,18 +121,30 @@ impl HeldGate {
         }
     }
 
-    /// Writes what was counted.
-    pub fn put<W: Write>(&self, alloc: Global, out: &mut W) -> Result<()> {
-        let lines = self.lines.load(Ordering::SeqCst);
-        let pass = self.pass.load(Ordering::SeqCst);
+    // Writes how many runs there were.
+    fn put_runs<W: Write>(&self, alloc: Global, out: &mut W) -> Result<()> {
         let first = self.first.load(Ordering::SeqCst);
         let second = self.second.load(Ordering::SeqCst);
         let third = self.third.load(Ordering::SeqCst);
         let later = self.later.load(Ordering::SeqCst);
+        let text = format!(in alloc; " RUNS {first} {second} {third} {later}")?;
+        Ok(out.write_all(text.as_bytes())?)
+    }
+
+    // Writes how many lines there were, and the pass of the last one.
+    fn put_lines<W: Write>(&self, alloc: Global, out: &mut W) -> Result<()> {
+        let lines = self.lines.load(Ordering::SeqCst);
+        let pass = self.pass.load(Ordering::SeqCst);
+        let text = format!(in alloc; "LINES {lines} LAST {pass}")?;
+        Ok(out.write_all(text.as_bytes())?)
+    }
+
+    /// Writes what was counted.
+    pub fn put<W: Write>(&self, alloc: Global, out: &mut W) -> Result<()> {
+        self.put_lines(alloc, out)?;
+        self.put_runs(alloc, out)?;
         let late = self.late.load(Ordering::SeqCst);
-        let text = format!(in alloc;
-            "LINES {lines} LAST {pass} RUNS {first} {second} {third} {later} LATE {late}\n"
-        )?;
+        let text = format!(in alloc; " LATE {late}\n")?;
         Ok(out.write_all(text.as_bytes())?)
     }
 }

@@ -188,6 +188,20 @@ fn put_both<L: Ledger + Send + Sync, R: Threads + Wait + Sync, W: Write>(
     put_client(passes, third, out)
 }
 
+// The same at a gate of their own, and what that counted.
+fn put_gated<L: Ledger + Send + Sync, R: Threads + Wait + Sync, W: Write>(
+    rt: &R,
+    coordinator: &Coordinator<L, MemoryDisk>,
+    place: Place,
+    texts: &Texts<'_>,
+    passes: &mut Vec<Pass<L>>,
+    out: &mut W,
+) -> Result<()> {
+    let gate = HeldGate::new(place);
+    put_both(rt, coordinator, &gate, texts, passes, out)?;
+    gate.put(coordinator.alloc(), out)
+}
+
 // Serves three clients; answers their passes.
 fn serve_all<L: Ledger + Send + Sync, R: Threads + Wait + Sync, W: Write>(
     rt: &R,
@@ -196,11 +210,9 @@ fn serve_all<L: Ledger + Send + Sync, R: Threads + Wait + Sync, W: Write>(
     texts: &Texts<'_>,
     out: &mut W,
 ) -> Result<Vec<Pass<L>>> {
-    let gate = HeldGate::new(place);
     let mut passes = Vec::new(coordinator.alloc());
     put_first(rt, coordinator, texts.first, &mut passes, out)?;
-    put_both(rt, coordinator, &gate, texts, &mut passes, out)?;
-    gate.put(coordinator.alloc(), out)?;
+    put_gated(rt, coordinator, place, texts, &mut passes, out)?;
     Ok(passes)
 }
 

@@ -75,6 +75,19 @@ fn put_table<R: Threads + Sync, W: Write>(
     Ok(())
 }
 
+// The same by a gate of its own, and what that counted.
+fn put_gated<R: Threads + Sync, W: Write>(
+    rt: &R,
+    chains: &Chains,
+    workers: NonZeroU32,
+    place: Place,
+    out: &mut W,
+) -> Result<()> {
+    let gate = HeldGate::new(place);
+    put_table(rt, chains, workers.get().min(64) as usize, &gate, out)?;
+    gate.put(chains.alloc(), out)
+}
+
 /// Makes the table of needs of the reports on standard input by so many threads, 64 at most, of which the first two wait for each other where
 /// that is wanted. Writes a line for each element, processes and elements by their numbers, with what it needs of each process, and what the
 /// gate counted.
@@ -84,18 +97,8 @@ pub fn answer_all<T: Threads + Sync>(
     workers: NonZeroU32,
     place: Place,
 ) -> Result<()> {
-    let alloc = rt.alloc();
-    let mut input = Vec::new(alloc);
+    let mut input = Vec::new(rt.alloc());
     rt.reader().read_to_end(&mut input)?;
-    let chains = chains_of(alloc, &input);
-    let gate = HeldGate::new(place);
-    let mut out = rt.stdout();
-    put_table(
-        threads,
-        &chains,
-        workers.get().min(64) as usize,
-        &gate,
-        &mut out,
-    )?;
-    gate.put(alloc, &mut out)
+    let chains = chains_of(rt.alloc(), &input);
+    put_gated(threads, &chains, workers, place, &mut rt.stdout())
 }

@@ -127,6 +127,38 @@ fn both<'t, 'm>(
     Ok(links)
 }
 
+// Serves the client that is served alone, and then the other two.
+fn put_links<L: Ledger + Send + Sync, R: Threads + Wait + Sync, W: Write>(
+    rt: &R,
+    coordinator: &Coordinator<L, MemoryDisk>,
+    texts: &Texts<'_>,
+    most: usize,
+    meeting: &Meeting,
+    passes: &mut Vec<Pass<L>>,
+    out: &mut W,
+) -> Result<()> {
+    let links = alone(coordinator.alloc(), texts, most, meeting)?;
+    put_served(rt, coordinator, links, passes, out)?;
+    let links = both(coordinator.alloc(), texts, most, meeting)?;
+    put_served(rt, coordinator, links, passes, out)
+}
+
+// The same by a meeting of their own, and how many waited in vain.
+fn put_meeting<L: Ledger + Send + Sync, R: Threads + Wait + Sync, W: Write>(
+    rt: &R,
+    coordinator: &Coordinator<L, MemoryDisk>,
+    texts: &Texts<'_>,
+    most: usize,
+    passes: &mut Vec<Pass<L>>,
+    out: &mut W,
+) -> Result<()> {
+    let meeting = Meeting::new();
+    put_links(rt, coordinator, texts, most, &meeting, passes, out)?;
+    let late = meeting.late();
+    let text = format!(in coordinator.alloc(); "LATE {late}\n")?;
+    Ok(out.write_all(text.as_bytes())?)
+}
+
 // Serves three clients; answers the passes.
 fn serve_all<L: Ledger + Send + Sync, R: Threads + Wait + Sync, W: Write>(
     rt: &R,
@@ -135,16 +167,8 @@ fn serve_all<L: Ledger + Send + Sync, R: Threads + Wait + Sync, W: Write>(
     most: usize,
     out: &mut W,
 ) -> Result<Vec<Pass<L>>> {
-    let alloc = coordinator.alloc();
-    let meeting = Meeting::new();
-    let mut passes = Vec::new(alloc);
-    let links = alone(alloc, texts, most, &meeting)?;
-    put_served(rt, coordinator, links, &mut passes, out)?;
-    let links = both(alloc, texts, most, &meeting)?;
-    put_served(rt, coordinator, links, &mut passes, out)?;
-    let late = meeting.late();
-    let text = format!(in alloc; "LATE {late}\n")?;
-    out.write_all(text.as_bytes())?;
+    let mut passes = Vec::new(coordinator.alloc());
+    put_meeting(rt, coordinator, texts, most, &mut passes, out)?;
     Ok(passes)
 }
 

@@ -209,32 +209,12 @@ fn take_event(followed: &mut Followed, step: &Step) -> Result<(), Stop> {
     }
 }
 
-/// What the world reports of a step that it takes.
-fn given_by(world: &mut World, step: &Step) -> Result<Option<PackedReport>, Stop> {
-    match world.step(step.copy()) {
-        Ok(Some(report)) => Ok(Some(PackedReport::of(report))),
-        Ok(None) => Ok(None),
-        Err(fault) => Err(Stop::Refused(Cause::Fault(fault))),
-    }
-}
-
-/// Takes what the world reports of a step.
-fn take_given(
-    followed: &mut Followed,
-    step: &Step,
-    given: &Option<PackedReport>,
-) -> Result<(), Stop> {
-    match given {
-        Some(report) => take_report(followed, step, report),
-        None => take_event(followed, step),
-    }
-}
-
 /// Takes a step.
 fn take_step(followed: &mut Followed, step: &Step) -> Result<(), Stop> {
-    match given_by(&mut followed.world, step) {
-        Ok(given) => take_given(followed, step, &given),
-        Err(stop) => Err(stop),
+    match followed.world.step(step.copy()) {
+        Ok(Some(report)) => take_report(followed, step, &PackedReport::of(report)),
+        Ok(None) => take_event(followed, step),
+        Err(fault) => Err(Stop::Refused(Cause::Fault(fault))),
     }
 }
 

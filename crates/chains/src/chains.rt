@@ -50,7 +50,6 @@ use std::marker::Model;
 
 /// The accepted reports, seen as their list in order of acceptance, an epoch for each, the front, the present epoch, and how many more
 /// reports find room without memory.
-#[derive(Drop)]
 pub struct Chains {
     alloc: Global,
     /// The stamp of a root at its birth.
@@ -68,6 +67,22 @@ pub struct Chains {
     processes: Vec<Process>,
     /// The number of the process that reported last: a look-up by name tries it first.
     recent: u32,
+}
+
+impl Drop for Chains {
+    fn drop(self) {
+        let Chains {
+            alloc: _,
+            first: _,
+            reports: _,
+            epochs: _,
+            front: _,
+            epoch: _,
+            names: _,
+            processes: _,
+            recent: _,
+        } = self;
+    }
 }
 
 impl Model for Chains {

@@ -13,9 +13,14 @@ use std::marker::Model;
 use thiserror::Error;
 
 /// Failed processes, seen as their numbers in order of birth.
-#[derive(Drop)]
 pub struct Failed {
     numbers: Vec<u32>,
+}
+
+impl Drop for Failed {
+    fn drop(self) {
+        let Failed { numbers: _ } = self;
+    }
 }
 
 impl Model for Failed {
@@ -75,7 +80,8 @@ impl Failed {
         ensures numbers { result.items ≡ self }
         ensures in_order { IsStrictlyIncreasing result.items }
     {
-        self.numbers
+        let Failed { numbers } = self;
+        numbers
     }
 
     /// Those of them that are known to these chains, from which the set need not be.

@@ -60,6 +60,7 @@ impl Chains {
         kept.count_from(self.epoch(), self.epoch());
         let limits = limits(self, line.as_slice())?;
         fold_fit_settled(self, &limits, &mut kept)?;
+        kept.lawful();
         kept.count_from(self.front(), self.epoch());
         Ok(kept)
     }

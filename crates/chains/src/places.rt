@@ -7,9 +7,14 @@ use std::alloc::{AllocError, Global};
 use std::marker::Model;
 
 /// Places in a row.
-#[derive(Drop)]
 pub struct Places {
     places: Vec<Place>,
+}
+
+impl Drop for Places {
+    fn drop(self) {
+        let Places { places: _ } = self;
+    }
 }
 
 /// A recovery line: the place of each known process, in order of birth.

@@ -31,12 +31,22 @@ pub enum Wire<R, W: Write + Drop> {
 }
 
 /// A connection as a link, which is given back where the link ends. What waits is what stands in the buffer.
-#[derive(Drop)]
 pub struct Connection<R, W: Write + Drop> {
     wire: Wire<R, W>,
     reads: u64,
     failures: u64,
     stalls: u64,
+}
+
+impl<R: Drop, W: Write + Drop> Drop for Connection<R, W> {
+    fn drop(self) {
+        let Connection {
+            wire: _,
+            reads: _,
+            failures: _,
+            stalls: _,
+        } = self;
+    }
 }
 
 /// The connection of a client. A client that rests longer than the limit, from one LF to the next, fails at its next read, as does

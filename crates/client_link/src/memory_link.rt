@@ -11,7 +11,6 @@ use std::alloc::{AllocError, Global};
 /// A link in memory. Each read gives bytes of one of the given pieces, what is written is kept, and one call may be planned to fail.
 /// A call that fails changes nothing, but it is counted. A write for which memory is wanting fails, and so does each call of a link that
 /// was ended.
-#[derive(Drop)]
 pub struct MemoryLink {
     /// The bytes of all pieces.
     input: Vec<u8>,
@@ -26,6 +25,22 @@ pub struct MemoryLink {
     failures: u64,
     /// How many calls had failed when the link was ended, if it was.
     ended: Option<u64>,
+}
+
+impl Drop for MemoryLink {
+    fn drop(self) {
+        let MemoryLink {
+            input: _,
+            ends: _,
+            at: _,
+            written: _,
+            failing: _,
+            calls: _,
+            reads: _,
+            failures: _,
+            ended: _,
+        } = self;
+    }
 }
 
 /// How many bytes from there on are of the piece that stands there, at most.

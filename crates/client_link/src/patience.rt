@@ -12,12 +12,22 @@ const MOST_AWAY: usize = 1_048_576;
 
 /// A connection of which reads wait for a limited time in all, from one LF to the next. The time that passes between two reads
 /// does not count.
-#[derive(Drop)]
 pub struct Patient<S, C> {
     clock: C,
     stream: S,
     limit: Option<Duration>,
     waited: Duration,
+}
+
+impl<S: Drop, C: Drop> Drop for Patient<S, C> {
+    fn drop(self) {
+        let Patient {
+            clock: _,
+            stream: _,
+            limit: _,
+            waited: _,
+        } = self;
+    }
 }
 
 impl<S, C> Patient<S, C> {
@@ -87,7 +97,8 @@ impl<S: Read + OpenStream + Drop, C: Clock + Drop> HangUp for Patient<S, C> {
         let Patient {
             clock,
             mut stream,
-            ..
+            limit: _,
+            waited: _,
         } = self;
         if stream.shutdown(Shutdown::Write).is_ok() {
             // A client that is gone, or goes on, is left alone.

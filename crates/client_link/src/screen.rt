@@ -11,7 +11,6 @@ use std::io::{self, Read};
 
 /// A stream that is at its end at once where its first bytes are a method of HTTP and a space. As long as they may become that they
 /// are held back.
-#[derive(Drop)]
 pub struct Screened<S> {
     stream: S,
     /// The first bytes, of which so many were read, and so many of these given.
@@ -26,6 +25,18 @@ pub struct Screened<S> {
     ghost none_given: { look ≡ looks.Part → given ≡ 0 },
     ghost has_room: { look ≡ looks.Part → held < 8 },
     ghost seen: { look ≡ looks.Part → look_all (take held first) methods ≡ looks.Part },
+}
+
+impl<S: Drop> Drop for Screened<S> {
+    fn drop(self) {
+        let Screened {
+            stream: _,
+            first: _,
+            held: _,
+            given: _,
+            look: _,
+        } = self;
+    }
 }
 
 impl<S> Screened<S> {
@@ -113,7 +124,13 @@ impl<S: Read> Read for Screened<S> {
 
 impl<S: HangUp> HangUp for Screened<S> {
     fn hang_up(self) {
-        let Screened { stream, .. } = self;
+        let Screened {
+            stream,
+            first: _,
+            held: _,
+            given: _,
+            look: _,
+        } = self;
         stream.hang_up();
     }
 }

@@ -8,7 +8,6 @@ use crate::link::{Link, LinkFault};
 use std::io::{BufWriter, Read, Write};
 
 /// A reader, and a writer behind a buffer, with their calls counted. What waits is what stands in the buffer.
-#[derive(Drop)]
 pub struct Streams<R, W: Write + Drop> {
     input: R,
     output: BufWriter<W>,
@@ -17,6 +16,19 @@ pub struct Streams<R, W: Write + Drop> {
     stalls: u64,
     /// How many calls had failed when the link was ended, if it was.
     ended: Option<u64>,
+}
+
+impl<R: Drop, W: Write + Drop> Drop for Streams<R, W> {
+    fn drop(self) {
+        let Streams {
+            input: _,
+            output: _,
+            reads: _,
+            failures: _,
+            stalls: _,
+            ended: _,
+        } = self;
+    }
 }
 
 impl<R: Read, W: Write + Drop> Streams<R, W> {
@@ -40,7 +52,14 @@ impl<R: Read, W: Write + Drop> Streams<R, W> {
         ensures held { writer_contents W.contents result.1 ≡ (⟦<Streams<R, W> as Link>⟧.told self).held }
         ensures waiting { writer_buffer result.1 ≡ (⟦<Streams<R, W> as Link>⟧.told self).waiting }
     {
-        let Streams { input, output, .. } = self;
+        let Streams {
+            input,
+            output,
+            reads: _,
+            failures: _,
+            stalls: _,
+            ended: _,
+        } = self;
         (input, output)
     }
 }

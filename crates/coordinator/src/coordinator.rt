@@ -76,12 +76,22 @@ pub struct Unclosed<L: Ledger, D: Disk> {
 }
 
 /// A desk that threads share. It is seen as what was held when the desk was opened.
-#[derive(Drop)]
 pub struct Coordinator<L: Ledger, D: Disk> {
     alloc: Global,
     opening: Chains,
     locked: Mutex<Locked<L, D>>,
     workers: usize,
+}
+
+impl<L: Ledger, D: Disk + Drop> Drop for Coordinator<L, D> {
+    fn drop(self) {
+        let Coordinator {
+            alloc: _,
+            opening: _,
+            locked: _,
+            workers: _,
+        } = self;
+    }
 }
 
 impl<L: Ledger, D: Disk> Model for Coordinator<L, D> {

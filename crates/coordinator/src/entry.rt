@@ -10,12 +10,21 @@ use report_line::{Call, Code, Reply, Text};
 use std::marker::Model;
 
 /// A call, the receipt of its turn, and the reply that is shown for it.
-#[derive(Drop)]
 pub struct Entry {
     call: Call,
     receipt: Receipt,
     /// Shown in the place of the receipt's reply, which is never shown where a line was taken.
     line: Option<Reply>,
+}
+
+impl Drop for Entry {
+    fn drop(self) {
+        let Entry {
+            call: _,
+            receipt: _,
+            line: _,
+        } = self;
+    }
 }
 
 impl Model for Entry {

@@ -21,7 +21,6 @@ use std::sync::ledger::{Blank, Book, Ledger, Share};
 const PASSES: u32 = 8_192;
 
 /// The desk, the book that counts its turns, and the share that no pass has.
-#[derive(Drop)]
 pub struct Locked<L: Ledger, D: Disk> {
     desk: Desk<D>,
     book: Book<L>,
@@ -31,6 +30,17 @@ pub struct Locked<L: Ledger, D: Disk> {
     ghost unused: { rest.amount ≡ 0 },
     ghost parts: { rest.parts + passes ≡ ledger_parts },
     ghost few: { passes ≤ pass_limit },
+}
+
+impl<L: Ledger, D: Disk + Drop> Drop for Locked<L, D> {
+    fn drop(self) {
+        let Locked {
+            desk: _,
+            book: _,
+            rest: _,
+            passes: _,
+        } = self;
+    }
 }
 
 impl<L: Ledger, D: Disk> Locked<L, D> {

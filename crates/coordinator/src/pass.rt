@@ -10,12 +10,22 @@ use std::marker::Model;
 use std::sync::ledger::{Ledger, Share};
 
 /// The entries of one client, the longest front that it has seen, and a share that counts its turns.
-#[derive(Drop)]
 pub struct Pass<L: Ledger> {
     pub(crate) number: u32,
     pub(crate) front: u32,
     pub(crate) share: Share<L>,
     pub(crate) entries: Vec<Entry>,
+}
+
+impl<L: Ledger> Drop for Pass<L> {
+    fn drop(self) {
+        let Pass {
+            number: _,
+            front: _,
+            share: _,
+            entries: _,
+        } = self;
+    }
 }
 
 impl<L: Ledger> Model for Pass<L> {

@@ -27,7 +27,6 @@ use std::marker::Model;
 const TURN_LIMIT: usize = 65536;
 
 /// What was accepted, whose records are in a file, and the turns that were made since it was opened.
-#[derive(Drop)]
 pub struct Desk<D: Disk> {
     chains: Chains,
     /// The chains as they were when the desk was opened.
@@ -35,6 +34,17 @@ pub struct Desk<D: Disk> {
     store: Store<D>,
     /// There is room for all of them.
     turns: Vec<Turn>,
+}
+
+impl<D: Disk + Drop> Drop for Desk<D> {
+    fn drop(self) {
+        let Desk {
+            chains: _,
+            opening: _,
+            store: _,
+            turns: _,
+        } = self;
+    }
 }
 
 impl<D: Disk> Model for Desk<D> {

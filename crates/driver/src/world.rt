@@ -26,10 +26,18 @@ use std::alloc::{AllocError, Global};
 use std::marker::Model;
 
 /// Processes that stamp their steps by the rules, from one root on; seen as the root, the present epoch and the history.
-#[derive(Drop)]
 pub struct World {
     alloc: Global,
     tables: Tables,
+}
+
+impl Drop for World {
+    fn drop(self) {
+        let World {
+            alloc: _,
+            tables: _,
+        } = self;
+    }
 }
 
 impl Model for World {

@@ -45,9 +45,14 @@ use std::alloc::{AllocError, Global};
 use std::marker::Model;
 
 /// How many events are known at each point.
-#[derive(Drop)]
 pub struct Events {
     node: Node,
+}
+
+impl Drop for Events {
+    fn drop(self) {
+        let Events { node: _ } = self;
+    }
 }
 
 impl Model for Events {

@@ -44,9 +44,14 @@ pub use way::Way;
 use way::is_only_way;
 
 /// Which part of an interval someone owns.
-#[derive(Drop)]
 pub struct Id {
     marks: Marks,
+}
+
+impl Drop for Id {
+    fn drop(self) {
+        let Id { marks: _ } = self;
+    }
 }
 
 impl Model for Id {

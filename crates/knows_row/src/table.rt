@@ -14,12 +14,22 @@ use std::marker::Model;
 
 /// What the places of these chains know. Of the last place of each process it holds how many processes, in order of birth, that
 /// place knows nothing of after their last places; what it does not hold it finds when it is asked.
-#[derive(Drop)]
 pub struct Needs<'a> {
     pub(crate) chains: &'a Chains,
     pub(crate) lasts: Vec<u32>,
     pub(crate) thresholds: Thresholds,
     pub(crate) unknown: Vec<u32>,
+}
+
+impl<'a> Drop for Needs<'a> {
+    fn drop(self) {
+        let Needs {
+            chains: _,
+            lasts: _,
+            thresholds: _,
+            unknown: _,
+        } = self;
+    }
 }
 
 impl<'a> Model for Needs<'a> {

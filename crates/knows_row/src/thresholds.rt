@@ -19,9 +19,14 @@ use std::alloc::{AllocError, Global};
 use std::marker::Model;
 
 /// Trees in a row.
-#[derive(Drop)]
 pub(crate) struct Row {
     trees: Vec<Events>,
+}
+
+impl Drop for Row {
+    fn drop(self) {
+        let Row { trees: _ } = self;
+    }
 }
 
 impl Model for Row {
@@ -37,9 +42,14 @@ impl Model for Row {
 }
 
 /// The thresholds of the processes that fell, in order of birth, and above them those of two, of four and so on.
-#[derive(Drop)]
 pub struct Thresholds {
     rows: Vec<Row>,
+}
+
+impl Drop for Thresholds {
+    fn drop(self) {
+        let Thresholds { rows: _ } = self;
+    }
 }
 
 impl Model for Thresholds {

@@ -26,12 +26,22 @@ const PIECE: usize = 65_536;
 ///
 /// After a write, a cut or a sync has failed, each later call fails, and the file has to be opened anew. Where memory was wanting
 /// for what was written, only reads of it and of what stands behind it fail.
-#[derive(Drop)]
 pub struct FileDisk<P: Device> {
     file: File,
     known: Known,
     failures: Failures,
     device: PhantomData<P>,
+}
+
+impl<P: Device> Drop for FileDisk<P> {
+    fn drop(self) {
+        let FileDisk {
+            file: _,
+            known: _,
+            failures: _,
+            device: _,
+        } = self;
+    }
 }
 
 fn zeros(alloc: Global, n: usize) -> Result<Vec<u8>, AllocError>

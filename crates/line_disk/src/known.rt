@@ -12,7 +12,6 @@ use std::snapshot::Snapshot;
 
 /// What was read of a file when it was opened, and the calls since. What is said here holds whatever stood behind the bytes that
 /// were read.
-#[derive(Drop)]
 pub(crate) struct Known {
     read: Snapshot<Vec<u8>>,
     /// How many bytes stood behind those that were read.
@@ -26,6 +25,19 @@ pub(crate) struct Known {
     ghost shown: { failed ≡ false → (behind : List ℕ) → length behind ≡ unread.value → copy.items ≡ take (length copy.items) (held (read.value.items ++ behind) (steps_in log)) } by { Prim.hlevel props },
     ghost size: { failed ≡ false → (behind : List ℕ) → length behind ≡ unread.value → len ≡ length (held (read.value.items ++ behind) (steps_in log)) } by { Prim.hlevel props },
     ghost any: { failed ≡ any_failed (steps_in log) },
+}
+
+impl Drop for Known {
+    fn drop(self) {
+        let Known {
+            read: _,
+            unread: _,
+            copy: _,
+            len: _,
+            log: _,
+            failed: _,
+        } = self;
+    }
 }
 
 /// Makes a write on a copy of the first bytes of a file, and leaves out what stands behind the copy. Where memory is wanting for it

@@ -12,11 +12,20 @@ use std::alloc::{AllocError, Global};
 
 /// A disk in memory. It notes each of its calls, so what a crash could leave at each moment can be had from it, and makes the calls
 /// fail that are planned to.
-#[derive(Drop)]
 pub struct MemoryDisk {
     tape: Tape,
     failing: Vec<Planned>,
     failures: u64,
+}
+
+impl Drop for MemoryDisk {
+    fn drop(self) {
+        let MemoryDisk {
+            tape: _,
+            failing: _,
+            failures: _,
+        } = self;
+    }
 }
 
 impl MemoryDisk {

@@ -12,7 +12,6 @@ use std::alloc::Global;
 
 /// A disk's first bytes, all of them durable, its bytes, and each call between. A call that does nothing is only counted, so
 /// that it stands here without memory.
-#[derive(Drop)]
 pub(crate) struct Tape {
     pub alloc: Global,
     pub first: Vec<u8>,
@@ -25,6 +24,19 @@ pub(crate) struct Tape {
     ghost some: { idle ≤ count },
     ghost counted: { count ≡ length (calls_in changes.items idle) },
     ghost replayed: { bytes.items ≡ after_calls first.items (calls_in changes.items idle) },
+}
+
+impl Drop for Tape {
+    fn drop(self) {
+        let Tape {
+            alloc: _,
+            first: _,
+            bytes: _,
+            changes: _,
+            idle: _,
+            count: _,
+        } = self;
+    }
 }
 
 // Each call answers whether it was done. One that was not, for want of memory or past 2^64 - 1 calls, did nothing.

@@ -11,11 +11,20 @@ use script::{Cause, cut_line, line_for, read_root, read_settle, read_step};
 use std::alloc::{AllocError, Global};
 
 /// A script so far.
-#[derive(Drop)]
 pub(crate) struct Followed {
     world: World,
     pub(crate) chains: Chains,
     pub(crate) scripted: Scripted,
+}
+
+impl Drop for Followed {
+    fn drop(self) {
+        let Followed {
+            world: _,
+            chains: _,
+            scripted: _,
+        } = self;
+    }
 }
 
 /// Why a line stops the script.

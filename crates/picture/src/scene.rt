@@ -75,7 +75,6 @@ pub(crate) struct Settlement {
 }
 
 /// The steps so far.
-#[derive(Drop)]
 pub(crate) struct Scene {
     pub(crate) alloc: Global,
     pub(crate) lanes: Vec<Lane>,
@@ -92,6 +91,24 @@ pub(crate) struct Scene {
     pub(crate) floor: u32,
     /// The greatest column so far.
     pub(crate) last: u32,
+}
+
+impl Drop for Scene {
+    fn drop(self) {
+        let Scene {
+            alloc: _,
+            lanes: _,
+            marks: _,
+            arrows: _,
+            sent: _,
+            settlements: _,
+            texts: _,
+            tells: _,
+            known: _,
+            floor: _,
+            last: _,
+        } = self;
+    }
 }
 
 impl Scene {

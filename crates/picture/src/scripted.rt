@@ -10,13 +10,22 @@ use report_line::{Name, PackedReport};
 use std::alloc::{AllocError, Global};
 
 /// The scene of a script so far.
-#[derive(Drop)]
 pub(crate) struct Scripted {
     pub(crate) scene: Scene,
     /// The row of each name, of those that had it the last one.
     rows: IndexMap<Name, u32>,
     /// Which of those that were sent each message is.
     messages: IndexMap<Name, u32>,
+}
+
+impl Drop for Scripted {
+    fn drop(self) {
+        let Scripted {
+            scene: _,
+            rows: _,
+            messages: _,
+        } = self;
+    }
 }
 
 impl Scripted {

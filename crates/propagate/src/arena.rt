@@ -15,10 +15,15 @@ struct Node {
 }
 
 /// Reason chains, seen as their list. A chain that prolongs another one shares it.
-#[derive(Drop)]
 pub(crate) struct Arena {
     alloc: Global,
     nodes: Vec<Node>,
+}
+
+impl Drop for Arena {
+    fn drop(self) {
+        let Arena { alloc: _, nodes: _ } = self;
+    }
 }
 
 impl Model for Arena {

@@ -18,12 +18,22 @@ use std::alloc::AllocError;
 
 /// A cut after some rounds: the rank of each process, before the last round and after it; for those below their last surviving
 /// ranks the number of the chain that ends at the next position; and the processes that the last round lowered.
-#[derive(Drop)]
 pub(crate) struct Stage {
     pub(crate) before: Vec<u32>,
     pub(crate) cut: Vec<u32>,
     pub(crate) heads: Vec<usize>,
     pub(crate) fell: Vec<u32>,
+}
+
+impl Drop for Stage {
+    fn drop(self) {
+        let Stage {
+            before: _,
+            cut: _,
+            heads: _,
+            fell: _,
+        } = self;
+    }
 }
 
 /// The first cut, of all last surviving ranks, from which any process may be known too far.

@@ -7,9 +7,14 @@ use std::alloc::{AllocError, Global};
 use std::marker::Model;
 
 /// Numbers of processes in a row.
-#[derive(Drop)]
 pub struct Numbers {
     numbers: Vec<u32>,
+}
+
+impl Drop for Numbers {
+    fn drop(self) {
+        let Numbers { numbers: _ } = self;
+    }
 }
 
 impl Model for Numbers {
@@ -38,9 +43,14 @@ impl Numbers {
 
 /// Reason chains in a row. A chain begins at the last surviving place of a process that did not retire; each later place
 /// knows the process of the one before it after the position below that one.
-#[derive(Drop)]
 pub struct Reasons {
     chains: Vec<Places>,
+}
+
+impl Drop for Reasons {
+    fn drop(self) {
+        let Reasons { chains: _ } = self;
+    }
 }
 
 impl Model for Reasons {

@@ -26,7 +26,6 @@ fn room(alloc: Global, n: usize) -> Result<Vec<u8>, AllocError>
 /// Records in a record file on a disk: lines, each with an epoch.
 ///
 /// Once an append was answered Before or Unknown the store is stopped, until the file is opened anew.
-#[derive(Drop)]
 pub struct Store<D: Disk> {
     disk: D,
     records: Vec<(u32, Vec<u8>)>,
@@ -40,6 +39,19 @@ pub struct Store<D: Disk> {
     ghost room: { vec_len buffer ≡ 8199 },
     ghost gate: { 9 ≤ end },
     ghost in_file: { stopped ≡ false → D.keeps disk → end ≤ length (D.view disk).seen },
+}
+
+impl<D: Disk + Drop> Drop for Store<D> {
+    fn drop(self) {
+        let Store {
+            disk: _,
+            records: _,
+            buffer: _,
+            version: _,
+            end: _,
+            stopped: _,
+        } = self;
+    }
 }
 
 impl<D: Disk> Store<D> {

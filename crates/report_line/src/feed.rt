@@ -13,12 +13,17 @@ use std::marker::Model;
 const MOST: usize = 8192;
 
 /// Lines in a row, each without its LF.
-#[derive(Drop)]
 pub struct Lines {
     // What the lines stand in.
     bytes: Vec<u8>,
     // From where up to where each of them stands there.
     parts: Vec<(usize, usize)>,
+}
+
+impl Drop for Lines {
+    fn drop(self) {
+        let Lines { bytes: _, parts: _ } = self;
+    }
 }
 
 impl Model for Lines {
@@ -126,11 +131,20 @@ fn cut_piece(alloc: Global, rest: &[u8], piece: &[u8]) -> Result<Cut, AllocError
 /// Cuts a stream into lines, whatever pieces it comes in.
 ///
 /// It is seen as the bytes behind the last LF, or `None` where 8,193 bytes without LF have come behind the last line.
-#[derive(Drop)]
 pub struct Feed {
     alloc: Global,
     rest: Vec<u8>,
     too_long: bool,
+}
+
+impl Drop for Feed {
+    fn drop(self) {
+        let Feed {
+            alloc: _,
+            rest: _,
+            too_long: _,
+        } = self;
+    }
 }
 
 impl Model for Feed {

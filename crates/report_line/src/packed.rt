@@ -50,9 +50,14 @@ pub(crate) enum Packed {
 }
 
 /// A report in the shape in which it is kept, of 160 bytes; seen as the report.
-#[derive(Drop)]
 pub struct PackedReport {
     packed: Packed,
+}
+
+impl Drop for PackedReport {
+    fn drop(self) {
+        let PackedReport { packed: _ } = self;
+    }
 }
 
 impl Model for PackedReport {

@@ -60,9 +60,14 @@ fn word_of(text: &[u8]) -> &[u8]
 }
 
 /// Names in a row.
-#[derive(Drop)]
 pub struct Names {
     text: Vec<u8>,
+}
+
+impl Drop for Names {
+    fn drop(self) {
+        let Names { text: _ } = self;
+    }
 }
 
 impl Model for Names {

@@ -8,9 +8,14 @@ use std::ops::Deref;
 use std::sync::Arc;
 
 /// A value in a block of its own, which all that hold it share; seen as the value.
-#[derive(Drop)]
 pub struct Shared<T> {
     value: Arc<T>,
+}
+
+impl<T: Drop> Drop for Shared<T> {
+    fn drop(self) {
+        let Shared { value: _ } = self;
+    }
 }
 
 impl<T> Model for Shared<T> {

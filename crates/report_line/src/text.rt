@@ -6,9 +6,14 @@ use std::alloc::{AllocError, Global};
 use std::marker::Model;
 
 /// The bytes of a value or of a certificate.
-#[derive(Drop)]
 pub struct Text {
     bytes: Vec<u8>,
+}
+
+impl Drop for Text {
+    fn drop(self) {
+        let Text { bytes: _ } = self;
+    }
 }
 
 impl Model for Text {

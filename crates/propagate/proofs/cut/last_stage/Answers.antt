@@ -20,7 +20,7 @@ loop-stage-init c =
       IfSome_then c.args.needs c.requires.table (λ n h. (h.0, c.in_ok-stage.ensures.cut ∙ h.1, c.in_ok-stage.ensures.all)),
     )
 
-same : (c : goal.After-drop-stage-then-is_empty-4) → c.loop-stage.stage.cut.items ≡ c.in_ok-next.next.cut.items
+same : (c : goal.After-drop-stage-then-is_empty) → c.loop-stage.stage.cut.items ≡ c.in_ok-next.next.cut.items
 same c =
     let fell = c.in_ok-next.next.fell in
     has_settled c.args.chains.now.accepted c.loop-stage.stage.cut.items c.in_ok-next.next.cut.items fell.items c.in_ok-next.ensures.ranks c.in_ok-next.ensures.fallen
@@ -47,7 +47,7 @@ returns-then-is_empty-clause-still c =
 pub returns-then-is_empty-clause-few : goal.returns-then-is_empty-clause-few
 returns-then-is_empty-clause-few c = omega (arith, c.loop-stage.invariant.0.few)
 
-changed : (c : goal.After-drop-stage-in-loop-stage-4) → c.loop-stage.stage.cut.items ≢ c.in_ok-next.next.cut.items
+changed : (c : goal.After-drop-stage-in-loop-stage) → c.loop-stage.stage.cut.items ≢ c.in_ok-next.next.cut.items
 changed c =
     let fell = c.in_ok-next.next.fell in
     has_changed c.loop-stage.stage.cut.items c.in_ok-next.next.cut.items fell.items c.in_ok-next.ensures.fallen

@@ -12,6 +12,7 @@ pub mod OneTurn
 pub mod Reachables
 pub mod OwnFile
 pub mod Reopening
+pub mod OpensAgain
 pub mod Following
 pub mod Turning
 pub mod Turned

@@ -11,7 +11,7 @@ use Rattle.desk.specs.Openings.{IsReopened}
 use Rattle.desk.proofs.OneOpening.{one_opening}
 
 -- what records that are these come to
-opens_to : (said found : List Said) (held now : Held) → found ≡ said → Opens said held → Opens found now → now ≡ held
+pub opens_to : (said found : List Said) (held now : Held) → found ≡ said → Opens said held → Opens found now → now ≡ held
 opens_to said found held now same opens opened = one_opening said now held (subst (λ (s : List Said). Opens s now) same opened) opens
 
 pub reopened : {D : Type 0} (desk : DeskState D) (file : List ℕ) (found : List Said) (held : Held) → Opens (records_of desk) (unstopped desk.held)

@@ -201,6 +201,13 @@ impl<D: Disk> Desk<D> {
         self.opening.copy()
     }
 
+    /// The chains as they were when the desk was opened.
+    pub fn opened_with(&self) -> &Chains
+        ensures { held_of result.now ≡ self.now.opening }
+    {
+        &self.opening
+    }
+
     /// The disk.
     pub fn close(self) -> D
         ensures disk { result ≡ self.disk }

@@ -12,14 +12,19 @@ use crate::trouble::Failures;
 use crate::{Device, Disk, DiskFault, FileCall, FileTrouble, Reach, Unopened};
 use std::alloc::{AllocError, Global};
 use std::fs::{File, OpenOptions, TryLockError};
-use std::io;
+use std::io::{self, ErrorKind};
 use std::marker::PhantomData;
-use std::os::unix::fs::FileExt;
+use std::os::unix::fs::{FileExt, MetadataExt};
 use std::path::Path;
 use std::rt::Files;
 
 /// How many bytes of a file are read at once when it is opened.
 const PIECE: usize = 65_536;
+
+/// How many of its first bytes are written over themselves when a file is opened, and how many of its last ones.
+const FIRST: usize = 512;
+
+const LAST: usize = 16_384;
 
 /// A file of the system on a device. It takes memory for the bytes that were read when it was opened, and for those that were
 /// written within them or right behind them: reads are compared with them, and a read of others fails.
@@ -58,6 +63,15 @@ fn length_of(file: &File) -> io::Result<usize> {
     }
 }
 
+/// The length of a file that was just opened, which has to be a regular one.
+fn length_at_opening(file: &File) -> Result<usize, Unopened> {
+    match file.metadata() {
+        Ok(metadata) if metadata.is_file() => Ok(metadata.len() as usize),
+        Ok(_) => Err(Unopened::Device(FileCall::Open.found_otherwise())),
+        Err(error) => Err(FileCall::Measure.failed_by(error)),
+    }
+}
+
 /// Reads the next bytes of a file, so many, behind its first ones, which were read before.
 fn read_piece(file: &File, bytes: &mut Vec<u8>, n: usize) -> Result<(), Unopened>
     requires { vec_len bytes.old + n < 2 ^ 64 }
@@ -89,20 +103,120 @@ fn read_front<W: Reach>(
     Ok(bytes)
 }
 
-/// Syncs the folder of a file, so that a crash does not take the name of the file if it is new.
-fn sync_folder<R: Files<File = File>>(rt: &R, path: &str) -> Result<(), Unopened> {
-    let Some(parent) = Path::new(path).parent() else {
+/// Writes these bytes, which a file of this length has at this offset, over themselves.
+fn write_again(file: &File, bytes: &[u8], at: usize, len: usize) -> Result<(), Unopened> {
+    let written = match look_for(file, len) {
+        Ok(()) => file.write_all_at(bytes, at as u64),
+        Err(error) => return Err(Unopened::Device(FileTrouble {
+            call: FileCall::Write,
+            error,
+        })),
+    };
+    match written {
+        Ok(()) => Ok(()),
+        Err(error) => Err(FileCall::Write.failed_by(error)),
+    }
+}
+
+/// Writes the first and the last of these bytes, with which a file of this length begins, over themselves.
+///
+/// After a sync that failed the system may show bytes that never reached the device, and count them as written: the next sync then
+/// succeeds and writes nothing. Bytes that are written again are written to the device by the next sync. A program that writes
+/// nothing after its first failure leaves none unwritten but these.
+fn rewrite(file: &File, bytes: &[u8], len: usize) -> Result<(), Unopened> {
+    let last = bytes.len().saturating_sub(LAST);
+    if last > 0 {
+        write_again(file, &bytes[..FIRST.min(last)], 0, len)?;
+    }
+    write_again(file, &bytes[last..], last, len)
+}
+
+/// Why the folder of a file was not synced.
+fn folder_fault(error: io::Error) -> Unopened {
+    if matches!(error.kind(), ErrorKind::OutOfMemory) {
+        return Unopened::Memory;
+    }
+    FileCall::SyncFolder.failed_by(error)
+}
+
+/// Syncs this folder.
+fn sync_named<R: Files<File = File>>(rt: &R, folder: &str) -> io::Result<()> {
+    let opened = OpenOptions::new().read(true).open(rt, folder)?;
+    opened.sync_all()
+}
+
+/// Syncs the folder that has the last name of this path.
+fn sync_parent<R: Files<File = File>>(rt: &R, path: Path<'_>) -> Result<(), Unopened> {
+    let Some(parent) = path.parent() else {
         return Err(Unopened::Device(FileCall::SyncFolder.found_otherwise()));
     };
     let name = parent.as_os_str();
     let folder = if name.is_empty() { "." } else { name };
-    let synced = match OpenOptions::new().read(true).open(rt, folder) {
-        Ok(opened) => opened.sync_all(),
-        Err(error) => Err(error),
-    };
-    match synced {
+    match sync_named(rt, folder) {
         Ok(()) => Ok(()),
-        Err(error) => Err(FileCall::SyncFolder.failed_by(error)),
+        Err(error) => Err(folder_fault(error)),
+    }
+}
+
+/// Syncs the folder of the file that a link of this path leads to.
+fn sync_behind_link<R: Files<File = File>>(
+    rt: &R,
+    alloc: Global,
+    path: &str,
+) -> Result<(), Unopened> {
+    let found = match rt.canonicalize(alloc, path) {
+        Ok(found) => found,
+        Err(error) => return Err(folder_fault(error)),
+    };
+    sync_parent(rt, found.as_path())
+}
+
+/// Syncs the folder of a file, so that a crash does not take the name of the file if it is new; and if the path is a link, that of the
+/// file that the link leads to.
+fn sync_folder<R: Files<File = File>>(rt: &R, alloc: Global, path: &str) -> Result<(), Unopened> {
+    sync_parent(rt, Path::new(path))?;
+    match rt.symlink_metadata(path) {
+        Ok(metadata) if metadata.is_symlink() => sync_behind_link(rt, alloc, path),
+        Ok(_) => Ok(()),
+        Err(error) => Err(folder_fault(error)),
+    }
+}
+
+/// Whether a file still has a name, and is no shorter than this. If not, that is a fault without an error of the system.
+fn look_for(file: &File, len: usize) -> Result<(), Option<io::Error>> {
+    match file.metadata() {
+        Ok(metadata) if metadata.nlink() > 0 && metadata.len() >= len as u64 => Ok(()),
+        other => Err(other.err()),
+    }
+}
+
+/// Writes bytes to a file of this length. If the file was shortened, a write to its end would hide that, and is not made.
+fn write_to(file: &File, bytes: &[u8], at: usize, len: usize) -> Result<(), Option<io::Error>> {
+    if at == len {
+        look_for(file, len)?;
+    }
+    match file.write_all_at(bytes, at as u64) {
+        Ok(()) => Ok(()),
+        Err(error) => Err(Some(error)),
+    }
+}
+
+/// Cuts a file of this length to a lesser one. If the file was shortened, that could make it longer, and is not made.
+fn cut_to(file: &File, to: usize, len: usize) -> Result<(), Option<io::Error>> {
+    look_for(file, len)?;
+    match file.set_len(to as u64) {
+        Ok(()) => Ok(()),
+        Err(error) => Err(Some(error)),
+    }
+}
+
+/// Syncs the bytes and the length of a file that has a name and is no shorter than this.
+fn sync_present(file: &File, len: usize) -> Result<(), Option<io::Error>> {
+    look_for(file, len)?;
+    // The bytes and the length reach the device. Times of change need not: no read after a crash looks at them.
+    match file.sync_data() {
+        Ok(()) => Ok(()),
+        Err(error) => Err(Some(error)),
     }
 }
 
@@ -128,8 +242,10 @@ impl<P: Device> FileDisk<P> {
     ghost use Rattle.line_disk.specs.File.{file_calls, file_failures, file_trouble};
 
     /// Opens a file, and makes it if it is missing. It is read once, from its start and as far as `reach` wants it, and a copy of
-    /// that is kept in memory. A file that another program has open so is not opened. Where the file is empty its folder is synced,
-    /// too.
+    /// that is kept in memory. A file that another program has open so is not opened. If the file is empty its folder is synced.
+    ///
+    /// If the bytes are of the file's own format, its first 512 bytes and the last 16,384 of these are written over themselves: an
+    /// earlier run may have left them unwritten when a sync failed. The first sync after that writes them to the device.
     pub fn open<R: Files<File = File>, W: Reach>(
         rt: &R,
         alloc: Global,
@@ -140,13 +256,13 @@ impl<P: Device> FileDisk<P> {
         ensures failures { IfOk result (λ disk. file_failures disk ≡ 0) }
     {
         let file = open_locked(rt, path)?;
-        let len = match length_of(&file) {
-            Ok(len) => len,
-            Err(error) => return Err(FileCall::Measure.failed_by(error)),
-        };
+        let len = length_at_opening(&file)?;
         let bytes = read_front(alloc, &file, len, reach)?;
         if len == 0 {
-            sync_folder(rt, path)?;
+            sync_folder(rt, alloc, path)?;
+        }
+        if let Some(n) = reach.whole(&bytes) {
+            rewrite(&file, &bytes[..n], len)?;
         }
         Ok(FileDisk {
             file,
@@ -235,13 +351,13 @@ impl<P: Device> Disk for FileDisk<P> {
         if self.known.failed || !fits || at > self.known.len {
             return Err(self.failures.add(FileCall::Write, None));
         }
-        let written = self.file.write_all_at(bytes, at as u64);
+        let written = write_to(&self.file, bytes, at, self.known.len);
         let done = written.is_ok();
         self.known.wrote(at, bytes, done);
-        if !done {
-            return Err(self.failures.add(FileCall::Write, written.err()));
+        match written {
+            Ok(()) => Ok(()),
+            Err(error) => Err(self.failures.add(FileCall::Write, error)),
         }
-        Ok(())
     }
 
     fn cut(&mut self, len: usize) -> Result<(), DiskFault>
@@ -255,13 +371,13 @@ impl<P: Device> Disk for FileDisk<P> {
         if self.known.failed || len > self.known.len {
             return Err(self.failures.add(FileCall::Cut, None));
         }
-        let cut = self.file.set_len(len as u64);
+        let cut = cut_to(&self.file, len, self.known.len);
         let done = cut.is_ok();
         self.known.cut(len, done);
-        if !done {
-            return Err(self.failures.add(FileCall::Cut, cut.err()));
+        match cut {
+            Ok(()) => Ok(()),
+            Err(error) => Err(self.failures.add(FileCall::Cut, error)),
         }
-        Ok(())
     }
 
     fn sync(&mut self) -> Result<(), DiskFault>
@@ -274,13 +390,12 @@ impl<P: Device> Disk for FileDisk<P> {
         if self.known.failed {
             return Err(self.failures.add(FileCall::Sync, None));
         }
-        // The bytes and the length reach the device. Times of change need not: no read after a crash looks at them.
-        let synced = self.file.sync_data();
+        let synced = sync_present(&self.file, self.known.len);
         let done = synced.is_ok();
         self.known.synced(done);
-        if !done {
-            return Err(self.failures.add(FileCall::Sync, synced.err()));
+        match synced {
+            Ok(()) => Ok(()),
+            Err(error) => Err(self.failures.add(FileCall::Sync, error)),
         }
-        Ok(())
     }
 }

@@ -31,8 +31,8 @@ pub enum FileCall {
 #[derive(Clone, Copy, Debug)]
 pub struct FileTrouble {
     pub call: FileCall,
-    /// The system's error. Where there is none another program has locked the file, or its length or its bytes are not those that are
-    /// known of it.
+    /// The system's error. If there is none, the file is no regular file, another program has locked it, its length or its bytes are
+    /// not those that are known of it, or it was removed or shortened.
     pub error: Option<io::Error>,
 }
 

@@ -52,4 +52,17 @@ impl Reach for RecordReach {
         self.gate = pass_records(bytes, self.gate);
         bytes[self.gate] == OPEN && bytes.len() - self.gate <= MAX_RECORD
     }
+
+    /// Up to the closed gate, if there is one.
+    fn whole(&self, bytes: &[u8]) -> Option<usize> {
+        if bytes.len() <= self.gate || !begins_with_magic(bytes) {
+            return None;
+        }
+        let gate = pass_records(bytes, self.gate);
+        if bytes[gate] == OPEN {
+            None
+        } else {
+            Some(gate + 1)
+        }
+    }
 }

@@ -331,7 +331,7 @@ fn check_command<'a>(alloc: Global) -> Result<Program<'a>, AllocError>
 
 /// The statuses of a command that asks one question.
 const QUESTION_STATUSES: &str =
-    "Status: 0 answered; 2 wrong words; 3 a file, a stream or memory failed";
+    "Status: 0 a line was printed; 2 wrong words; 3 a file, a stream or memory failed; 4 refused";
 
 /// The command `line`.
 fn line_command<'a>(alloc: Global) -> Result<Program<'a>, AllocError>

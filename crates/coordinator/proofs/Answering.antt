@@ -1,12 +1,11 @@
 -- What is shown for a question.
-use Rattle.std.proofs.Common.{◌≡◌, inl, inr, ℕ, List, [], ◌∷◌, ◌++◌, Option, Some, sym, ap, ◌∙◌, subst}
+use Rattle.std.proofs.Common.{◌≡◌, ℕ, List, [], ◌∷◌, ◌++◌, Option, Some, sym, ap, ◌∙◌, subst}
 use Rattle.std.proofs.lemmas.List.{same_from_push}
 use Rattle.report_line.specs.declared.call.Call.{Call}
-use Rattle.report_line.specs.declared.reply.Reply.{Reply}
 use Rattle.report_line.specs.declared.reply.Reply.TheVariants.{Line, Taken}
 use Rattle.chains.specs.Processes.{Name}
 use Rattle.chains.specs.Kept.{Kept}
-use Rattle.chains.specs.Held.{Held, held_of}
+use Rattle.chains.specs.Held.{Held}
 use Rattle.chains.specs.Folded.{IsReached}
 use Rattle.knows_row.proofs.Lawful.{lawful}
 use Rattle.reasons.specs.Certificates.{positions_of}
@@ -19,9 +18,9 @@ use Rattle.desk.specs.Lawful.{unstopped}
 use Rattle.desk.specs.Records.{IsOpened}
 use Rattle.line_text.specs.Questions.{IsAnswer, IsChosenFor}
 use Rattle.line_text.proofs.Texts.{shows_taken}
-use Rattle.coordinator.specs.Passes.{PassEntry, PassState, IsAnswered, IsOneEntry, IsShownOver, Sees}
-use Rattle.coordinator.specs.working.Parts.{IsShownInstead, LastTaken, MayShowLine, with_line}
-use Rattle.coordinator.specs.Calls.{IsTurnFor, IsTakenFor}
+use Rattle.coordinator.specs.Passes.{PassEntry, PassState, IsOneEntry, IsShownOver, Sees}
+use Rattle.coordinator.specs.working.Parts.{IsShownInstead, LastTaken, with_line}
+use Rattle.coordinator.specs.Calls.{IsTakenFor}
 
 -- the text of a certificate that certifies is right
 right_text : (held : Held) (names : List Name) (text : List ℕ) → IsReached held → IsLineText held names text → IsRightLine held names text
@@ -49,10 +48,6 @@ shown_line held call text opened reach answer = let fits = answer.line in record
   chosen = λ other e. subst (IsChosenFor held call) (same_text text other e) answer.chosen;
 }
 
--- no line was computed
-pub answered_turn : {D : Type 0} (before after : DeskState D) (old : PassState) (call : Call) (new : PassState) → IsTurnFor before after old call new → IsAnswered old call new
-answered_turn before after old call new t = record { entry = t.entry; one = t.one; held = after.held; shows = t.shows }
-
 -- the entry shows a line, and all else stays
 pub one_shown : (old : PassState) (call : Call) (entry : PassEntry) (text : List ℕ) (mid new : PassState) → IsOneEntry old call entry mid → IsShownInstead mid text new → IsOneEntry old call (with_line entry text) new
 one_shown old call entry text mid new one (front, last, was, now) =
@@ -66,33 +61,6 @@ one_shown old call entry text mid new one (front, last, was, now) =
       share = ap (λ (v : PassState). v.share) now ∙ one.share;
       front = subst (λ (f : ℕ). Sees old.front entry.receipt.reply f) (sym (ap (λ (v : PassState). v.front) now)) one.front;
     }
-
--- a line was computed for what was held at the turn
-answered_shown : {D : Type 0} (before after : DeskState D) (old : PassState) (call : Call) (k : Kept) (text : List ℕ) (mid new : PassState)
-    → IsTakenFor before after old call (Some k) mid → IsReached (held_of k) → IsAnswer (held_of k) call text → IsShownInstead mid text new
-    → IsAnswered old call new
-answered_shown before after old call k text mid new t reached fits instead =
-    let made = t.made in
-    record {
-      entry = with_line made.entry text;
-      one = one_shown old call made.entry text mid new made.one instead;
-      held = held_of k;
-      shows = subst (λ (r : Reply). IsShownOver (held_of k) call r (Line text)) (sym t.snapshot_is.1) (shown_line (held_of k) call text (subst IsOpened (sym t.snapshot_is.0) made.shows.opened) reached fits);
-    }
-
-answered_by : {D : Type 0} (before after : DeskState D) (old : PassState) (call : Call) (k : Kept) (mid new : PassState)
-    → IsTakenFor before after old call (Some k) mid → MayShowLine (held_of k) call mid new → IsAnswered old call new
-answered_by before after old call k mid new t (inl same) =
-    subst (λ (v : PassState). IsAnswered old call v) (sym same) (answered_turn before after old call mid t.made)
-answered_by before after old call k mid new t (inr (text, reached, fits, shows)) = answered_shown before after old call k text mid new t reached fits shows
-
--- the same, with the call and the chains as the function has them
-pub answered_when : {D : Type 0} (before after : DeskState D) (old : PassState) (asked call : Call) (snapshot : Option Kept) (chains : Kept) (mid new : PassState)
-    → asked ≡ call → snapshot ≡ Some chains → IsTakenFor before after old asked snapshot mid → MayShowLine (held_of chains) call mid new → IsAnswered old call new
-answered_when before after old asked call snapshot chains mid new same is t shows =
-    answered_by before after old call chains mid new
-    (subst (λ (s : Option Kept). IsTakenFor before after old call s mid) is (subst (λ (c : Call). IsTakenFor before after old c snapshot mid) same t))
-    shows
 
 -- where there is a snapshot, a line was taken last
 pub taken_when : {D : Type 0} (before after : DeskState D) (old : PassState) (call : Call) (snapshot : Option Kept) (chains : Kept) (new : PassState)

@@ -3,6 +3,7 @@ pub mod Answering
 pub mod Certifying
 pub mod Checked
 pub mod Made
+pub mod Fitting
 pub mod Marked
 pub mod Openings
 pub mod Owned

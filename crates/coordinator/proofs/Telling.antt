@@ -305,3 +305,23 @@ may_show_first (State name reports elements live id) = refl
 may_show_first (Settled epoch front) = refl
 may_show_first Bye = refl
 may_show_first (Taken front) = inl refl
+
+-- ---- where a line was taken the store goes on
+
+no_taken : (reply : Reply) (front : ℕ) → first_shown reply ≡ reply → reply ≡ Taken front → ⊥
+no_taken reply front shows is = absurd (let e : no_memory ≡ Taken front = subst (λ (r : Reply). first_shown r ≡ r) is shows in cc)
+
+goes_by : (b : Bool) (fate : Fate) (held after : Held) (Answers : Reply → Type 0) (reply : Reply) (front : ℕ) → held.stopped ≡ b → IsQuestionTurn b fate held Answers reply after → reply ≡ Taken front
+    → after.stopped ≡ false
+goes_by true fate held after Answers reply front stopped step is = absurd (no_taken reply front (shows_said reply _ refl step.1) is)
+goes_by false fate held after Answers reply front goes step is = ap (λ (h : Held). h.stopped) step.2 ∙ goes
+
+pub taken_goes : (held after : Held) (call : Call) (reply : Reply) (front : ℕ) → IsTurn held call reply after → reply ≡ Taken front → after.stopped ≡ false
+taken_goes held after (calls.Line names) reply front (fate, step) is = goes_by held.stopped fate held after (IsLineReply held names) reply front refl step is
+taken_goes held after calls.Garbage reply front (fate, step) is = goes_by held.stopped fate held after (IsGarbageReply held) reply front refl step is
+taken_goes held after (calls.Report m) reply front (fate, step) is = absurd (no_taken reply front (shows_reported held.stopped fate held after m reply step) is)
+taken_goes held after (calls.Settle n names) reply front (fate, step) is = absurd (no_taken reply front (shows_settlement held.stopped fate held after n names reply step) is)
+taken_goes held after (calls.State p) reply front (fate, step) is = absurd (no_taken reply front (shows_asked held.stopped fate held after p reply step) is)
+taken_goes held after calls.Bye reply front (fate, step) is = absurd (no_taken reply front (shows_said reply _ refl step.1) is)
+taken_goes held after (calls.Bad n) reply front (fate, step) is = absurd (no_taken reply front (shows_said reply _ refl step.1) is)
+taken_goes held after calls.Unread reply front (fate, step) is = absurd (no_taken reply front (shows_said reply _ refl step.1) is)

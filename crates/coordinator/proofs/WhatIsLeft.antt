@@ -2,8 +2,7 @@
 use Rattle.std.proofs.Common.{◌≡◌, ℕ, List, length, subst}
 use Rattle.line_disk.specs.Disk.{View, Leaves}
 use Rattle.chains.specs.Held.{Held}
-use Rattle.desk.specs.Desks.{DeskState, records_of}
-use Rattle.desk.specs.Files.{MayStandFor}
+use Rattle.desk.specs.Desks.{DeskState}
 use Rattle.desk.specs.Lawful.{IsLawfulDesk}
 use Rattle.desk.specs.Records.{Opens}
 use Rattle.desk.specs.Replays.{Replays}
@@ -12,8 +11,8 @@ use Rattle.coordinator.specs.Closing.{IsAudited, IsEnded}
 
 pub ended : {D : Type 0} (keeps : D → Type 0) (view : D → View) (opening : Held) (passes : List PassState) (desk : DeskState D) (disk : D) (turns front : ℕ)
     → IsLawfulDesk keeps view desk → desk.opening ≡ opening → IsAudited desk.opening desk.turns passes → turns ≡ length desk.turns → front ≡ desk.held.front → disk ≡ desk.disk
-    → (keeps disk → (c : List ℕ) → Leaves (view disk) c → MayStandFor (records_of desk) desk.held.epoch desk.turns c) → IsEnded keeps view opening passes turns front disk
-ended keeps view opening passes desk disk turns front lawful same audited made counted is left = record {
+    → IsEnded keeps view opening passes turns front disk
+ended keeps view opening passes desk disk turns front lawful same audited made counted is = record {
   list = desk.turns;
   held = desk.held;
   found = desk.found;
@@ -22,7 +21,7 @@ ended keeps view opening passes desk disk turns front lawful same audited made c
   turns_are = made;
   front_is = counted;
   running = λ runs here c leaves. lawful.running runs (subst keeps is here) c (subst (λ d. Leaves (view d) c) is leaves);
-  left = left;
+  left = λ here c leaves. lawful.left (subst keeps is here) c (subst (λ d. Leaves (view d) c) is leaves);
   admitted = lawful.admitted;
   pending = lawful.pending;
   audited = subst (λ (o : Held). IsAudited o desk.turns passes) same audited;

@@ -80,18 +80,29 @@ IsCause opening ts passes (Stranger number) = IsStrange opening ts passes number
 IsCause opening ts passes (Missing shares turns) = IsMissing opening ts passes shares turns
 IsCause opening ts passes Memory = ⊤
 
--- why an audit was refused: that not the same was held at the opening comes first
+-- Why an audit was refused: that not the same was held at the opening comes first. If memory is missing, each entry stands at its turn
+-- nevertheless.
 abbrev pub IsAuditCause : {D : Type 0} → Held → DeskState D → List PassState → CloseFault → Type 0
 IsAuditCause opening desk passes (Stranger number) =
     ((number ≡ 0) × (opening ≢ desk.opening)) ⊎ ((opening ≡ desk.opening) × IsStrange desk.opening desk.turns passes number)
 IsAuditCause opening desk passes (Missing shares turns) = (opening ≡ desk.opening) × IsMissing desk.opening desk.turns passes shares turns
-IsAuditCause opening desk passes Memory = ⊤
+IsAuditCause opening desk passes Memory = (opening ≡ desk.opening) × All (IsAtTurn desk.turns) (entries_of passes)
 
--- Why a coordinator does not end: some desk, as the one under its lock may be, does not go with these passes, or memory was wanting.
+-- Why a coordinator does not end: some desk, as the one under its lock may be, does not go with these passes, or memory is missing.
 pub record IsRefused {D : Type 0} (keeps : D → Type 0) (view : D → View) (opening : Held) (passes : List PassState) (fault : CloseFault) : Type 0 where
   pub desk : DeskState D
   pub lawful : IsLawfulDesk keeps view desk
   pub cause : IsAuditCause opening desk passes fault
+
+-- The coordinator has ended, and this is why its turns are not just those of these passes. A lawful desk made the turns, and this is its
+-- disk: what a crash leaves stands for the records of that desk, among them one of each turn that was answered OK or SETTLED.
+pub record IsRemainder {D : Type 0} (keeps : D → Type 0) (view : D → View) (opening : Held) (passes : List PassState) (fault : CloseFault) (turns front : ℕ) (disk : D) : Type 0 where
+  pub desk : DeskState D
+  pub lawful : IsLawfulDesk keeps view desk
+  pub cause : IsAuditCause opening desk passes fault
+  pub turns_are : turns ≡ length desk.turns
+  pub front_is : front ≡ desk.held.front
+  pub disk_is : disk ≡ desk.disk
 
 -- The coordinator has ended. Its turns replay from what was held at the opening and are those of the passes. A crash leaves a file of
 -- records that opening comes to what was held then by, and behind them those of the turns that were answered OK or SETTLED, in order,

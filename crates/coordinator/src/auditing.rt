@@ -1,14 +1,15 @@
 //! The test at the end: the turns are those of the passes, each once, and each shown line is right.
 
-ghost use Rattle.std.specs.Prelude.{◌≡◌, ◌^◌, ◌≤◌, ◌<◌, [], length, sum, slice_get, IfErr, OnOk, IsTrue, ◌↔◌};
+ghost use Rattle.std.specs.Prelude.{◌≡◌, ◌^◌, ◌≤◌, ◌<◌, [], All, Contains, false, length, sum, slice_get, IfErr, IfNone, IfSome, OnOk, IsTrue, ◌↔◌};
 ghost use Rattle.chains.specs.Held.{Held, held_of};
 ghost use Rattle.desk.specs.Replays.{Replays};
-ghost use Rattle.coordinator.specs.Closing.{IsAudited, IsCause, IsAuditCause, entries_of};
-ghost use Rattle.coordinator.specs.working.Marks.{IsMarked, AreOwned};
+ghost use Rattle.coordinator.specs.Passes.{PassEntry};
+ghost use Rattle.coordinator.specs.Closing.{IsAtTurn, IsAudited, IsCause, IsAuditCause, IsStrange, entries_of};
+ghost use Rattle.coordinator.specs.working.Marks.{IsMarked, AreOwned, IsCauseWithFits};
 ghost use Rattle.desk.specs.Lawful.{turn_limit};
 
 use crate::fault::CloseFault;
-use crate::marking::{Owner, mark};
+use crate::marking::{Owner, is_at_turn, mark};
 use crate::pass::Pass;
 use crate::replaying::check_lines;
 use chains::Chains;
@@ -160,6 +161,66 @@ fn audit_turns<L: Ledger>(
     audit_marked(opening, chains, turns, passes, &mut marks, &mut owners)
 }
 
+/// Whether each entry of the pass stands at its turn.
+fn fits<L: Ledger>(turns: &[Turn], pass: &Pass<L>) -> bool
+    ensures yes { IsTrue result → All (IsAtTurn turns.now) pass.now.entries }
+    ensures no { result ≡ false → (e : PassEntry) × Contains pass.now.entries e × ¬ IsAtTurn turns.now e }
+{
+    let entries = pass.entries();
+    for k in 0..entries.len() {
+        let entry = &entries[k];
+        if !is_at_turn(turns, entry) {
+            return false;
+        }
+    }
+    true
+}
+
+/// The number of the first pass with an entry that does not stand at its turn, if there is one. It takes no memory.
+fn first_strange<L: Ledger>(turns: &[Turn], passes: &[Pass<L>]) -> Option<u32>
+    ensures some { IfSome result (λ number. (opening : Held) → IsStrange opening turns.now passes.now number) }
+    ensures none { IfNone result (All (IsAtTurn turns.now) (entries_of passes.now)) }
+{
+    for place in 0..passes.len() {
+        let pass = &passes[place];
+        if !fits(turns, pass) {
+            return Some(pass.number());
+        }
+    }
+    None
+}
+
+/// The fault of an audit. If memory is missing, each entry is still compared with its turn.
+fn fault_with_fits<L: Ledger>(fault: CloseFault, turns: &[Turn], passes: &[Pass<L>]) -> CloseFault
+    ensures { (opening : Held) → IsCause opening turns.now passes.now fault → IsCauseWithFits opening turns.now passes.now result }
+{
+    match fault {
+        CloseFault::Memory => match first_strange(turns, passes) {
+            Some(number) => CloseFault::Stranger(number),
+            None => CloseFault::Memory,
+        },
+        CloseFault::Stranger(number) => CloseFault::Stranger(number),
+        CloseFault::Missing { shares, turns } => CloseFault::Missing { shares, turns },
+    }
+}
+
+/// The same over a copy of what was held at the opening.
+fn audit_copy<L: Ledger, D: Disk>(
+    opening: &Chains,
+    desk: &Desk<D>,
+    passes: &[Pass<L>],
+) -> Result<(), CloseFault>
+    requires { held_of opening.now ≡ desk.now.opening }
+    ensures ok { OnOk result (IsAudited desk.now.opening desk.now.turns passes.now) }
+    ensures err { IfErr result (IsCause desk.now.opening desk.now.turns passes.now) }
+{
+    desk.lawful();
+    let Ok(mut chains) = desk.opening() else {
+        return Err(CloseFault::Memory);
+    };
+    audit_turns(opening, &mut chains, desk.turns(), passes)
+}
+
 /// Whether the desk was opened with what these chains hold, its turns are those of the passes, each once, and each line
 /// that a pass shows is the one that was asked for over what the turns before its own replay to.
 pub fn audit<L: Ledger, D: Disk>(
@@ -171,13 +232,11 @@ pub fn audit<L: Ledger, D: Disk>(
     ensures ok { OnOk result (IsAudited desk.now.opening desk.now.turns passes.now) }
     ensures err { IfErr result (IsAuditCause (held_of opening.now) desk.now passes.now) }
 {
-    desk.lawful();
-    opening.lawful();
-    let Ok(mut chains) = desk.opening() else {
-        return Err(CloseFault::Memory);
-    };
-    if !hold_the_same(opening, &chains) {
+    if !hold_the_same(opening, desk.opened_with()) {
         return Err(CloseFault::Stranger(0));
     }
-    audit_turns(opening, &mut chains, desk.turns(), passes)
+    match audit_copy(opening, desk, passes) {
+        Ok(()) => Ok(()),
+        Err(fault) => Err(fault_with_fits(fault, desk.turns(), passes)),
+    }
 }

@@ -1,6 +1,6 @@
 //! The desk under one lock, and what clients call.
 
-ghost use Rattle.std.specs.Prelude.{◌≡◌, ◌<◌, ◌≤◌, [], IfOk, IfErr, IfSome, OnOk, OnErr};
+ghost use Rattle.std.specs.Prelude.{◌≡◌, ◌<◌, ◌≤◌, [], length, IfOk, IfErr, IfSome, OnOk, OnErr};
 ghost use Rattle.report_line.specs.declared.call.Call.TheVariants as calls;
 ghost use Rattle.chains.specs.Held.{held_of};
 ghost use Rattle.desk.specs.Files.{IsShort};
@@ -8,7 +8,7 @@ ghost use Rattle.desk.specs.Records.{IsReadOff};
 ghost use Rattle.coordinator.specs.Passes.{IsPlain, IsAnswered, IsNewPass, line_call, ledger_parts};
 ghost use Rattle.coordinator.specs.Calls.{IsForeignOnly};
 ghost use Rattle.coordinator.specs.Standing.{IsMade};
-ghost use Rattle.coordinator.specs.Closing.{IsAuditCause, IsEnded, IsRefused};
+ghost use Rattle.coordinator.specs.Closing.{IsAuditCause, IsEnded, IsRefused, IsRemainder};
 
 use crate::auditing::audit;
 use crate::fault::{CallFault, CloseFault, PassFault};
@@ -62,6 +62,15 @@ pub struct Ended<D: Disk> {
     pub front: u32,
     /// The number of turns.
     pub turns: u32,
+}
+
+/// What is left of a coordinator that ended though its turns are not just those of the passes.
+#[derive(Drop)]
+pub struct Remainder<D: Disk> {
+    /// Why they are not.
+    pub fault: CloseFault,
+    /// The disk, the front and the number of turns.
+    pub ended: Ended<D>,
 }
 
 /// What is handed back where a coordinator does not end.
@@ -312,6 +321,53 @@ impl<L: Ledger, D: Disk> Coordinator<L, D> {
             }
         }
     }
+
+    /// Ends whatever the passes show. If they do not show each turn once, or a line is not right, or memory is missing for the test, the
+    /// fault says so, and the disk comes back with all records of the desk.
+    pub fn finish(self, passes: Vec<Pass<L>>) -> Result<Ended<D>, Remainder<D>>
+        ensures ok { IfOk result (λ e. IsEnded D.keeps D.view self passes.items e.turns e.front e.disk) }
+        ensures left { IfErr result (λ r. IsRemainder D.keeps D.view self passes.items r.fault r.ended.turns r.ended.front r.ended.disk) }
+    {
+        let Coordinator {
+            alloc: _,
+            opening,
+            locked,
+            workers: _,
+        } = self;
+        finish_over(&opening, locked.into_inner(), passes.as_slice())
+    }
+}
+
+/// What is left of a desk.
+fn end_desk<D: Disk>(desk: Desk<D>) -> Ended<D>
+    ensures turns { result.turns ≡ length desk.turns }
+    ensures front { result.front ≡ desk.held.front }
+    ensures disk { result.disk ≡ desk.disk }
+{
+    desk.lawful();
+    let turns = desk.turns().len() as u32;
+    let front = desk.front();
+    let disk = desk.close();
+    Ended { disk, front, turns }
+}
+
+/// What is left of the desk under the lock, and why the passes do not show each turn once, and the right lines, if they do not.
+fn finish_over<L: Ledger, D: Disk>(
+    opening: &Chains,
+    locked: Locked<L, D>,
+    passes: &[Pass<L>],
+) -> Result<Ended<D>, Remainder<D>>
+    ensures ok { IfOk result (λ e. IsEnded D.keeps D.view (held_of opening.now) passes.now e.turns e.front e.disk) }
+    ensures left { IfErr result (λ r. IsRemainder D.keeps D.view (held_of opening.now) passes.now r.fault r.ended.turns r.ended.front r.ended.disk) }
+{
+    let audited = audit(opening, locked.desk(), passes);
+    let desk = locked.into_desk();
+    desk.lawful();
+    let ended = end_desk(desk);
+    match audited {
+        Ok(()) => Ok(ended),
+        Err(fault) => Err(Remainder { fault, ended }),
+    }
 }
 
 /// What is left where the passes show each turn once, and the right lines; or why they do not, and all that lay under the lock, as it was.
@@ -329,8 +385,5 @@ fn conclude<L: Ledger, D: Disk>(
     }
     let desk = locked.into_desk();
     desk.lawful();
-    let turns = desk.turns().len() as u32;
-    let front = desk.front();
-    let disk = desk.close();
-    Ok(Ended { disk, front, turns })
+    Ok(end_desk(desk))
 }

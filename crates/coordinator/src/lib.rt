@@ -17,7 +17,7 @@ mod replaying;
 mod shown_lines;
 
 pub use auditing::audit;
-pub use coordinator::{Coordinator, Ended, Gate, OpenGate, Refused, Unclosed};
+pub use coordinator::{Coordinator, Ended, Gate, OpenGate, Refused, Remainder, Unclosed};
 pub use entry::Entry;
 pub use fault::{CallFault, CloseFault, PassFault};
 pub use pass::Pass;

@@ -49,7 +49,7 @@ impl<L: Ledger, D: Disk> Locked<L, D> {
     ghost use Rattle.desk.specs.Records.{IsReadOff};
     ghost use Rattle.coordinator.specs.Passes.{new_pass};
     ghost use Rattle.coordinator.specs.Calls.{IsTurnFor, IsDue, IsTakenFor};
-    ghost use Rattle.coordinator.specs.Standing.{IsMade};
+    ghost use Rattle.coordinator.specs.Standing.{IsMade, IsMadeWith};
 
     /// The desk under a new book.
     pub fn new(blank: Blank, desk: Desk<D>) -> Locked<L, D>
@@ -168,12 +168,14 @@ impl<L: Ledger, D: Disk> Locked<L, D> {
         requires copy { copy ≡ call }
         requires short { IsShort call }
         ensures ok { IfOk result (λ s. IsTakenFor self.old.desk self.new.desk pass.old call s pass.new) }
-        ensures stands { OnOk result (IsMade D.keeps D.view pass.old call pass.new) }
+        ensures stands { IfOk result (λ s. IsMadeWith D.keeps D.view pass.old call s pass.new) }
         ensures err { OnErr result ((self.new.desk ≡ self.old.desk) × (pass.new ≡ pass.old)) }
         ensures due { IfErr result (λ f. IsDue self.old.desk pass.old f) }
         ensures passes { self.new.passes ≡ self.old.passes }
     {
+        self.desk.lawful();
         self.turn(pass, None, call, copy)?;
+        self.desk.lawful();
         let Some(_front) = pass.taken() else {
             return Ok(None);
         };

@@ -21,7 +21,7 @@ pub(crate) struct Owner {
 }
 
 /// Whether the entry's call and receipt stand at its turn.
-fn is_at_turn(turns: &[Turn], entry: &Entry) -> bool
+pub(crate) fn is_at_turn(turns: &[Turn], entry: &Entry) -> bool
     ensures { IsTrue result ↔ IsAtTurn turns.now entry.now }
 {
     let receipt = entry.receipt();

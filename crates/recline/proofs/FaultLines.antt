@@ -19,5 +19,6 @@ pub refused_line : (a b c d e : List ℕ) (number code : ℕ) → a ≡ codes "r
 refused_line a b c d e number code f g h i j =
     rw (f, g, h, i, j) (ap (λ (l : List ℕ). codes "recline: refused " ++ l) (sym (append_assoc (decimal number) (32 ∷ decimal code) (10 ∷ []))))
 
-pub unknown_line : (a b e name : List ℕ) → a ≡ codes "recline: certificate unknown " → b ≡ name → e ≡ 10 ∷ [] → a ++ (b ++ (e ++ [])) ≡ ended (codes "recline: " ++ (codes "certificate unknown " ++ name))
-unknown_line a b e name f g h = rw (f, g, h) refl
+-- a name behind some words
+pub named_line : (a b e front name : List ℕ) → a ≡ front → b ≡ name → e ≡ 10 ∷ [] → a ++ (b ++ (e ++ [])) ≡ front ++ (name ++ 10 ∷ [])
+named_line a b e front name f g h = rw (f, g, h) refl

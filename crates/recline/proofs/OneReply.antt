@@ -1,9 +1,9 @@
 -- A client that sends one line gets one reply.
 use Rattle.std.proofs.Common.{◌≡◌, inl, inr, ℕ, List, [], ◌∷◌, ◌++◌, Option, None, Some, refl, sym, ◌∙◌, ap, subst, arith, append_assoc}
 use Rattle.std.proofs.lemmas.List.{append-nil}
-use Rattle.std.specs.Prelude.{◌≢◌, ◌⊎◌, Bool, true, false, IsNone}
+use Rattle.std.specs.Prelude.{◌≢◌, ◌⊎◌, Bool, true, false, if◌then◌else◌, IsNone}
 use Rattle.std.specs.Io.KnownBytes.{Appends, Consumes, IsAtEnd}
-use Rattle.line_disk.specs.Tape.{disk_view, disk_failures}
+use Rattle.line_disk.specs.Tape.{disk_view}
 use Rattle.line_disk.specs.declared.memory.MemoryDisk.{MemoryDisk}
 use Rattle.record_file.specs.File as files
 use Rattle.report_line.specs.Cutting.{ended, IsLine, Stand, Stands, cut_of, cut_from}
@@ -17,20 +17,24 @@ use Rattle.report_line.specs.declared.report.Report.{Report}
 use Rattle.report_line.specs.declared.report.Report.TheVariants as reports
 use Rattle.report_line.specs.declared.call.Call.{Call}
 use Rattle.report_line.specs.declared.call.Call.TheVariants as calls
+use Rattle.report_line.specs.Replies.{reply_text}
+use Rattle.report_line.specs.declared.reply.Reply.{Reply}
+use Rattle.report_line.specs.declared.reply.Reply.TheVariants as replies
 use Rattle.report_line.proofs.Streams.{only_cut, at_none, cut_append}
 use Rattle.chains.specs.Held.{Held}
 use Rattle.desk.specs.Desks.{DeskState}
 use Rattle.client_link.specs.Links.{LinkState}
 use Rattle.session.specs.Exchanges.{Exchange}
 use Rattle.session.specs.SessionText.{Means, Mean, joined, exchange_line, session_text}
-use Rattle.session.specs.Turned.{AreExchanges, EachLineIsChosen}
+use Rattle.session.specs.Turned.{AreExchanges, EachLineIsChosen, IsExchange, ShowsChosen}
 use Rattle.session.specs.Ends.{Ended, Leaves}
 use Rattle.session.specs.declared.handing.HandOn.{HandOn}
 use Rattle.session.specs.declared.handing.HandOn.TheVariants as hand_ons
 use Rattle.session.specs.declared.kind.Kind.{Kind}
 use Rattle.session.specs.declared.kind.Kind.TheVariants as kinds
-use Rattle.recline.specs.Outcome.{RunsOn, status_of}
-use Rattle.recline.specs.Asking.{AsksOn, WritesTo, asking, keeps_always, question_line, IsAsked, IsReplied, IsAnswered}
+use Rattle.recline.specs.Driving.{WritesAll}
+use Rattle.recline.specs.Outcome.{IsOpened, Tells}
+use Rattle.recline.specs.Asking.{AsksDesk, AsksOn, AsksOpened, AsksOver, IsAnswered, IsAnsweredByLine, IsAsked, IsAskedOf, IsRefused, IsReplied, HandsOver, ShowsRight, asked_fault, asked_status, asking, is_line, keeps_always, question_line, refusal_line}
 use Rattle.recline.specs.declared.asking.Question.{Question}
 use Rattle.recline.specs.declared.asking.Question.TheVariants.{Line, Garbage}
 
@@ -107,18 +111,7 @@ asked_call question call (inl spells) = call_letter (letter (question_line quest
 asked_call question call (inr (inl bad)) = subst IsAsked (sym bad.0) tt
 asked_call question call (inr (inr unread)) = subst IsAsked (sym unread) tt
 
-no_bye : (question : Question) (call : Call) → Means (question_line question) call → call ≡ calls.Bye → ⊥
-no_bye question call means is = subst IsAsked is (asked_call question call means)
-
-last_of : (line : List ℕ) (front rest : List (List ℕ)) (before : List Exchange) (last : Exchange) → line ∷ [] ≡ front ++ rest → Mean front (before ++ last ∷ []) → Means line last.call
-last_of line [] rest [] last is mean = absurd mean
-last_of line [] rest (b ∷ before) last is mean = absurd mean
-last_of line (l ∷ front) rest [] last is mean = let same : l ≡ line = cc in subst (λ (xs : List ℕ). Means xs last.call) same mean.0
-last_of line (l ∷ []) rest (b ∷ []) last is mean = absurd mean.1
-last_of line (l ∷ []) rest (b ∷ c ∷ before) last is mean = absurd mean.1
-last_of line (l ∷ m ∷ front) rest (b ∷ before) last is mean = let none : [] ≡ m ∷ (front ++ rest) = cc in cc
-
--- ---- how a session ends whose status is 0
+-- ---- how a session with one line ends
 
 part_read : (left : Option (List ℕ)) (line read : List ℕ) → Consumes (Some line) left read → (more : List ℕ) × (line ≡ read ++ more)
 part_read None line read consumed = absurd consumed
@@ -129,13 +122,29 @@ all_read None line read consumed ends = absurd consumed
 all_read (Some more) line read consumed ends = consumed ∙ ap (λ (l : List ℕ). read ++ l) ends ∙ append-nil read
 
 -- a session with a client that sends this line alone
-abbrev IsOne : {D : Type 0} → (D → Type 0) → HandOn → List ℕ → LinkState → LinkState → DeskState D → DeskState D → Kind → ℕ → Type 0
-IsOne keeps when line client link desk after kind count = Ended keeps (λ (state : LinkState). state) when (asking client (ended line)) link desk after kind count
+abbrev IsOne : {D : Type 0} → (D → Type 0) → HandOn → List ℕ → LinkState → DeskState D → DeskState D → Kind → ℕ → Type 0
+IsOne keeps when line link desk after kind count = Ended keeps (λ (state : LinkState). state) when (asking (ended line)) link desk after kind count
 
-reply_at_end : {D : Type 0} (keeps : D → Type 0) (when : HandOn) (question : Question) (client link : LinkState) (desk after : DeskState D) (count : ℕ) → IsLine (question_line question)
-    → IsOne keeps when (question_line question) client link desk after kinds.End count → Leaves kinds.End (asking client (ended (question_line question))) link
-    → IsReplied desk.held (question_line question) client link
-reply_at_end keeps when question client link desk after count is e leaves =
+-- the line took one turn over what is held, and the reply is what is shown for it
+record IsShownBy (held : Held) (line reply : List ℕ) : Type 0 where
+  exchange : Exchange
+  after : Held
+  means : Means line exchange.call
+  asked : IsAsked exchange.call
+  turned : IsExchange held exchange after
+  right : ShowsRight held exchange
+  chosen : ShowsChosen held exchange
+  reply_is : reply ≡ exchange_line exchange
+
+-- what was written to a link to which nothing was written before
+all_written : (text reply : List ℕ) (held : Option (List ℕ)) → Appends (Some []) held text → held ≡ Some reply → reply ≡ text
+all_written text reply None written is = absurd written
+all_written text reply (Some bytes) written is = let same : bytes ≡ reply = cc in sym same ∙ written
+
+reply_at_end : {D : Type 0} (keeps : D → Type 0) (when : HandOn) (question : Question) (link : LinkState) (desk after : DeskState D) (count : ℕ) (reply : List ℕ) → IsLine (question_line question)
+    → IsOne keeps when (question_line question) link desk after kinds.End count → Leaves kinds.End (asking (ended (question_line question))) link → link.held ≡ Some reply
+    → IsShownBy desk.held (question_line question) reply
+reply_at_end keeps when question link desk after count reply is e leaves reply_is =
     let line : List ℕ = question_line question in
     let read : List ℕ = joined e.pieces in
     let whole : ended line ≡ read = all_read link.left (ended line) read e.consumed leaves.2 in
@@ -156,78 +165,177 @@ reply_at_end keeps when question client link desk after count is e leaves =
       turned = served.1;
       right = λ shown is_shown. e.lines [] [] x shown desk.held one.1 refl is_shown;
       chosen = (subst (λ (es : List Exchange). EachLineIsChosen desk.held es) one.1 e.chosen).0;
-      written = subst (λ (t : List ℕ). Appends client.held link.held t) text e.written;
-      nothing_waits = leaves.1;
+      reply_is = all_written e.text reply link.held e.written reply_is ∙ text;
     }
 
-no_bye_end : {D : Type 0} (keeps : D → Type 0) (when : HandOn) (question : Question) (client link : LinkState) (desk after : DeskState D) (count : ℕ) → IsLine (question_line question)
-    → IsOne keeps when (question_line question) client link desk after kinds.Bye count → ⊥
-no_bye_end keeps when question client link desk after count is e =
-    let line : List ℕ = question_line question in
-    let read : List ℕ = joined e.pieces in
-    let part = part_read link.left (ended line) read e.consumed in
-    let cut = cut_part line read part.0 is part.1 in
-    let bye = e.session.ends.0 in
-    let rest : List (List ℕ) = (cut_from (cut_of read).1 part.0).0 in
-    let lines : line ∷ [] ≡ e.session.front ++ (e.session.later ++ rest) = cut.0 ∙ ap (λ (l : List (List ℕ)). l ++ rest) e.session.lines_are ∙ append_assoc e.session.front e.session.later rest in
-    no_bye question bye.last.call
-    (last_of line e.session.front (e.session.later ++ rest) bye.before bye.last lines (subst (λ (es : List Exchange). Mean e.session.front es) bye.exchanges_are e.session.mean)) bye.bye
-
-no_limit_end : {D : Type 0} (keeps : D → Type 0) (when : HandOn) (line : List ℕ) (client link : LinkState) (desk after : DeskState D) (count : ℕ) → IsLine line
-    → IsOne keeps when line client link desk after kinds.TooLong count → ⊥
-no_limit_end keeps when line client link desk after count is e =
+no_limit_end : {D : Type 0} (keeps : D → Type 0) (when : HandOn) (line : List ℕ) (link : LinkState) (desk after : DeskState D) (count : ℕ) → IsLine line
+    → IsOne keeps when line link desk after kinds.TooLong count → ⊥
+no_limit_end keeps when line link desk after count is e =
     let read : List ℕ = joined e.pieces in
     let part = part_read link.left (ended line) read e.consumed in
     past_limit (cut_of read).1 part.0 e.session.ends.0.2 (cut_part line read part.0 is part.1).1
 
-never_none : (stopped : Bool) → status_of kinds.Worn stopped ≡ 0 → ⊥
-never_none true status = omega (arith, status)
-never_none false status = omega (arith, status)
+-- ---- by its first letter
 
-reply_of : {D : Type 0} (keeps : D → Type 0) (when : HandOn) (question : Question) (client link : LinkState) (desk after : DeskState D) (kind : Kind) (count : ℕ) → IsLine (question_line question)
-    → IsOne keeps when (question_line question) client link desk after kind count → Leaves kind (asking client (ended (question_line question))) link
-    → status_of kind after.held.stopped ≡ 0 → IsReplied desk.held (question_line question) client link
-reply_of keeps when question client link desk after kinds.End count is e leaves status = reply_at_end keeps when question client link desk after count is e leaves
-reply_of keeps when question client link desk after kinds.Bye count is e leaves status = absurd (no_bye_end keeps when question client link desk after count is e)
-reply_of keeps when question client link desk after kinds.TooLong count is e leaves status = absurd (no_limit_end keeps when (question_line question) client link desk after count is e)
-reply_of keeps when question client link desk after kinds.Worn count is e leaves status = absurd (never_none after.held.stopped status)
-reply_of keeps when question client link desk after kinds.Endless count is e leaves status = absurd (never_none after.held.stopped status)
-reply_of keeps when question client link desk after kinds.Memory count is e leaves status = absurd (omega (arith, status))
-reply_of keeps when question client link desk after kinds.ReadFailed count is e leaves status = absurd (omega (arith, status))
-reply_of keeps when question client link desk after kinds.WriteFailed count is e leaves status = absurd (omega (arith, status))
-reply_of keeps when question client link desk after kinds.Foreign count is e leaves status = absurd (omega (arith, status))
+-- the reply is a LINE where its first letter is L, and only there
+line_by_letter : (r : Reply) → is_line (ended (reply_text r)) ≡ true → (text : List ℕ) × (r ≡ replies.Line text)
+unfolding reply_text
+line_by_letter (replies.Accepted front) is = let e : true ≡ false = sym is in cc
+line_by_letter (replies.Old front) is = let e : true ≡ false = sym is in cc
+line_by_letter (replies.No code name value) is = let e : true ≡ false = sym is in cc
+line_by_letter (replies.Bad number) is = let e : true ≡ false = sym is in cc
+line_by_letter (replies.Fail outcome) is = let e : true ≡ false = sym is in cc
+line_by_letter (replies.Line text) is = (text, refl)
+line_by_letter (replies.State name reports elements live id) is = let e : true ≡ false = sym is in cc
+line_by_letter (replies.Settled epoch front) is = let e : true ≡ false = sym is in cc
+line_by_letter replies.Bye is = let e : true ≡ false = sym is in cc
+line_by_letter (replies.Taken front) is = let e : true ≡ false = sym is in cc
 
--- the reply that went to the link went to the client
-reply_for : (held : Held) (line : List ℕ) (old link client : LinkState) → WritesTo link client → IsReplied held line old link → IsReplied held line old client
-reply_for held line old link client writes r = record {
-  exchange = r.exchange;
-  after = r.after;
-  means = r.means;
-  asked = r.asked;
-  turned = r.turned;
-  right = r.right;
-  chosen = r.chosen;
-  written = subst (λ (bytes : Option (List ℕ)). Appends old.held bytes (exchange_line r.exchange)) (sym writes.held) r.written;
-  nothing_waits = writes.waiting ∙ r.nothing_waits;
+letter_of_line : (text : List ℕ) → is_line (ended (reply_text (replies.Line text))) ≡ true
+unfolding reply_text
+letter_of_line text = refl
+
+no_line_by_letter : (r : Reply) (text : List ℕ) → is_line (ended (reply_text r)) ≡ false → r ≡ replies.Line text → ⊥
+no_line_by_letter r text none is = let e : true ≡ false = sym (letter_of_line text) ∙ ap (λ (s : Reply). is_line (ended (reply_text s))) (sym is) ∙ none in cc
+
+-- ---- which status tells what
+
+-- the session ended with its input, with a reply that begins so
+abbrev EndsBy : Kind → List ℕ → Bool → Type 0
+EndsBy kind reply letter = (kind ≡ kinds.End) × (is_line reply ≡ letter)
+
+by_letter_0 : (reply : List ℕ) (letter : Bool) → is_line reply ≡ letter → ◌≡◌ {A = ℕ} (if letter then 0 else 4) 0 → is_line reply ≡ true
+by_letter_0 reply true is status = is
+by_letter_0 reply false is status = absurd (omega (arith, status))
+
+by_letter_4 : (reply : List ℕ) (letter : Bool) → is_line reply ≡ letter → ◌≡◌ {A = ℕ} (if letter then 0 else 4) 4 → is_line reply ≡ false
+by_letter_4 reply true is status = absurd (omega (arith, status))
+by_letter_4 reply false is status = is
+
+ends_with_line : (kind : Kind) (reply : List ℕ) → asked_status kind reply ≡ 0 → EndsBy kind reply true
+ends_with_line kinds.End reply status = (refl, by_letter_0 reply (is_line reply) refl status)
+ends_with_line kinds.TooLong reply status = absurd (omega (arith, status))
+ends_with_line kinds.Bye reply status = absurd (omega (arith, status))
+ends_with_line kinds.Worn reply status = absurd (omega (arith, status))
+ends_with_line kinds.Endless reply status = absurd (omega (arith, status))
+ends_with_line kinds.Memory reply status = absurd (omega (arith, status))
+ends_with_line kinds.ReadFailed reply status = absurd (omega (arith, status))
+ends_with_line kinds.WriteFailed reply status = absurd (omega (arith, status))
+ends_with_line kinds.Foreign reply status = absurd (omega (arith, status))
+
+-- the line was too long, or the reply is none that begins so
+ends_with_refusal : (kind : Kind) (reply : List ℕ) → asked_status kind reply ≡ 4 → EndsBy kind reply false ⊎ (kind ≡ kinds.TooLong)
+ends_with_refusal kinds.End reply status = inl (refl, by_letter_4 reply (is_line reply) refl status)
+ends_with_refusal kinds.TooLong reply status = inr refl
+ends_with_refusal kinds.Bye reply status = absurd (omega (arith, status))
+ends_with_refusal kinds.Worn reply status = absurd (omega (arith, status))
+ends_with_refusal kinds.Endless reply status = absurd (omega (arith, status))
+ends_with_refusal kinds.Memory reply status = absurd (omega (arith, status))
+ends_with_refusal kinds.ReadFailed reply status = absurd (omega (arith, status))
+ends_with_refusal kinds.WriteFailed reply status = absurd (omega (arith, status))
+ends_with_refusal kinds.Foreign reply status = absurd (omega (arith, status))
+
+-- ---- the reply went to the client
+
+replied : (held : Held) (line reply : List ℕ) (old new : LinkState) → WritesAll old new reply → IsShownBy held line reply → IsReplied held line old new
+replied held line reply old new writes s = record {
+  exchange = s.exchange;
+  after = s.after;
+  means = s.means;
+  asked = s.asked;
+  turned = s.turned;
+  right = s.right;
+  chosen = s.chosen;
+  written = subst (λ (text : List ℕ). Appends old.held new.held text) s.reply_is writes.written;
+  nothing_waits = writes.nothing_waits;
 }
 
-answered_by : {F : Type 0} (faults_told : F → LinkState) (bytes : List ℕ) (question : Question) (client link : LinkState) (faults faults_after : F) (status : ℕ) (disk disk_after : MemoryDisk)
-    → (disk_view disk).seen ≡ bytes → IsLine (question_line question) → status ≡ 0
-    → RunsOn keeps_always disk_view disk_failures (λ (state : LinkState). state) faults_told hand_ons.EachRead disk disk_after (asking client (ended (question_line question))) link faults faults_after status
-    → IsAnswered bytes (question_line question) client link
-answered_by faults_told bytes question client link faults faults_after status disk disk_after seen is zero (inl r) = record {
-  said = r.desk.found;
-  held = r.desk.held;
-  stands = subst (λ (b : List ℕ). files.Stands r.desk.found b) seen (r.opened.records tt);
-  opened = r.opened.opened;
-  replied = reply_of keeps_always hand_ons.EachRead question client link r.desk r.after r.runs.kind r.runs.replies is r.runs.session r.runs.leaves (sym r.runs.status_is ∙ zero);
+-- the session over a desk that ended with its input
+shown_by : {F : Type 0} (faults_told : F → LinkState) (question : Question) (desk after : DeskState MemoryDisk) (client client_after : LinkState) (faults faults_after : F) (status : ℕ)
+    → IsLine (question_line question) → (a : IsAskedOf faults_told (ended (question_line question)) desk after client client_after faults faults_after status) → a.kind ≡ kinds.End → IsShownBy desk.held (question_line question) a.reply
+shown_by faults_told question desk after client client_after faults faults_after status is a ends =
+    let session = subst (λ (k : Kind). Ended keeps_always (λ (state : LinkState). state) hand_ons.EachRead (asking (ended (question_line question))) a.link desk after k a.replies) ends a.session in
+    let leaves = subst (λ (k : Kind). Leaves k (asking (ended (question_line question))) a.link) ends a.leaves in
+    reply_at_end keeps_always hand_ons.EachRead question a.link desk after a.replies a.reply is session leaves a.reply_is
+
+not_too_long : {F : Type 0} (faults_told : F → LinkState) (question : Question) (desk after : DeskState MemoryDisk) (client client_after : LinkState) (faults faults_after : F) (status : ℕ)
+    → IsLine (question_line question) → (a : IsAskedOf faults_told (ended (question_line question)) desk after client client_after faults faults_after status) → a.kind ≡ kinds.TooLong → ⊥
+not_too_long faults_told question desk after client client_after faults faults_after status is a ends =
+    no_limit_end keeps_always hand_ons.EachRead (question_line question) a.link desk after a.replies is
+    (subst (λ (k : Kind). Ended keeps_always (λ (state : LinkState). state) hand_ons.EachRead (asking (ended (question_line question))) a.link desk after k a.replies) ends a.session)
+
+-- what a desk of these bytes answered
+answer_of : (bytes : List ℕ) (question : Question) (disk : MemoryDisk) (desk : DeskState MemoryDisk) (client client_after : LinkState) (reply : List ℕ) → (disk_view disk).seen ≡ bytes
+    → IsOpened keeps_always disk_view disk desk → WritesAll client client_after reply → IsShownBy desk.held (question_line question) reply → IsAnswered bytes (question_line question) client client_after
+answer_of bytes question disk desk client client_after reply seen opened writes shown = record {
+  said = desk.found;
+  held = desk.held;
+  stands = subst (λ (b : List ℕ). files.Stands desk.found b) seen (opened.records tt);
+  opened = opened.opened;
+  replied = replied desk.held (question_line question) reply client client_after writes shown;
 }
-answered_by faults_told bytes question client link faults faults_after status disk disk_after seen is zero (inr n) = absurd (omega (arith, zero, n.status_is))
+
+-- a reply in full and its status, where no fault is told
+handed_by : {F : Type 0} (faults_told : F → LinkState) (kind : Kind) (reply : List ℕ) (client client_after : LinkState) (faults faults_after : F) (status : ℕ) → HandsOver faults_told kind reply client client_after faults faults_after status → status ≢ 3
+    → WritesAll client client_after reply × (status ≡ asked_status kind reply) × Tells (faults_told faults) (faults_told faults_after) (asked_fault kind reply)
+handed_by faults_told kind reply client client_after faults faults_after status (inl all) sound = all
+handed_by faults_told kind reply client client_after faults faults_after status (inr part) sound = absurd (sound part.1)
+
+-- which question was asked of a desk where the status is none of a fault
+asked_by : {F : Type 0} (faults_told : F → LinkState) (bytes sent : List ℕ) (client client_after : LinkState) (faults faults_after : F) (status : ℕ) → AsksOn faults_told bytes sent client client_after faults faults_after status → status ≢ 3
+    → (disk : MemoryDisk) × (desk after : DeskState MemoryDisk) × ((disk_view disk).seen ≡ bytes) × IsOpened keeps_always disk_view disk desk × IsAskedOf faults_told sent desk after client client_after faults faults_after status
+asked_by faults_told bytes sent client client_after faults faults_after status (inl copy) sound = by_disk copy.over
+  where
+    by_desk : (o : AsksOpened faults_told copy.disk sent client client_after faults faults_after status) → AsksDesk faults_told sent o.desk o.after client client_after faults faults_after status
+        → (disk : MemoryDisk) × (desk after : DeskState MemoryDisk) × ((disk_view disk).seen ≡ bytes) × IsOpened keeps_always disk_view disk desk × IsAskedOf faults_told sent desk after client client_after faults faults_after status
+    by_desk o (inl asked) = (copy.disk, o.desk, o.after, copy.seen, o.opened, asked)
+    by_desk o (inr none) = absurd (sound none.status_is)
+
+    by_disk : AsksOver faults_told copy.disk sent client client_after faults faults_after status
+        → (disk : MemoryDisk) × (desk after : DeskState MemoryDisk) × ((disk_view disk).seen ≡ bytes) × IsOpened keeps_always disk_view disk desk × IsAskedOf faults_told sent desk after client client_after faults faults_after status
+    by_disk (inl o) = by_desk o o.asks
+    by_disk (inr n) = absurd (sound n.1.status_is)
+asked_by faults_told bytes sent client client_after faults faults_after status (inr none) sound = absurd (sound none.status_is)
 
 pub answered : {F : Type 0} (faults_told : F → LinkState) (bytes : List ℕ) (question : Question) (client client_after : LinkState) (faults faults_after : F) (status : ℕ)
-    → AsksOn faults_told bytes (ended (question_line question)) client client_after faults faults_after status → IsLine (question_line question) → status ≡ 0
-    → IsAnswered bytes (question_line question) client client_after
-answered faults_told bytes question client client_after faults faults_after status (inl copy) is zero =
-    let a = answered_by faults_told bytes question client copy.over.link_after faults faults_after status copy.disk copy.over.disk_after copy.seen is zero copy.over.runs in
-    record { said = a.said; held = a.held; stands = a.stands; opened = a.opened; replied = reply_for a.held (question_line question) client copy.over.link_after client_after copy.over.writes a.replied }
-answered faults_told bytes question client client_after faults faults_after status (inr none) is zero = absurd (omega (arith, zero, none.status_is))
+    → AsksOn faults_told bytes (ended (question_line question)) client client_after faults faults_after status → IsLine (question_line question) → status ≡ 0 → IsAnsweredByLine bytes (question_line question) client client_after
+unfolding answer_of replied
+answered faults_told bytes question client client_after faults faults_after status asks is zero =
+    let sound : status ≢ 3 = λ three. omega (arith, zero, three) in
+    let by = asked_by faults_told bytes (ended (question_line question)) client client_after faults faults_after status asks sound in
+    let a = by.5 in
+    let all = handed_by faults_told a.kind a.reply client client_after faults faults_after status a.handed sound in
+    let ends = ends_with_line a.kind a.reply (sym all.1 ∙ zero) in
+    let shown = shown_by faults_told question by.1 by.2 client client_after faults faults_after status is a ends.0 in
+    (answer_of bytes question by.0 by.1 client client_after a.reply by.3 by.4 all.0 shown, line_by_letter shown.exchange.shown (ap is_line (sym shown.reply_is) ∙ ends.1))
+
+pub refused : {F : Type 0} (faults_told : F → LinkState) (bytes : List ℕ) (question : Question) (client client_after : LinkState) (faults faults_after : F) (status : ℕ)
+    → AsksOn faults_told bytes (ended (question_line question)) client client_after faults faults_after status → IsLine (question_line question) → status ≡ 4
+    → IsRefused faults_told bytes (question_line question) client client_after faults faults_after
+unfolding answer_of replied
+refused faults_told bytes question client client_after faults faults_after status asks is four =
+    let sound : status ≢ 3 = λ three. omega (arith, four, three) in
+    let by = asked_by faults_told bytes (ended (question_line question)) client client_after faults faults_after status asks sound in
+    let a = by.5 in
+    let all = handed_by faults_told a.kind a.reply client client_after faults faults_after status a.handed sound in
+    by_end by.0 by.1 by.2 by.3 by.4 a all (ends_with_refusal a.kind a.reply (sym all.1 ∙ four))
+  where
+    line : List ℕ
+    line = question_line question
+
+    told_for : (kind : Kind) (reply : List ℕ) → EndsBy kind reply false → asked_fault kind reply ≡ refusal_line reply
+    told_for kind reply ends = rw (ends.0, ends.1) refl
+
+    by_end : (disk : MemoryDisk) (desk after : DeskState MemoryDisk) → (disk_view disk).seen ≡ bytes → IsOpened keeps_always disk_view disk desk
+        → (a : IsAskedOf faults_told (ended (question_line question)) desk after client client_after faults faults_after status)
+        → WritesAll client client_after a.reply × (status ≡ asked_status a.kind a.reply) × Tells (faults_told faults) (faults_told faults_after) (asked_fault a.kind a.reply)
+        → EndsBy a.kind a.reply false ⊎ (a.kind ≡ kinds.TooLong) → IsRefused faults_told bytes (question_line question) client client_after faults faults_after
+    by_end disk desk after seen opened a all (inr long) = absurd (not_too_long faults_told question desk after client client_after faults faults_after status is a long)
+    by_end disk desk after seen opened a all (inl ends) =
+        let shown = shown_by faults_told question desk after client client_after faults faults_after status is a ends.0 in
+        record {
+          answered = answer_of bytes question disk desk client client_after a.reply seen opened all.0 shown;
+          none = λ text is_line_text. no_line_by_letter shown.exchange.shown text (ap is_line (sym shown.reply_is) ∙ ends.1) is_line_text;
+          told =
+              subst (λ (l : List ℕ). Tells (faults_told faults) (faults_told faults_after) l) (told_for a.kind a.reply ends ∙ ap refusal_line shown.reply_is) all.2;
+        }

@@ -5,76 +5,12 @@ use Rattle.std.proofs.lemmas.List.{append-nil, map-append}
 use Rattle.std.proofs.lemmas.List.Concat.{flat_map-append}
 use Rattle.std.specs.Io.KnownBytes.{Appends}
 use Rattle.std.proofs.Math.Logic.{∥∥₁_map}
+use Rattle.line_disk.specs.Disk.{View}
 use Rattle.coordinator.specs.Passes.{PassState}
 use Rattle.session.specs.declared.kind.Kind.{Kind}
 use Rattle.client_link.specs.Links.{LinkState}
-use Rattle.session.specs.Exchanges.{Exchange}
-use Rattle.session.specs.Ends.{IsReadAt, HaveGone}
 use Rattle.session.specs.Sessions.{WasServed}
 use Rattle.recline.specs.Serving.{AreOfSessions, AreServed, IsOfSession, dropped_in, drops}
-
-pub read_as_told : {K : Type 0} (told : K → LinkState) (link : K) (n : ℕ) (earlier : List ℕ) (turned : List Exchange) → IsReadAt told link n earlier turned → IsReadAt (λ (s : LinkState). s) (told link) n earlier turned
-read_as_told told link n earlier turned r =
-    record {
-      reading = told r.reading;
-      reads_are = r.reads_are;
-      consumed = r.consumed;
-      answered = r.answered;
-      later = r.later;
-      turned_are = r.turned_are;
-      each_line = r.each_line;
-      written = r.written;
-      nothing_waits = r.nothing_waits;
-      no_bye = r.no_bye;
-      is_open = r.is_open;
-    }
-
-pub gone_as_told : {K : Type 0} (told : K → LinkState) (link : K) (earlier : List Exchange) → HaveGone told link earlier → HaveGone (λ (s : LinkState). s) (told link) earlier
-gone_as_told told link earlier g = record { moment = told g.moment; written = g.written; nothing_waits = g.nothing_waits; sound = g.sound }
-
--- what is said of a link is so of what it tells
-as_told : {K : Type 0} (told : K → LinkState) (link : K) (pass : PassState) (kind : Kind) (replies : ℕ) → WasServed told link pass kind replies → WasServed (λ (s : LinkState). s) (told link) pass kind replies
-as_told told link pass kind replies w =
-    let l = w.served in
-    record {
-      before = told w.before;
-      fresh = w.fresh;
-      is_new = w.is_new;
-      served = record {
-        pieces = l.pieces;
-        turned = l.turned;
-        text = l.text;
-        session = l.session;
-        gains = l.gains;
-        consumed = l.consumed;
-        written = l.written;
-        reads = l.reads;
-        few = l.few;
-        prompt = λ n lt. read_as_told told w.before n _ l.turned (l.prompt n lt);
-        gone = record {
-          before_each = λ n lt. gone_as_told told w.before _ (l.gone.before_each n lt);
-          last = λ some all. gone_as_told told w.before _ (l.gone.last some all);
-        };
-        last = told l.last;
-        leaves = l.leaves;
-        ends = l.ends;
-      };
-    }
-
--- what a worker keeps of a session
-pub of_session : {K : Type 0} (told : K → LinkState) (link : K) (pass : PassState) (kind : Kind) (replies : ℕ) → ∥ WasServed told link pass kind replies ∥₁ → ∥ IsOfSession pass kind ∥₁
-of_session told link pass kind replies t = ∥∥₁_map t (λ w. record { link = told link; replies = replies; served = as_told told link pass kind replies w })
-
--- before the first session
-pub none_served : (passes : List PassState) → passes ≡ [] → AreServed passes 0
-none_served passes is = subst (λ (l : List PassState). AreServed l 0) (sym is) ([], tt, refl)
-
-one_of_sessions : (passes : List PassState) (kinds : List Kind) (pass : PassState) (kind : Kind) → AreOfSessions passes kinds → ∥ IsOfSession pass kind ∥₁
-    → AreOfSessions (passes ++ pass ∷ []) (kinds ++ kind ∷ [])
-one_of_sessions [] [] pass kind before this = (this, tt)
-one_of_sessions [] (k ∷ kinds) pass kind before this = absurd before
-one_of_sessions (p ∷ passes) [] pass kind before this = absurd before
-one_of_sessions (p ∷ passes) (k ∷ kinds) pass kind before this = (before.0, one_of_sessions passes kinds pass kind before.1 this)
 
 one_dropped : (kinds : List Kind) (kind : Kind) → dropped_in (kinds ++ kind ∷ []) ≡ dropped_in kinds + drops kind
 one_dropped [] kind = omega (arith)
@@ -108,13 +44,29 @@ list_counted f xs x before behind is next =
     let parts = dropped_apart (flat_map f xs) (f x) in
     omega (arith, is, next, whole, parts)
 
--- and behind one session more
-pub one_more : (passes : List PassState) (pass : PassState) (kind : Kind) (dropped more : ℕ) → AreServed passes dropped → ∥ IsOfSession pass kind ∥₁ → more ≡ dropped + drops kind
-    → AreServed (passes ++ pass ∷ []) more
-one_more passes pass kind dropped more before this is =
-    let so_far = before.2 in
-    let behind = one_dropped before.0 kind in
-    (before.0 ++ kind ∷ [], one_of_sessions passes before.0 pass kind before.1 this, omega (arith, so_far, behind, is))
+module _ {D K : Type 0} (keeps : D → Type 0) (view : D → View) (told : K → LinkState) where
+  -- what a worker keeps of a session
+  pub of_session : (link : K) (pass : PassState) (kind : Kind) (replies : ℕ) → ∥ WasServed keeps view told link pass kind replies ∥₁ → ∥ IsOfSession keeps view told pass kind ∥₁
+  of_session link pass kind replies t = ∥∥₁_map t (λ w. record { link = link; replies = replies; served = w })
+
+  -- before the first session
+  pub none_served : (passes : List PassState) → passes ≡ [] → AreServed keeps view told passes 0
+  none_served passes is = subst (λ (l : List PassState). AreServed keeps view told l 0) (sym is) ([], tt, refl)
+
+  one_of_sessions : (passes : List PassState) (kinds : List Kind) (pass : PassState) (kind : Kind) → AreOfSessions keeps view told passes kinds → ∥ IsOfSession keeps view told pass kind ∥₁
+      → AreOfSessions keeps view told (passes ++ pass ∷ []) (kinds ++ kind ∷ [])
+  one_of_sessions [] [] pass kind before this = (this, tt)
+  one_of_sessions [] (k ∷ kinds) pass kind before this = absurd before
+  one_of_sessions (p ∷ passes) [] pass kind before this = absurd before
+  one_of_sessions (p ∷ passes) (k ∷ kinds) pass kind before this = (before.0, one_of_sessions passes kinds pass kind before.1 this)
+
+  -- and behind one session more
+  pub one_more : (passes : List PassState) (pass : PassState) (kind : Kind) (dropped more : ℕ) → AreServed keeps view told passes dropped → ∥ IsOfSession keeps view told pass kind ∥₁ → more ≡ dropped + drops kind
+      → AreServed keeps view told (passes ++ pass ∷ []) more
+  one_more passes pass kind dropped more before this is =
+      let so_far = before.2 in
+      let behind = one_dropped before.0 kind in
+      (before.0 ++ kind ∷ [], one_of_sessions passes before.0 pass kind before.1 this, omega (arith, so_far, behind, is))
 
 -- ---- what was written
 

@@ -4,7 +4,7 @@ use Rattle.std.proofs.Common.{◌≡◌, ◌⊎◌, inl, inr, ℕ, List, length,
 use Rattle.line_disk.specs.Disk.{View}
 use Rattle.chains.specs.Held.{Held}
 use Rattle.coordinator.specs.Passes.{PassState}
-use Rattle.coordinator.specs.Closing.{IsEnded, IsRefused}
+use Rattle.coordinator.specs.Closing.{IsEnded, IsRemainder}
 use Rattle.coordinator.specs.declared.fault.CloseFault.{CloseFault}
 use Rattle.client_link.specs.Links.{LinkState}
 use Rattle.recline.specs.Driving.{WritesAll, WritesPart}
@@ -36,10 +36,10 @@ ended_so Ends Tells (Ok e) ends tells never = (e, ends, tells)
 ended_so Ends Tells (Err u) ends tells never = absurd never
 
 -- the sessions were served to their end
-pub ends_served : {D : Type 0} (keeps : D → Type 0) (view : D → View) (opening : Held) (sessions dropped : ℕ) (passes : List PassState) (turns front : ℕ) (ended : D) (before behind : Option Stop) (old between new : LinkState) (disk : D)
-    → AreServed passes dropped → StopsBehind before (length passes) sessions behind → PrintsPort before old between → IsEnded keeps view opening passes turns front ended → EndsWith behind front ended between new disk
-    → IsServed keeps view opening sessions dropped old new disk
-ends_served {D = D} keeps view opening sessions dropped passes turns front ended before behind old between new disk served why printed ends (none, back, written) =
+pub ends_served : {D K : Type 0} (keeps : D → Type 0) (view : D → View) (client_told : K → LinkState) (opening : Held) (sessions dropped : ℕ) (passes : List PassState) (turns front : ℕ) (ended : D) (before behind : Option Stop) (old between new : LinkState) (disk : D)
+    → AreServed keeps view client_told passes dropped → StopsBehind before (length passes) sessions behind → PrintsPort before old between → IsEnded keeps view opening passes turns front ended → EndsWith behind front ended between new disk
+    → IsServed keeps view client_told opening sessions dropped old new disk
+ends_served {D = D} keeps view client_told opening sessions dropped passes turns front ended before behind old between new disk served why printed ends (none, back, written) =
     let all_served : StopsBehind before (length passes) sessions None = subst (λ (o : Option Stop). StopsBehind before (length passes) sessions o) none why in
     let port : PrintsPort None old between = subst (λ (o : Option Stop). PrintsPort o old between) all_served.0 printed in
     record {
@@ -74,12 +74,12 @@ port_and_part served sessions front stop before old between new why printed devi
     (port.0, inr (device, inr (why.1, part_then old between new (port_line port.0) (end_line front) port.1 part)))
 
 -- the coordinator ended, and the service stopped
-cut_short : {D : Type 0} (keeps : D → Type 0) (view : D → View) (opening : Held) (sessions dropped : ℕ) (passes : List PassState) (turns front : ℕ) (ended : D) (before behind : Option Stop) (old between new : LinkState) (disk : Option D) (stop : Stop)
-    → AreServed passes dropped → StopsBehind before (length passes) sessions behind → PrintsPort before old between → IsEnded keeps view opening passes turns front ended → EndsShort behind front ended between new disk stop
-    → IsStopped keeps view opening sessions old new disk stop
-cut_short {D = D} keeps view opening sessions dropped passes turns front ended before behind old between new disk stop served why printed ends (back, told) =
-    subst (λ (d : Option D). IsStopped keeps view opening sessions old new d stop) (sym back)
-    (record { passes = passes; dropped = dropped; turns = turns; front = front; ends = ends; served = served; printed = go told })
+cut_short : {D K : Type 0} (keeps : D → Type 0) (view : D → View) (client_told : K → LinkState) (opening : Held) (sessions dropped : ℕ) (passes : List PassState) (turns front : ℕ) (ended : D) (before behind : Option Stop) (old between new : LinkState) (disk : D) (stop : Stop)
+    → AreServed keeps view client_told passes dropped → StopsBehind before (length passes) sessions behind → PrintsPort before old between → IsEnded keeps view opening passes turns front ended → EndsShort behind front ended between new disk stop
+    → IsStopped keeps view client_told opening sessions old new disk stop
+cut_short {D = D} keeps view client_told opening sessions dropped passes turns front ended before behind old between new disk stop served why printed ends (back, told) =
+    subst (λ (d : D). IsStopped keeps view client_told opening sessions old new d stop) (sym back)
+    (inl (record { passes = passes; dropped = dropped; turns = turns; front = front; ends = ends; served = served; printed = go told }))
   where
     go : ((behind ≡ Some stop) × (new ≡ between)) ⊎ ((behind ≡ None) × (stop ≡ stops.Device) × WritesPart between new (end_line front))
         → PrintsSome (length passes) sessions front stop old new
@@ -89,21 +89,30 @@ cut_short {D = D} keeps view opening sessions dropped passes turns front ended b
     go (inr (none, device, part)) =
         port_and_part (length passes) sessions front stop before old between new (subst (λ (o : Option Stop). StopsBehind before (length passes) sessions o) none why) printed device part
 
--- or it did not
-unended : {D : Type 0} (keeps : D → Type 0) (view : D → View) (opening : Held) (sessions dropped : ℕ) (passes : List PassState) (fault : CloseFault) (before : Option Stop) (old between new : LinkState) (disk : Option D) (stop : Stop)
-    → AreServed passes dropped → PrintsPort before old between → IsRefused keeps view opening passes fault → EndsNot fault between new disk stop
-    → IsStopped keeps view opening sessions old new disk stop
-unended {D = D} keeps view opening sessions dropped passes fault before old between new disk stop served printed refused (none, is, same) =
-    subst (λ (d : Option D). IsStopped keeps view opening sessions old new d stop) (sym none)
-    (inr (record { passes = passes; dropped = dropped; fault = fault; served = served; refused = refused; stop_is = is }), subst (λ (s : LinkState). WritesPort old s) (sym same) (writes_port before old between printed))
+-- or its passes are not those of all turns
+unended : {D K : Type 0} (keeps : D → Type 0) (view : D → View) (client_told : K → LinkState) (opening : Held) (sessions dropped : ℕ) (passes : List PassState) (fault : CloseFault) (turns front : ℕ) (ended : D) (before : Option Stop) (old between new : LinkState) (disk : D) (stop : Stop)
+    → AreServed keeps view client_told passes dropped → PrintsPort before old between → IsRemainder keeps view opening passes fault turns front ended → EndsNot fault ended between new disk stop
+    → IsStopped keeps view client_told opening sessions old new disk stop
+unended {D = D} keeps view client_told opening sessions dropped passes fault turns front ended before old between new disk stop served printed remains (back, is, same) =
+    inr (record {
+      passes = passes;
+      dropped = dropped;
+      turns = turns;
+      front = front;
+      fault = fault;
+      served = served;
+      remains = subst (λ (d : D). IsRemainder keeps view opening passes fault turns front d) (sym back) remains;
+      stop_is = is;
+      printed = subst (λ (s : LinkState). WritesPort old s) (sym same) (writes_port before old between printed);
+    })
 
 -- the service stopped
-pub ends_stopped : {D E U : Type 0} (keeps : D → Type 0) (view : D → View) (opening : Held) (sessions dropped : ℕ) (passes : List PassState) (turns_of front_of : E → ℕ) (disk_of : E → D) (fault_of : U → CloseFault) (closed : Result E U) (before behind : Option Stop) (old between new : LinkState) (disk : Option D) (stop : Stop)
-    → AreServed passes dropped → StopsBehind before (length passes) sessions behind → PrintsPort before old between
-    → IfOk closed (λ e. IsEnded keeps view opening passes (turns_of e) (front_of e) (disk_of e)) → IfErr closed (λ u. IsRefused keeps view opening passes (fault_of u))
-    → IfOk closed (λ e. EndsShort behind (front_of e) (disk_of e) between new disk stop) → IfErr closed (λ u. EndsNot (fault_of u) between new disk stop)
-    → IsStopped keeps view opening sessions old new disk stop
-ends_stopped keeps view opening sessions dropped passes turns_of front_of disk_of fault_of (Ok e) before behind old between new disk stop served why printed ends refused short not =
-    cut_short keeps view opening sessions dropped passes (turns_of e) (front_of e) (disk_of e) before behind old between new disk stop served why printed ends short
-ends_stopped keeps view opening sessions dropped passes turns_of front_of disk_of fault_of (Err u) before behind old between new disk stop served why printed ends refused short not =
-    unended keeps view opening sessions dropped passes (fault_of u) before old between new disk stop served printed refused not
+pub ends_stopped : {D E U K : Type 0} (keeps : D → Type 0) (view : D → View) (client_told : K → LinkState) (opening : Held) (sessions dropped : ℕ) (passes : List PassState) (turns_of front_of : E → ℕ) (disk_of : E → D) (fault_of : U → CloseFault) (turns_left front_left : U → ℕ) (disk_left : U → D) (finished : Result E U) (before behind : Option Stop) (old between new : LinkState) (disk : D) (stop : Stop)
+    → AreServed keeps view client_told passes dropped → StopsBehind before (length passes) sessions behind → PrintsPort before old between
+    → IfOk finished (λ e. IsEnded keeps view opening passes (turns_of e) (front_of e) (disk_of e)) → IfErr finished (λ u. IsRemainder keeps view opening passes (fault_of u) (turns_left u) (front_left u) (disk_left u))
+    → IfOk finished (λ e. EndsShort behind (front_of e) (disk_of e) between new disk stop) → IfErr finished (λ u. EndsNot (fault_of u) (disk_left u) between new disk stop)
+    → IsStopped keeps view client_told opening sessions old new disk stop
+ends_stopped keeps view client_told opening sessions dropped passes turns_of front_of disk_of fault_of turns_left front_left disk_left (Ok e) before behind old between new disk stop served why printed ends remains short not =
+    cut_short keeps view client_told opening sessions dropped passes (turns_of e) (front_of e) (disk_of e) before behind old between new disk stop served why printed ends short
+ends_stopped keeps view client_told opening sessions dropped passes turns_of front_of disk_of fault_of turns_left front_left disk_left (Err u) before behind old between new disk stop served why printed ends remains short not =
+    unended keeps view client_told opening sessions dropped passes (fault_of u) (turns_left u) (front_left u) (disk_left u) before old between new disk stop served printed remains not

@@ -1,10 +1,11 @@
 -- What is answered to one question over the bytes of a record file.
-use Rattle.std.specs.Prelude.{◌≡◌, ◌⊎◌, ℕ, List, [], ◌++◌, codes, None, Some, ⊤}
+use Rattle.std.specs.Prelude.{◌≡◌, ◌≢◌, ◌⊎◌, ◌==◌, nat_eq, ℕ, ◌-◌, Bool, false, if◌then◌else◌, List, [], ◌∷◌, ◌++◌, codes, length, take, drop, None, Some, ⊤}
+use Rattle.std.specs.List.{starts_with}
 use Rattle.std.specs.Io.KnownBytes.{Appends}
 use Rattle.line_disk.specs.Tape.{disk_view, disk_failures}
 use Rattle.line_disk.specs.declared.memory.MemoryDisk.{MemoryDisk}
 use Rattle.record_file.specs.File.{Said, Stands}
-use Rattle.report_line.specs.Cutting.{NoBreak}
+use Rattle.report_line.specs.Cutting.{NoBreak, ended}
 use Rattle.report_line.specs.declared.call.Call.{Call}
 use Rattle.report_line.specs.declared.call.Call.TheVariants as calls
 use Rattle.report_line.specs.declared.reply.Reply.TheVariants as replies
@@ -12,14 +13,20 @@ use Rattle.chains.specs.Processes.{Name}
 use Rattle.chains.specs.Held.{Held}
 use Rattle.history_law.specs.Headline.{IsRightLine}
 use Rattle.line_text.specs.Asking.{AsksForLine}
+use Rattle.desk.specs.Desks.{DeskState}
+use Rattle.desk.specs.Lawful.{IsLawfulDesk}
 use Rattle.desk.specs.Records.{Opens}
 use Rattle.desk.specs.declared.fault.DeskFault.TheVariants as opening
 use Rattle.client_link.specs.Links.{LinkState}
+use Rattle.session.specs.Ends.{Ended, Leaves}
 use Rattle.session.specs.Exchanges.{Exchange}
 use Rattle.session.specs.SessionText.{Means, exchange_line}
 use Rattle.session.specs.Turned.{IsExchange, ShowsChosen}
 use Rattle.session.specs.declared.handing.HandOn.TheVariants as hand_ons
-use Rattle.recline.specs.Outcome.{RunsOn, Tells, open_fault_line}
+use Rattle.session.specs.declared.kind.Kind.{Kind}
+use Rattle.session.specs.declared.kind.Kind.TheVariants as kinds
+use Rattle.recline.specs.Driving.{WritesAll, WritesPart}
+use Rattle.recline.specs.Outcome.{IsNotOpened, IsOpened, Tells, open_fault_line}
 use Rattle.recline.specs.declared.asking.Question.{Question}
 use Rattle.recline.specs.declared.asking.Question.TheVariants.{Line, Garbage}
 
@@ -33,39 +40,101 @@ abbrev pub IsOneLine : Question → Type 0
 IsOneLine (Line names) = NoBreak names.now
 IsOneLine Garbage = ⊤
 
--- a link that gives these bytes, where what is written to it this client takes
-abbrev pub asking : LinkState → List ℕ → LinkState
-asking client bytes = record { left = Some bytes; held = client.held; waiting = client.waiting; reads = 0; failures = client.failures; stalls = client.stalls; ended = None }
+-- ---- the status and the fault line
 
--- what was written to the link the client took, and what failed of it failed at the client
-pub record WritesTo (link client : LinkState) : Type 0 where
-  pub held : client.held ≡ link.held
-  pub waiting : client.waiting ≡ link.waiting
-  pub failures : client.failures ≡ link.failures
-  pub stalls : client.stalls ≡ link.stalls
+-- whether the reply is a LINE: no other reply begins with L
+abbrev pub is_line : List ℕ → Bool
+is_line [] = false
+is_line (b ∷ bs) = b == 76
+
+-- the name in the reply `NO 3 NAME -`, whose line has 8 bytes beside it
+abbrev pub name_in : List ℕ → List ℕ
+name_in reply = take (length reply - 8) (drop 5 reply)
+
+-- why a question is refused, by the line of its reply
+abbrev pub refusal_line : List ℕ → List ℕ
+refusal_line reply =
+    if starts_with nat_eq reply (codes "NO 3 ") then ended (codes "recline: unknown " ++ name_in reply)
+    else if starts_with nat_eq reply (codes "NO 14 ") then ended (codes "recline: nothing begun")
+    else if starts_with nat_eq reply (codes "NO 16 ") then ended (codes "recline: memory")
+    else ended (codes "recline: no list of names")
+
+-- The status, by how the session with the question ended and by its reply: the line was shown, or the question was refused. One line in
+-- memory ends no session otherwise, unless memory is wanting.
+abbrev pub asked_status : Kind → List ℕ → ℕ
+asked_status kinds.End reply = if is_line reply then 0 else 4
+asked_status kinds.TooLong reply = 4
+asked_status _ reply = 3
+
+-- the fault line; a line that is shown has none
+abbrev pub asked_fault : Kind → List ℕ → List ℕ
+asked_fault kinds.End reply = if is_line reply then [] else refusal_line reply
+asked_fault kinds.TooLong reply = ended (codes "recline: no list of names")
+asked_fault _ reply = ended (codes "recline: memory")
+
+-- The reply was written to the client and handed on, and the status and the fault line say what it is; or a part of it was written, and a
+-- call of the client failed.
+abbrev pub HandsOver : {F : Type 0} → (F → LinkState) → Kind → List ℕ → LinkState → LinkState → F → F → ℕ → Type 0
+HandsOver faults_told kind reply client client_after faults faults_after status =
+    (WritesAll client client_after reply × (status ≡ asked_status kind reply) × Tells (faults_told faults) (faults_told faults_after) (asked_fault kind reply))
+    ⊎ (WritesPart client client_after reply × (status ≡ 3) × Tells (faults_told faults) (faults_told faults_after) (open_fault_line opening.Device))
+
+-- ---- what was done
+
+-- a link in memory that gives these bytes, and to which nothing was written
+abbrev pub asking : List ℕ → LinkState
+asking bytes = record { left = Some bytes; held = Some []; waiting = []; reads = 0; failures = 0; stalls = 0; ended = None }
 
 -- what is premised of a disk in memory
 abbrev pub keeps_always : MemoryDisk → Type 0
 keeps_always disk = Unit {0}
 
--- The command `run` over this disk, with a client that sends these bytes and no more: what is said of it there is said here.
-pub record AsksOver {F : Type 0} (faults_told : F → LinkState) (disk : MemoryDisk) (sent : List ℕ) (client client_after : LinkState) (faults faults_after : F) (status : ℕ) : Type 0 where
-  pub disk_after : MemoryDisk
-  pub link_after : LinkState
-  pub writes : WritesTo link_after client_after
-  pub runs : RunsOn keeps_always disk_view disk_failures (λ (state : LinkState). state) faults_told hand_ons.EachRead disk disk_after (asking client sent) link_after faults faults_after status
+-- A session over this desk with a client that sends these bytes and no more, in memory. What it wrote is the reply, which was handed over.
+pub record IsAskedOf {F : Type 0} (faults_told : F → LinkState) (sent : List ℕ) (desk after : DeskState MemoryDisk) (client client_after : LinkState) (faults faults_after : F) (status : ℕ) : Type 0 where
+  pub link : LinkState
+  pub kind : Kind
+  pub replies : ℕ
+  pub session : Ended keeps_always (λ (state : LinkState). state) hand_ons.EachRead (asking sent) link desk after kind replies
+  pub leaves : Leaves kind (asking sent) link
+  pub reply : List ℕ
+  pub reply_is : link.held ≡ Some reply
+  pub handed : HandsOver faults_told kind reply client client_after faults faults_after status
+
+-- memory was wanting: nothing was written to the client
+pub record AsksNone {F : Type 0} (faults_told : F → LinkState) (client client_after : LinkState) (faults faults_after : F) (status : ℕ) : Type 0 where
+  pub client_rests : client_after ≡ client
+  pub status_is : status ≡ 3
+  pub faults_are : Tells (faults_told faults) (faults_told faults_after) (open_fault_line opening.Memory)
+
+-- it was asked of this desk
+abbrev pub AsksDesk : {F : Type 0} → (F → LinkState) → List ℕ → DeskState MemoryDisk → DeskState MemoryDisk → LinkState → LinkState → F → F → ℕ → Type 0
+AsksDesk faults_told sent desk after client client_after faults faults_after status =
+    IsAskedOf faults_told sent desk after client client_after faults faults_after status
+    ⊎ AsksNone faults_told client client_after faults faults_after status
+
+-- the file on this disk was opened, and it was asked of the desk of it
+pub record AsksOpened {F : Type 0} (faults_told : F → LinkState) (disk : MemoryDisk) (sent : List ℕ) (client client_after : LinkState) (faults faults_after : F) (status : ℕ) : Type 0 where
+  pub desk : DeskState MemoryDisk
+  pub after : DeskState MemoryDisk
+  pub opened : IsOpened keeps_always disk_view disk desk
+  pub asks : AsksDesk faults_told sent desk after client client_after faults faults_after status
+  pub lawful : IsLawfulDesk keeps_always disk_view after
+
+-- the file on this disk was not opened
+abbrev pub AsksUnopened : {F : Type 0} → (F → LinkState) → MemoryDisk → LinkState → LinkState → F → F → ℕ → Type 0
+AsksUnopened faults_told disk client client_after faults faults_after status =
+    (disk_after : MemoryDisk) × IsNotOpened keeps_always disk_view disk_failures faults_told disk disk_after client client_after faults faults_after status
+
+abbrev pub AsksOver : {F : Type 0} → (F → LinkState) → MemoryDisk → List ℕ → LinkState → LinkState → F → F → ℕ → Type 0
+AsksOver faults_told disk sent client client_after faults faults_after status =
+    AsksOpened faults_told disk sent client client_after faults faults_after status
+    ⊎ AsksUnopened faults_told disk client client_after faults faults_after status
 
 -- it was so over a copy of these bytes
 pub record AsksCopy {F : Type 0} (faults_told : F → LinkState) (bytes sent : List ℕ) (client client_after : LinkState) (faults faults_after : F) (status : ℕ) : Type 0 where
   pub disk : MemoryDisk
   pub seen : (disk_view disk).seen ≡ bytes
   pub over : AsksOver faults_told disk sent client client_after faults faults_after status
-
--- memory was wanting for the copy: nothing was written to the client
-pub record AsksNone {F : Type 0} (faults_told : F → LinkState) (client client_after : LinkState) (faults faults_after : F) (status : ℕ) : Type 0 where
-  pub client_rests : client_after ≡ client
-  pub status_is : status ≡ 3
-  pub faults_are : Tells (faults_told faults) (faults_told faults_after) (open_fault_line opening.Memory)
 
 abbrev pub AsksOn : {F : Type 0} → (F → LinkState) → List ℕ → List ℕ → LinkState → LinkState → F → F → ℕ → Type 0
 AsksOn faults_told bytes sent client client_after faults faults_after status =
@@ -78,6 +147,13 @@ AsksOn faults_told bytes sent client client_after faults faults_after status =
 abbrev pub ShowsRight : Held → Exchange → Type 0
 ShowsRight held exchange =
     (text : List ℕ) → exchange.shown ≡ replies.Line text → (names : List Name) × AsksForLine held exchange.call names × IsRightLine held names text
+
+-- a LINE is shown; or none is, so that the question was refused
+abbrev pub ShowsLine : Exchange → Type 0
+ShowsLine exchange = (text : List ℕ) × (exchange.shown ≡ replies.Line text)
+
+abbrev pub ShowsNoLine : Exchange → Type 0
+ShowsNoLine exchange = (text : List ℕ) → exchange.shown ≢ replies.Line text
 
 -- the calls that a question is read as: it asks for a line, or is no call, or memory was wanting
 abbrev pub IsAsked : Call → Type 0
@@ -106,3 +182,13 @@ pub record IsAnswered (bytes line : List ℕ) (old new : LinkState) : Type 0 whe
   pub stands : Stands said bytes
   pub opened : Opens said held
   pub replied : IsReplied held line old new
+
+-- the line was answered by a LINE
+abbrev pub IsAnsweredByLine : List ℕ → List ℕ → LinkState → LinkState → Type 0
+IsAnsweredByLine bytes line old new = (answered : IsAnswered bytes line old new) × ShowsLine answered.replied.exchange
+
+-- the line was answered by another reply, and the fault line says why
+pub record IsRefused {F : Type 0} (faults_told : F → LinkState) (bytes line : List ℕ) (old new : LinkState) (faults faults_after : F) : Type 0 where
+  pub answered : IsAnswered bytes line old new
+  pub none : ShowsNoLine answered.replied.exchange
+  pub told : Tells (faults_told faults) (faults_told faults_after) (refusal_line (exchange_line answered.replied.exchange))

@@ -1,5 +1,5 @@
 -- What the program answers when a certificate was checked over a record file.
-use Rattle.std.specs.Prelude.{◌≡◌, ◌⊎◌, ℕ, List, [], ◌++◌, codes, Ok, Err, string_bytes}
+use Rattle.std.specs.Prelude.{◌≡◌, ◌⊎◌, ℕ, List, [], ◌++◌, codes, Ok, Err, string_bytes, ⊤}
 use Rattle.std.specs.Io.KnownBytes.{Consumes, IsAtEnd}
 use Rattle.line_disk.specs.Disk.{View}
 use Rattle.report_line.specs.Cutting.{ended}
@@ -19,6 +19,9 @@ use Rattle.desk.specs.Lawful.{IsLawfulDesk}
 use Rattle.client_link.specs.Links.{LinkState, IsSound}
 use Rattle.recline.specs.Outcome.{IsNotOpened, IsOpened, Tells}
 use Rattle.recline.specs.Driving.{HasFewReads, OnlyReads, ReadsInVain, WritesAll, WritesPart}
+use Rattle.recline.specs.Escaped.{shown_name}
+use Rattle.recline.specs.declared.checking.Cause.{Cause}
+use Rattle.recline.specs.declared.checking.Cause.TheVariants as causes
 use Rattle.recline.specs.declared.checking.Checked.{Checked}
 use Rattle.recline.specs.declared.checking.Checked.TheVariants as checked
 
@@ -26,22 +29,32 @@ use Rattle.recline.specs.declared.checking.Checked.TheVariants as checked
 abbrev pub check_status : Checked → ℕ
 check_status (checked.Told Yes) = 0
 check_status (checked.Told (No cause)) = 4
-check_status (checked.NoCertificate fault.Memory) = 3
+check_status (checked.NoCertificate causes.Memory) = 3
 check_status (checked.NoCertificate _) = 2
 check_status checked.Memory = 3
 check_status checked.Device = 3
 
+-- The cause that is told for a fault of a text. A name that no process has is written as a string of JSON has it, as far as there is room;
+-- memory may be wanting for that.
+abbrev pub IsCauseOf : CertificateFault → Cause → Type 0
+IsCauseOf fault.NotJson causes.NotJson = ⊤
+IsCauseOf fault.Shape causes.Shape = ⊤
+IsCauseOf (fault.Unknown name) (causes.Unknown shown) = shown.items ≡ shown_name (string_bytes name)
+IsCauseOf (fault.Unknown name) causes.Memory = ⊤
+IsCauseOf fault.Memory causes.Memory = ⊤
+IsCauseOf _ _ = ⊥
+
 -- why a text gave no certificate
-abbrev pub certificate_fault_words : CertificateFault → List ℕ
-certificate_fault_words fault.NotJson = codes "certificate not json"
-certificate_fault_words fault.Shape = codes "certificate shape"
-certificate_fault_words (fault.Unknown name) = codes "certificate unknown " ++ string_bytes name
-certificate_fault_words fault.Memory = codes "memory"
+abbrev pub cause_words : Cause → List ℕ
+cause_words causes.NotJson = codes "certificate not json"
+cause_words causes.Shape = codes "certificate shape"
+cause_words (causes.Unknown shown) = codes "certificate unknown " ++ shown.items
+cause_words causes.Memory = codes "memory"
 
 -- the fault line; a verdict has none, yes or no
 abbrev pub check_fault : Checked → List ℕ
 check_fault (checked.Told verdict) = []
-check_fault (checked.NoCertificate why) = ended (codes "recline: " ++ certificate_fault_words why)
+check_fault (checked.NoCertificate cause) = ended (codes "recline: " ++ cause_words cause)
 check_fault checked.Memory = ended (codes "recline: memory")
 check_fault checked.Device = ended (codes "recline: device")
 
@@ -77,7 +90,7 @@ pub record IsNoCertificate (held : Held) (old new : LinkState) (why : Certificat
 -- was wanting, for the text or the verdict. On a fault a part of the verdict was written, or a read failed, or the text had no end.
 abbrev pub IsCheckedOver : Held → LinkState → LinkState → Checked → Type 0
 IsCheckedOver held old new (checked.Told verdict) = IsVerdictOnText held old new verdict × WritesAll old new (ended (verdict_text verdict))
-IsCheckedOver held old new (checked.NoCertificate why) = IsNoCertificate held old new why
+IsCheckedOver held old new (checked.NoCertificate cause) = (why : CertificateFault) × IsCauseOf why cause × IsNoCertificate held old new why
 IsCheckedOver held old new checked.Memory = (bytes : List ℕ) × OnlyReads old new bytes × IsSound old new
 IsCheckedOver held old new checked.Device =
     ((verdict : Verdict) × IsVerdictOnText held old new verdict × WritesPart old new (ended (verdict_text verdict)))

@@ -6,7 +6,7 @@ use Rattle.line_disk.specs.Disk.{View}
 use Rattle.chains.specs.Held.{Held}
 use Rattle.desk.specs.Desks.{DeskState}
 use Rattle.coordinator.specs.Passes.{PassState}
-use Rattle.coordinator.specs.Closing.{IsEnded, IsRefused}
+use Rattle.coordinator.specs.Closing.{IsEnded, IsRemainder}
 use Rattle.coordinator.specs.declared.fault.CloseFault.{CloseFault}
 use Rattle.coordinator.specs.declared.fault.CloseFault.TheVariants as faults
 use Rattle.report_line.specs.Cutting.{ended}
@@ -46,18 +46,19 @@ stopped_by faults.Memory = stops.Memory
 stopped_by (faults.Stranger number) = stops.Foreign
 stopped_by (faults.Missing shares turns) = stops.Foreign
 
--- a session was served with this pass, from when it was new, and ended so
-pub record IsOfSession (pass : PassState) (kind : Kind) : Type 0 where
-  pub link : LinkState
+-- A session was served with this pass, from when it was new, and ended so. The link is one that a worker handed back: a value of
+-- the type of links, and not only what some link tells.
+pub record IsOfSession {D K : Type 0} (keeps : D → Type 0) (view : D → View) (client_told : K → LinkState) (pass : PassState) (kind : Kind) : Type 0 where
+  pub link : K
   pub replies : ℕ
-  pub served : WasServed (λ (state : LinkState). state) link pass kind replies
+  pub served : WasServed keeps view client_told link pass kind replies
 
 -- a session each
-abbrev pub AreOfSessions : List PassState → List Kind → Type 0
-AreOfSessions [] [] = ⊤
-AreOfSessions (pass ∷ passes) (kind ∷ kinds) = ∥ IsOfSession pass kind ∥₁ × AreOfSessions passes kinds
-AreOfSessions [] (kind ∷ kinds) = ⊥
-AreOfSessions (pass ∷ passes) [] = ⊥
+abbrev pub AreOfSessions : {D K : Type 0} → (D → Type 0) → (D → View) → (K → LinkState) → List PassState → List Kind → Type 0
+AreOfSessions keeps view client_told [] [] = ⊤
+AreOfSessions keeps view client_told (pass ∷ passes) (kind ∷ kinds) = ∥ IsOfSession keeps view client_told pass kind ∥₁ × AreOfSessions keeps view client_told passes kinds
+AreOfSessions keeps view client_told [] (kind ∷ kinds) = ⊥
+AreOfSessions keeps view client_told (pass ∷ passes) [] = ⊥
 
 -- a client whose session ends so is dropped, since memory was wanting
 abbrev pub drops : Kind → ℕ
@@ -70,18 +71,18 @@ dropped_in [] = 0
 dropped_in (kind ∷ kinds) = drops kind + dropped_in kinds
 
 -- a session was served with each pass, and so many clients were dropped
-abbrev pub AreServed : List PassState → ℕ → Type 0
-AreServed passes dropped = (kinds : List Kind) × AreOfSessions passes kinds × (dropped ≡ dropped_in kinds)
+abbrev pub AreServed : {D K : Type 0} → (D → Type 0) → (D → View) → (K → LinkState) → List PassState → ℕ → Type 0
+AreServed keeps view client_told passes dropped = (kinds : List Kind) × AreOfSessions keeps view client_told passes kinds × (dropped ≡ dropped_in kinds)
 
 -- Over what was held at the opening so many sessions were served, each with a pass of its own, and so many clients were dropped. The
 -- coordinator ended with just these passes, and left the disk so. The port and the front were printed.
-pub record IsServed {D : Type 0} (keeps : D → Type 0) (view : D → View) (opening : Held) (sessions dropped : ℕ) (old new : LinkState) (disk : D) : Type 0 where
+pub record IsServed {D K : Type 0} (keeps : D → Type 0) (view : D → View) (client_told : K → LinkState) (opening : Held) (sessions dropped : ℕ) (old new : LinkState) (disk : D) : Type 0 where
   pub port : ℕ
   pub passes : List PassState
   pub turns : ℕ
   pub front : ℕ
   pub ends : IsEnded keeps view opening passes turns front disk
-  pub served : AreServed passes dropped
+  pub served : AreServed keeps view client_told passes dropped
   pub number : length passes ≡ sessions
   pub written : Appends old.held new.held (port_line port ++ end_line front)
   pub nothing_waits : new.waiting ≡ []
@@ -103,36 +104,39 @@ PrintsSome served sessions front stop old new =
 
 -- The service stopped: the coordinator ended with the passes of the sessions that there were, as it does at the end of a service, and
 -- left the disk so.
-pub record IsCutShort {D : Type 0} (keeps : D → Type 0) (view : D → View) (opening : Held) (sessions : ℕ) (old new : LinkState) (disk : D) (stop : Stop) : Type 0 where
+pub record IsCutShort {D K : Type 0} (keeps : D → Type 0) (view : D → View) (client_told : K → LinkState) (opening : Held) (sessions : ℕ) (old new : LinkState) (disk : D) (stop : Stop) : Type 0 where
   pub passes : List PassState
   pub dropped : ℕ
   pub turns : ℕ
   pub front : ℕ
   pub ends : IsEnded keeps view opening passes turns front disk
-  pub served : AreServed passes dropped
+  pub served : AreServed keeps view client_told passes dropped
   pub printed : PrintsSome (length passes) sessions front stop old new
 
--- the coordinator does not end with the passes of some sessions, and that is told
-pub record IsUnended {D : Type 0} (keeps : D → Type 0) (view : D → View) (opening : Held) (stop : Stop) : Type 0 where
+-- Or the passes of the sessions that there were are not those of all turns, or memory is missing to find that out, and that is told. The
+-- disk is that of the desk that made the turns, with all its records.
+pub record IsUnended {D K : Type 0} (keeps : D → Type 0) (view : D → View) (client_told : K → LinkState) (opening : Held) (old new : LinkState) (disk : D) (stop : Stop) : Type 0 where
   pub passes : List PassState
   pub dropped : ℕ
+  pub turns : ℕ
+  pub front : ℕ
   pub fault : CloseFault
-  pub served : AreServed passes dropped
-  pub refused : IsRefused keeps view opening passes fault
+  pub served : AreServed keeps view client_told passes dropped
+  pub remains : IsRemainder keeps view opening passes fault turns front disk
   pub stop_is : stop ≡ stopped_by fault
+  pub printed : WritesPort old new
 
--- Or the disk did not come back, since memory was wanting, or what the clients were shown is not what the desk answered.
-abbrev pub IsStopped : {D : Type 0} → (D → Type 0) → (D → View) → Held → ℕ → LinkState → LinkState → Option D → Stop → Type 0
-IsStopped keeps view opening sessions old new (Some disk) stop = IsCutShort keeps view opening sessions old new disk stop
-IsStopped keeps view opening sessions old new None stop = ((stop ≡ stops.Memory) ⊎ IsUnended keeps view opening stop) × WritesPort old new
+abbrev pub IsStopped : {D K : Type 0} → (D → Type 0) → (D → View) → (K → LinkState) → Held → ℕ → LinkState → LinkState → D → Stop → Type 0
+IsStopped keeps view client_told opening sessions old new disk stop =
+    IsCutShort keeps view client_told opening sessions old new disk stop ⊎ IsUnended keeps view client_told opening old new disk stop
 
 -- or it stopped before its first session, with nothing printed, and the disk is as the desk had it
-abbrev pub IsUnserved : {D : Type 0} → DeskState D → LinkState → LinkState → Option D → Stop → Type 0
-IsUnserved desk old new disk stop = (stop ≢ stops.Foreign) × (disk ≡ Some desk.disk) × (new ≡ old)
+abbrev pub IsUnserved : {D : Type 0} → DeskState D → LinkState → LinkState → D → Stop → Type 0
+IsUnserved desk old new disk stop = (stop ≢ stops.Foreign) × (disk ≡ desk.disk) × (new ≡ old)
 
-abbrev pub Stops : {D : Type 0} → (D → Type 0) → (D → View) → DeskState D → ℕ → LinkState → LinkState → Option D → Stop → Type 0
-Stops keeps view desk sessions old new disk stop =
-    IsUnserved desk old new disk stop ⊎ IsStopped keeps view desk.opening sessions old new disk stop
+abbrev pub Stops : {D K : Type 0} → (D → Type 0) → (D → View) → (K → LinkState) → DeskState D → ℕ → LinkState → LinkState → D → Stop → Type 0
+Stops keeps view client_told desk sessions old new disk stop =
+    IsUnserved desk old new disk stop ⊎ IsStopped keeps view client_told desk.opening sessions old new disk stop
 
 -- ---- the command
 
@@ -145,38 +149,31 @@ TellsDropped faults_told old new dropped =
     ((dropped ≡ 0) × (new ≡ old)) ⊎ ((0 < dropped) × Tells (faults_told old) (faults_told new) (dropped_line dropped))
 
 -- the sessions were served to their end, and no fault is told but how many clients were dropped
-pub record ServesToEnd {D O F : Type 0} (keeps : D → Type 0) (view : D → View) (output_told : O → LinkState) (faults_told : F → LinkState) (sessions : ℕ) (desk : DeskState D) (disk_after : Option D) (output output_after : O) (faults faults_after : F) (status : ℕ) : Type 0 where
-  pub disk : D
+pub record ServesToEnd {D K O F : Type 0} (keeps : D → Type 0) (view : D → View) (client_told : K → LinkState) (output_told : O → LinkState) (faults_told : F → LinkState) (sessions : ℕ) (desk : DeskState D) (disk_after : D) (output output_after : O) (faults faults_after : F) (status : ℕ) : Type 0 where
   pub dropped : ℕ
-  pub is_back : disk_after ≡ Some disk
-  pub served : IsServed keeps view desk.opening sessions dropped (output_told output) (output_told output_after) disk
+  pub served : IsServed keeps view client_told desk.opening sessions dropped (output_told output) (output_told output_after) disk_after
   pub told : TellsDropped faults_told faults faults_after dropped
   pub status_is : status ≡ 0
 
 -- the service stopped, and it is told why
-pub record ServesInPart {D O F : Type 0} (keeps : D → Type 0) (view : D → View) (output_told : O → LinkState) (faults_told : F → LinkState) (sessions : ℕ) (desk : DeskState D) (disk_after : Option D) (output output_after : O) (faults faults_after : F) (status : ℕ) : Type 0 where
+pub record ServesInPart {D K O F : Type 0} (keeps : D → Type 0) (view : D → View) (client_told : K → LinkState) (output_told : O → LinkState) (faults_told : F → LinkState) (sessions : ℕ) (desk : DeskState D) (disk_after : D) (output output_after : O) (faults faults_after : F) (status : ℕ) : Type 0 where
   pub stop : Stop
-  pub stops_so : Stops keeps view desk sessions (output_told output) (output_told output_after) disk_after stop
+  pub stops_so : Stops keeps view client_told desk sessions (output_told output) (output_told output_after) disk_after stop
   pub faults_are : Tells (faults_told faults) (faults_told faults_after) (stop_line stop)
   pub status_is : status ≡ 3
 
 -- the file on this disk was opened, and clients were served over it
-pub record ServesOpened {D O F : Type 0} (keeps : D → Type 0) (view : D → View) (output_told : O → LinkState) (faults_told : F → LinkState) (sessions : ℕ) (disk : D) (disk_after : Option D) (output output_after : O) (faults faults_after : F) (status : ℕ) : Type 0 where
+pub record ServesOpened {D K O F : Type 0} (keeps : D → Type 0) (view : D → View) (client_told : K → LinkState) (output_told : O → LinkState) (faults_told : F → LinkState) (sessions : ℕ) (disk disk_after : D) (output output_after : O) (faults faults_after : F) (status : ℕ) : Type 0 where
   pub desk : DeskState D
   pub opened : IsOpened keeps view disk desk
-  pub serves : ServesToEnd keeps view output_told faults_told sessions desk disk_after output output_after faults faults_after status
-      ⊎ ServesInPart keeps view output_told faults_told sessions desk disk_after output output_after faults faults_after status
+  pub serves : ServesToEnd keeps view client_told output_told faults_told sessions desk disk_after output output_after faults faults_after status
+      ⊎ ServesInPart keeps view client_told output_told faults_told sessions desk disk_after output output_after faults faults_after status
 
--- the file was not opened, and the disk came back
-pub record ServesNone {D O F : Type 0} (keeps : D → Type 0) (view : D → View) (failed : D → ℕ) (faults_told : F → LinkState) (disk : D) (disk_after : Option D) (output output_after : O) (faults faults_after : F) (status : ℕ) : Type 0 where
-  pub back : D
-  pub is_back : disk_after ≡ Some back
-  pub unopened : IsNotOpened keeps view failed faults_told disk back output output_after faults faults_after status
-
-abbrev pub ServesOn : {D O F : Type 0} → (D → Type 0) → (D → View) → (D → ℕ) → (O → LinkState) → (F → LinkState) → ℕ → D → Option D → O → O → F → F → ℕ → Type 0
-ServesOn keeps view failed output_told faults_told sessions disk disk_after output output_after faults faults_after status =
-    ServesOpened keeps view output_told faults_told sessions disk disk_after output output_after faults faults_after status
-    ⊎ ServesNone keeps view failed faults_told disk disk_after output output_after faults faults_after status
+-- or it was not opened
+abbrev pub ServesOn : {D K O F : Type 0} → (D → Type 0) → (D → View) → (D → ℕ) → (K → LinkState) → (O → LinkState) → (F → LinkState) → ℕ → D → D → O → O → F → F → ℕ → Type 0
+ServesOn keeps view failed client_told output_told faults_told sessions disk disk_after output output_after faults faults_after status =
+    ServesOpened keeps view client_told output_told faults_told sessions disk disk_after output output_after faults faults_after status
+    ⊎ IsNotOpened keeps view failed faults_told disk disk_after output output_after faults faults_after status
 
 -- Working definitions from here on: the parts of it.
 
@@ -195,10 +192,10 @@ abbrev pub EndsWith : {D : Type 0} → Option Stop → ℕ → D → LinkState �
 EndsWith before front disk old new back = (before ≡ None) × (back ≡ disk) × WritesAll old new (end_line front)
 
 -- nothing was told of it, since the service stops; or a part of the end
-abbrev pub EndsShort : {D : Type 0} → Option Stop → ℕ → D → LinkState → LinkState → Option D → Stop → Type 0
+abbrev pub EndsShort : {D : Type 0} → Option Stop → ℕ → D → LinkState → LinkState → D → Stop → Type 0
 EndsShort before front disk old new back stop =
-    (back ≡ Some disk) × (((before ≡ Some stop) × (new ≡ old)) ⊎ ((before ≡ None) × (stop ≡ stops.Device) × WritesPart old new (end_line front)))
+    (back ≡ disk) × (((before ≡ Some stop) × (new ≡ old)) ⊎ ((before ≡ None) × (stop ≡ stops.Device) × WritesPart old new (end_line front)))
 
--- the coordinator did not end, for this fault
-abbrev pub EndsNot : {D : Type 0} → CloseFault → LinkState → LinkState → Option D → Stop → Type 0
-EndsNot fault old new back stop = (back ≡ None) × (stop ≡ stopped_by fault) × (new ≡ old)
+-- the passes are not those of all turns, for this fault
+abbrev pub EndsNot : {D : Type 0} → CloseFault → D → LinkState → LinkState → D → Stop → Type 0
+EndsNot fault disk old new back stop = (back ≡ disk) × (stop ≡ stopped_by fault) × (new ≡ old)

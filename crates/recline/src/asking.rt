@@ -2,15 +2,16 @@
 
 ghost use Rattle.std.specs.Prelude.{◌≡◌, ◌++◌, codes, IfOk, IfSome, IfNone, Contains};
 ghost use Rattle.report_line.specs.Cutting.{ended, IsLine};
-ghost use Rattle.recline.specs.Asking.{AsksNone, AsksOn, AsksOver, IsAnswered, IsOneLine, question_line};
+ghost use Rattle.recline.specs.Asking.{AsksDesk, AsksNone, AsksOn, AsksOver, HandsOver, IsAnsweredByLine, IsOneLine, IsRefused, asked_fault, asked_status, is_line, name_in, question_line, refusal_line};
+ghost use Rattle.recline.specs.Outcome.{Tells};
+ghost use Rattle.session.specs.declared.kind.Kind.TheVariants as kinds;
 
-use crate::asked::Asked;
 use crate::copied::copy_of;
-use crate::running::run_on;
-use crate::telling::tell_unopened;
-use client_link::Link;
-use desk::DeskFault;
+use crate::telling::{tell, tell_all, tell_unopened, write_all};
+use client_link::{Link, MemoryLink};
+use desk::{Desk, DeskFault};
 use line_disk::MemoryDisk;
+use session::{HandOn, Kind, run};
 use std::alloc::{AllocError, Global};
 
 /// What may be asked. A report or a settlement is no question: over a copy that is thrown away its `OK` would be untrue.
@@ -57,39 +58,171 @@ fn line_of(alloc: Global, question: &Question<'_>) -> Result<Vec<u8>, AllocError
     }
 }
 
+/// Whether a reply is a LINE.
+fn is_line(reply: &[u8]) -> bool
+    ensures { result ≡ is_line reply.now }
+{
+    match reply.first() {
+        Some(first) => *first == b'L',
+        None => false,
+    }
+}
+
+/// The name in the reply `NO 3 NAME -`.
+fn name_in(reply: &[u8]) -> &[u8]
+    ensures { result.now ≡ name_in reply.now }
+{
+    if reply.len() < 8 {
+        return &[];
+    }
+    &reply[5..reply.len() - 3]
+}
+
+/// Tells that no process has this name.
+fn tell_unknown<F: Link>(faults: &mut F, name: &[u8])
+    ensures { Tells (F.told faults.old) (F.told faults.new) (ended (codes "recline: unknown " ++ name.now)) }
+{
+    tell_all(
+        faults,
+        &[b"recline: unknown ".as_slice(), name, b"\n".as_slice()],
+    )
+}
+
+/// Tells why a question is refused.
+fn tell_refusal<F: Link>(faults: &mut F, reply: &[u8])
+    ensures { Tells (F.told faults.old) (F.told faults.new) (refusal_line reply.now) }
+{
+    if reply.starts_with(b"NO 3 ") {
+        return tell_unknown(faults, name_in(reply));
+    }
+    if reply.starts_with(b"NO 14 ") {
+        return tell(faults, b"recline: nothing begun\n");
+    }
+    if reply.starts_with(b"NO 16 ") {
+        return tell(faults, b"recline: memory\n");
+    }
+    tell(faults, b"recline: no list of names\n")
+}
+
+/// Tells why no line was shown, if none was, by a reply that ended no session.
+fn tell_reply<F: Link>(faults: &mut F, reply: &[u8])
+    ensures { Tells (F.told faults.old) (F.told faults.new) (asked_fault kinds.End reply.now) }
+{
+    if is_line(reply) {
+        return tell(faults, b"");
+    }
+    tell_refusal(faults, reply)
+}
+
+/// Tells why no line was shown, if none was, where the session with the question ended so.
+fn tell_asked<F: Link>(faults: &mut F, kind: Kind, reply: &[u8])
+    ensures { Tells (F.told faults.old) (F.told faults.new) (asked_fault kind reply.now) }
+{
+    match kind {
+        Kind::End => tell_reply(faults, reply),
+        Kind::TooLong => tell(faults, b"recline: no list of names\n"),
+        Kind::Bye
+        | Kind::Worn
+        | Kind::Memory
+        | Kind::ReadFailed
+        | Kind::WriteFailed
+        | Kind::Endless
+        | Kind::Foreign => tell(faults, b"recline: memory\n"),
+    }
+}
+
+/// The status of the process, where the session with the question ended so.
+fn status_for(kind: Kind, reply: &[u8]) -> u8
+    ensures { result ≡ asked_status kind reply.now }
+{
+    match kind {
+        Kind::End => if is_line(reply) { 0 } else { 4 },
+        Kind::TooLong => 4,
+        Kind::Bye
+        | Kind::Worn
+        | Kind::Memory
+        | Kind::ReadFailed
+        | Kind::WriteFailed
+        | Kind::Endless
+        | Kind::Foreign => 3,
+    }
+}
+
+/// Writes the reply to the client, tells why it is no line, if it is none, and answers the status of the process.
+fn hand_over<K: Link, F: Link>(client: &mut K, faults: &mut F, kind: Kind, reply: &[u8]) -> u8
+    ensures { HandsOver F.told kind reply.now (K.told client.old) (K.told client.new) faults.old faults.new result }
+{
+    match write_all(client, reply) {
+        Ok(()) => {
+            tell_asked(faults, kind, reply);
+            status_for(kind, reply)
+        }
+        Err(_) => {
+            tell_unopened(faults, DeskFault::Device);
+            3
+        }
+    }
+}
+
+/// Tells that memory was wanting.
+fn without_memory<K: Link, F: Link>(client: &mut K, faults: &mut F) -> u8
+    ensures { AsksNone F.told (K.told client.old) (K.told client.new) faults.old faults.new result }
+{
+    tell_unopened(faults, DeskFault::Memory);
+    3
+}
+
+/// Asks by this line over this desk. The reply is held in memory until the session has ended.
+fn ask_desk<K: Link, F: Link>(
+    alloc: Global,
+    desk: &mut Desk<MemoryDisk>,
+    line: &[u8],
+    client: &mut K,
+    faults: &mut F,
+) -> u8
+    ensures { AsksDesk F.told line.now desk.old desk.new (K.told client.old) (K.told client.new) faults.old faults.new result }
+{
+    let Ok(mut link) = MemoryLink::new(alloc, &[line], 0) else {
+        return without_memory(client, faults);
+    };
+    let end = run(desk, &mut link, HandOn::EachRead);
+    hand_over(client, faults, end.kind, link.written())
+}
+
 /// Asks by this line over this disk.
 fn ask_over<K: Link, F: Link>(
     alloc: Global,
     disk: MemoryDisk,
-    line: Vec<u8>,
-    client: K,
+    line: &[u8],
+    client: &mut K,
     faults: &mut F,
-) -> (u8, K)
-    ensures { AsksOver F.told disk line.items (K.told client) (K.told result.1) faults.old faults.new result.0 }
+) -> u8
+    ensures { AsksOver F.told disk line.now (K.told client.old) (K.told client.new) faults.old faults.new result }
 {
-    let mut link = Asked::new(line, client);
-    let (status, disk) = run_on(alloc, disk, &mut link, faults);
-    drop(disk);
-    (status, link.into_client())
-}
-
-/// Tells that memory was wanting.
-fn without_memory<K: Link, F: Link>(client: K, faults: &mut F) -> (u8, K)
-    ensures { AsksNone F.told (K.told client) (K.told result.1) faults.old faults.new result.0 }
-{
-    tell_unopened(faults, DeskFault::Memory);
-    (3, client)
+    match Desk::open(alloc, disk) {
+        Ok(mut desk) => {
+            let status = ask_desk(alloc, &mut desk, line, client, faults);
+            desk.lawful();
+            drop(desk);
+            status
+        }
+        Err((fault, disk)) => {
+            tell_unopened(faults, fault);
+            drop(disk);
+            3
+        }
+    }
 }
 
 /// Asks by this line over a copy of these bytes.
 fn ask_by<K: Link, F: Link>(
     alloc: Global,
     bytes: &[u8],
-    line: Vec<u8>,
-    client: K,
+    line: &[u8],
+    client: &mut K,
     faults: &mut F,
-) -> (u8, K)
-    ensures { AsksOn F.told bytes.now line.items (K.told client) (K.told result.1) faults.old faults.new result.0 }
+) -> u8
+    ensures { AsksOn F.told bytes.now line.now (K.told client.old) (K.told client.new) faults.old faults.new result }
 {
     match copy_of(alloc, bytes) {
         Ok(disk) => ask_over(alloc, disk, line, client, faults),
@@ -97,23 +230,26 @@ fn ask_by<K: Link, F: Link>(
     }
 }
 
-/// Asks one question over the bytes of a record file, as the command `run` answers it where a client sends this line alone: tells what went
-/// wrong, and answers the status of the process and the client. The bytes are only read.
+/// Asks one question over the bytes of a record file, as the command `run` answers it where a client sends this line alone: writes the reply,
+/// tells what went wrong or why the question was refused, and answers the status of the process. The bytes are only read.
 pub fn ask_on<K: Link, F: Link>(
     alloc: Global,
     bytes: &[u8],
     question: &Question<'_>,
-    client: K,
+    client: &mut K,
     faults: &mut F,
-) -> (u8, K)
+) -> u8
     requires { IsOneLine question.now }
-    ensures asks { AsksOn F.told bytes.now (ended (question_line question.now)) (K.told client) (K.told result.1) faults.old faults.new result.0 }
-    // A status of 0 says that the question got its one reply.
-    ensures answered { IsLine (question_line question.now) → result.0 ≡ 0
-        → IsAnswered bytes.now (question_line question.now) (K.told client) (K.told result.1) }
+    ensures asks { AsksOn F.told bytes.now (ended (question_line question.now)) (K.told client.old) (K.told client.new) faults.old faults.new result }
+    // A status of 0 says that the question got its one reply, and that this is a LINE.
+    ensures answered { IsLine (question_line question.now) → result ≡ 0
+        → IsAnsweredByLine bytes.now (question_line question.now) (K.told client.old) (K.told client.new) }
+    // A status of 4 says that it got one that is none.
+    ensures refused { IsLine (question_line question.now) → result ≡ 4
+        → IsRefused F.told bytes.now (question_line question.now) (K.told client.old) (K.told client.new) faults.old faults.new }
 {
     let Ok(line) = line_of(alloc, question) else {
         return without_memory(client, faults);
     };
-    ask_by(alloc, bytes, line, client, faults)
+    ask_by(alloc, bytes, &line, client, faults)
 }

@@ -3,13 +3,14 @@
 ghost use Rattle.std.specs.Prelude.{◌≡◌, IfOk};
 ghost use Rattle.report_line.specs.Cutting.{ended};
 ghost use Rattle.chains.specs.Held.{held_of};
-ghost use Rattle.reasons.specs.declared.fault.CertificateFault.{CertificateFault as AnyFault};
 ghost use Rattle.reason_check.specs.Texts.{verdict_text};
 ghost use Rattle.recline.specs.Outcome.{Tells};
-ghost use Rattle.recline.specs.Checking.{Checks, ChecksOn, IsCheckedOver, IsVerdictOn, check_fault, check_status};
+ghost use Rattle.recline.specs.Checking.{Checks, ChecksOn, IsCauseOf, IsCheckedOver, IsVerdictOn, check_fault, check_status};
+ghost use Rattle.recline.specs.declared.checking.Cause.TheVariants.{Unknown};
 ghost use Rattle.recline.specs.declared.checking.Checked.TheVariants.{NoCertificate};
 
 use crate::driving::{Unread, read_all};
+use crate::escaping::shown_name;
 use crate::telling::{tell, tell_all, tell_unopened, write_all};
 use chains::Chains;
 use client_link::Link;
@@ -20,13 +21,24 @@ use reason_check::{Verdict, check};
 use reasons::{Certificate, CertificateFault, from_json};
 use std::alloc::{AllocError, Global};
 
+/// Why a text gave no certificate.
+#[derive(Drop)]
+pub(crate) enum Cause {
+    NotJson,
+    Shape,
+    /// No process has this name, which is written as it stands in a fault line.
+    Unknown(Vec<u8>),
+    /// Memory did not suffice for the certificate or for that name.
+    Memory,
+}
+
 /// How a check ended.
 #[derive(Drop)]
 pub(crate) enum Checked {
     /// The verdict was written.
     Told(Verdict),
     /// The text gave no certificate.
-    NoCertificate(CertificateFault),
+    NoCertificate(Cause),
     /// Memory did not suffice for the text or the verdict.
     Memory,
     /// A read or a write failed, or the text has no end.
@@ -52,6 +64,21 @@ fn line_of(alloc: Global, verdict: Verdict) -> Result<Vec<u8>, AllocError>
     Ok(line)
 }
 
+/// Why a text gave no certificate, as it is told.
+fn cause_of(alloc: Global, fault: &CertificateFault) -> Cause
+    ensures { IsCauseOf fault.now result }
+{
+    match fault {
+        CertificateFault::NotJson => Cause::NotJson,
+        CertificateFault::Shape => Cause::Shape,
+        CertificateFault::Unknown(name) => match shown_name(alloc, name) {
+            Ok(shown) => Cause::Unknown(shown),
+            Err(_) => Cause::Memory,
+        },
+        CertificateFault::Memory => Cause::Memory,
+    }
+}
+
 /// Reads a certificate, checks it over the chains, and writes the verdict.
 fn check_over<K: Link>(chains: &Chains, client: &mut K) -> Checked
     ensures { IsCheckedOver (held_of chains.now) (K.told client.old) (K.told client.new) result }
@@ -63,7 +90,7 @@ fn check_over<K: Link>(chains: &Chains, client: &mut K) -> Checked
     };
     let certificate = match from_json(chains, &text) {
         Ok(certificate) => certificate,
-        Err(fault) => return Checked::NoCertificate(fault),
+        Err(fault) => return Checked::NoCertificate(cause_of(chains.alloc(), &fault)),
     };
     let verdict = verdict_on(chains, &certificate);
     let Ok(line) = line_of(chains.alloc(), verdict) else {
@@ -75,29 +102,29 @@ fn check_over<K: Link>(chains: &Chains, client: &mut K) -> Checked
     }
 }
 
-/// Tells the name of a certificate that no process has.
-fn tell_unknown<F: Link>(faults: &mut F, name: &String)
-    ensures { Tells (F.told faults.old) (F.told faults.new) (check_fault (NoCertificate (AnyFault.Unknown name.now))) }
+/// Tells the name of a certificate that no process has, which is written as it stands in a fault line.
+fn tell_unknown<F: Link>(faults: &mut F, shown: &Vec<u8>)
+    ensures { Tells (F.told faults.old) (F.told faults.new) (check_fault (NoCertificate (Unknown shown.now))) }
 {
     tell_all(
         faults,
         &[
             b"recline: certificate unknown ".as_slice(),
-            name.as_bytes(),
+            shown.as_slice(),
             b"\n".as_slice(),
         ],
     )
 }
 
 /// Tells why a text gave no certificate.
-fn tell_no_certificate<F: Link>(faults: &mut F, fault: &CertificateFault)
-    ensures { Tells (F.told faults.old) (F.told faults.new) (check_fault (NoCertificate fault.now)) }
+fn tell_no_certificate<F: Link>(faults: &mut F, cause: &Cause)
+    ensures { Tells (F.told faults.old) (F.told faults.new) (check_fault (NoCertificate cause.now)) }
 {
-    match fault {
-        CertificateFault::NotJson => tell(faults, b"recline: certificate not json\n"),
-        CertificateFault::Shape => tell(faults, b"recline: certificate shape\n"),
-        CertificateFault::Unknown(name) => tell_unknown(faults, name),
-        CertificateFault::Memory => tell(faults, b"recline: memory\n"),
+    match cause {
+        Cause::NotJson => tell(faults, b"recline: certificate not json\n"),
+        Cause::Shape => tell(faults, b"recline: certificate shape\n"),
+        Cause::Unknown(shown) => tell_unknown(faults, shown),
+        Cause::Memory => tell(faults, b"recline: memory\n"),
     }
 }
 
@@ -107,7 +134,7 @@ fn tell_checked<F: Link>(faults: &mut F, end: &Checked)
 {
     match end {
         Checked::Told(_) => tell(faults, b""),
-        Checked::NoCertificate(fault) => tell_no_certificate(faults, fault),
+        Checked::NoCertificate(cause) => tell_no_certificate(faults, cause),
         Checked::Memory => tell(faults, b"recline: memory\n"),
         Checked::Device => tell(faults, b"recline: device\n"),
     }
@@ -120,7 +147,7 @@ fn status_for(end: &Checked) -> u8
     match end {
         Checked::Told(Verdict::Yes) => 0,
         Checked::Told(Verdict::No(_)) => 4,
-        Checked::NoCertificate(CertificateFault::Memory) => 3,
+        Checked::NoCertificate(Cause::Memory) => 3,
         Checked::NoCertificate(_) => 2,
         Checked::Memory | Checked::Device => 3,
     }

@@ -1,7 +1,8 @@
 //! A desk over a copy of the bytes of a record file, which are only read.
 
-ghost use Rattle.std.specs.Prelude.{◌≡◌, ◌≤◌, [], IfErr, IfOk};
+ghost use Rattle.std.specs.Prelude.{◌≡◌, ◌≢◌, ◌≤◌, ℕ, List, [], IfErr, IfOk};
 ghost use Rattle.desk.specs.Openings.{RefusesFile};
+ghost use Rattle.desk.specs.declared.fault.DeskFault.TheVariants as opening;
 ghost use Rattle.line_disk.specs.Disk.{LeavesOnly};
 ghost use Rattle.line_disk.specs.Tape.{bytes_of, disk_failures, disk_view, plan_of, room_of};
 ghost use Rattle.record_file.specs.File.{Stands};
@@ -29,17 +30,33 @@ pub fn copy_of(alloc: Global, bytes: &[u8]) -> Result<MemoryDisk, AllocError>
     MemoryDisk::with_room(alloc, bytes, FEW_CHANGES)
 }
 
+/// The same fault, where a call of a disk in memory fails for want of memory alone.
+fn in_memory(fault: DeskFault) -> DeskFault
+    ensures refuses { (bytes : List ℕ) → RefusesFile bytes fault → RefusesFile bytes result }
+    ensures file { result ≢ opening.Device }
+{
+    match fault {
+        DeskFault::Device => DeskFault::Memory,
+        DeskFault::Foreign => DeskFault::Foreign,
+        DeskFault::Damaged(number) => DeskFault::Damaged(number),
+        DeskFault::Line(number) => DeskFault::Line(number),
+        DeskFault::Refused(number, code) => DeskFault::Refused(number, code),
+        DeskFault::Memory => DeskFault::Memory,
+    }
+}
+
 /// The desk over a copy of these bytes.
 pub(crate) fn desk_of(alloc: Global, bytes: &[u8]) -> Result<Desk<MemoryDisk>, DeskFault>
     ensures desk { IfOk result (IsDeskOf bytes.now) }
     ensures refused { IfErr result (RefusesFile bytes.now) }
+    ensures file { IfErr result (λ fault. fault ≢ opening.Device) }
 {
     let Ok(disk) = copy_of(alloc, bytes) else {
         return Err(DeskFault::Memory);
     };
     match Desk::open(alloc, disk) {
         Ok(desk) => Ok(desk),
-        Err((fault, _)) => Err(fault),
+        Err((fault, _)) => Err(in_memory(fault)),
     }
 }
 

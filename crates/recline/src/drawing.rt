@@ -5,6 +5,7 @@ ghost use Rattle.std.specs.Prelude.{◌<◌, IfSome, length};
 use crate::commented::ScriptForm;
 use crate::copied::desk_of;
 use crate::driving::{ReadScript, Unread, read_script};
+use crate::escaping::shown_name;
 use crate::telling::{tell, tell_all, tell_refusal, tell_unopened, write_all};
 use chains::Chains;
 use client_link::Link;
@@ -55,13 +56,23 @@ fn read_names<'a>(alloc: Global, list: &'a [u8]) -> Result<Names, Unnamed<'a>> {
     Ok(names)
 }
 
-/// Tells that no process has this name, and answers the status.
-fn tell_unknown<F: Link>(faults: &mut F, name: &[u8]) -> u8 {
+/// Tells that no process has the name that is written so, and answers the status.
+fn tell_unknown<F: Link>(faults: &mut F, shown: &[u8]) -> u8 {
     tell_all(
         faults,
-        &[b"recline: unknown ".as_slice(), name, b"\n".as_slice()],
+        &[b"recline: unknown ".as_slice(), shown, b"\n".as_slice()],
     );
     2
+}
+
+/// Tells that no process has this name of the command line, which is written as a string of JSON has it, and answers the status.
+fn tell_no_name<F: Link>(alloc: Global, faults: &mut F, word: &[u8]) -> u8 {
+    // What stands between two commas of a text is a text.
+    let name = str::from_utf8(word).unwrap_or("");
+    match shown_name(alloc, name) {
+        Ok(shown) => tell_unknown(faults, &shown),
+        Err(_) => tell_failure(faults, b"recline: memory\n"),
+    }
 }
 
 /// Tells that the report of the step of this line is more than are accepted, and answers the status.
@@ -184,7 +195,7 @@ pub fn draw_on<K: Link, F: Link>(
 ) -> u8 {
     match read_names(alloc, failed.unwrap_or("-").as_bytes()) {
         Ok(names) => draw_over(alloc, client, faults, form, &names),
-        Err(Unnamed::Part(part)) => tell_unknown(faults, part),
+        Err(Unnamed::Part(part)) => tell_no_name(alloc, faults, part),
         Err(Unnamed::Memory) => tell_failure(faults, b"recline: memory\n"),
     }
 }
@@ -202,7 +213,7 @@ pub fn draw_records_on<K: Link, F: Link>(
 ) -> u8 {
     let names = match read_names(alloc, failed.unwrap_or("-").as_bytes()) {
         Ok(names) => names,
-        Err(Unnamed::Part(part)) => return tell_unknown(faults, part),
+        Err(Unnamed::Part(part)) => return tell_no_name(alloc, faults, part),
         Err(Unnamed::Memory) => return tell_failure(faults, b"recline: memory\n"),
     };
     let Some(asked) = why else {
@@ -210,6 +221,6 @@ pub fn draw_records_on<K: Link, F: Link>(
     };
     match Name::from_bytes(asked.as_bytes()) {
         Some(name) => draw_records_over(alloc, bytes, client, faults, &names, Some(&name)),
-        None => tell_unknown(faults, asked.as_bytes()),
+        None => tell_no_name(alloc, faults, asked.as_bytes()),
     }
 }

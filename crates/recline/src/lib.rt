@@ -4,7 +4,6 @@
 //! of a record file say, and the command `explain`, which says of lines what they are.
 #![tactic(auto)]
 
-mod asked;
 mod asking;
 mod checking;
 mod commented;
@@ -12,6 +11,7 @@ mod copied;
 mod drawing;
 mod driving;
 mod earlier;
+mod escaping;
 mod explaining;
 mod host;
 mod running;

@@ -1,17 +1,17 @@
 //! The command `serve`.
 
-ghost use Rattle.std.specs.Prelude.{◌≡◌, ◌+◌, ◌++◌, ◌<◌, ◌≤◌, IfOk, IfErr, IfSome, IfNone, MatchResult, OnOk, [], None, Some, length, map};
+ghost use Rattle.std.specs.Prelude.{◌≡◌, ◌+◌, ◌++◌, ◌<◌, ◌≤◌, IfOk, IfErr, IfSome, IfNone, MatchResult, OnOk, [], None, length, map};
 ghost use Rattle.std.specs.List.{flat_map};
 ghost use Rattle.std.specs.Thread.{IsSend, IsSync};
 ghost use Rattle.recline.specs.Driving.{Writes};
-ghost use Rattle.recline.specs.Serving.{AreLimited, AreServed, EndsNot, EndsShort, EndsWith, IsService, IsServed, IsStopped, PrintsPort, ServesOn, Stops, StopsBehind, TellsDropped, WritesPort, dropped_in, drops, end_line, port_line, stop_line, stopped_by};
+ghost use Rattle.recline.specs.Serving.{AreLimited, AreServed, EndsNot, EndsShort, EndsWith, IsService, IsServed, IsStopped, PrintsPort, ServesOn, Stops, StopsBehind, TellsDropped, dropped_in, drops, end_line, port_line, stop_line, stopped_by};
 ghost use Rattle.coordinator.specs.Passes.{ledger_parts};
 
 use crate::host::Host;
 use crate::telling::{tell, tell_all, tell_unopened, write_pieces};
 use crate::waiting::watch;
 use client_link::{ClientConnection, Link, LinkFault};
-use coordinator::{CloseFault, Coordinator, Ended, OpenGate, Pass, Refused, Unclosed};
+use coordinator::{CloseFault, Coordinator, Ended, OpenGate, Pass, Refused, Remainder};
 use crossbeam_channel::{Receiver, Sender, bounded};
 use desk::Desk;
 use itoa::Buffer;
@@ -195,17 +195,17 @@ fn take_clients<T: OpenListener<Stream = TcpStream>, R: Wait + Clock + Clone + D
 struct Stopped<D: Disk> {
     /// Why it stops.
     stop: Stop,
-    /// The disk, where it came back.
-    disk: Option<D>,
+    /// The disk.
+    disk: D,
 }
 
 /// What is left where no client was served.
 fn unserved<D: Disk>(stop: Stop, desk: Desk<D>) -> Stopped<D>
-    ensures { (result.stop ≡ stop) × (result.disk ≡ Some desk.disk) }
+    ensures { (result.stop ≡ stop) × (result.disk ≡ desk.disk) }
 {
     Stopped {
         stop,
-        disk: Some(desk.close()),
+        disk: desk.close(),
     }
 }
 
@@ -233,7 +233,7 @@ fn serve_sessions<
     coordinator: &Coordinator<L, D>,
     service: Service,
     warnings: W,
-) -> (Vec<Vec<Served<L, ClientConnection<R>>>>, Option<Stop>)
+) -> (Vec<Vec<Served<L, D, ClientConnection<R>>>>, Option<Stop>)
     requires { IsService service }
 {
     let Ok((links, clients)) = bounded::<ClientConnection<R>, _>(
@@ -252,7 +252,7 @@ fn serve_sessions<
     scope(
         scope_env(),
         rt,
-        move |scope| -> (Vec<Vec<Served<L, ClientConnection<R>>>>, Option<Stop>)
+        move |scope| -> (Vec<Vec<Served<L, D, ClientConnection<R>>>>, Option<Stop>)
             requires { IsSync R.row × IsSend L.row × IsSync L.row × IsSend R.row × IsSend D.row × IsSend W.row × (0 < n) × (n ≤ 64) }
         {
             let watcher = scope.spawn(
@@ -305,19 +305,24 @@ fn dropped_by(dropped: u64, kind: Kind) -> Result<u64, AllocError>
     }
 }
 
-/// Adds the passes of the sessions, and those of their clients that were dropped.
-fn add_passes<L: Ledger, K: Link + Drop>(
+/// Adds the passes of the sessions, and those of their clients that were dropped. If memory is missing, later sessions are left out.
+fn add_passes<L: Ledger, D: Disk, K: Link + Drop>(
     passes: &mut Vec<Pass<L>>,
     dropped: &mut u64,
-    served: Vec<Served<L, K>>,
+    served: Vec<Served<L, D, K>>,
 ) -> Result<(), AllocError>
-    requires { AreServed passes.old.items dropped.old }
-    ensures served { OnOk result (AreServed passes.new.items dropped.new) }
+    requires { AreServed D.keeps D.view K.told passes.old.items dropped.old }
+    ensures served { AreServed D.keeps D.view K.told passes.new.items dropped.new }
     ensures passes { OnOk result (passes.new.items ≡ passes.old.items ++ map (λ s. s.pass) served.items) }
     ensures dropped { OnOk result (dropped.new ≡ dropped.old + dropped_in (map (λ s. s.end.kind) served.items)) }
 {
     for session in served {
-        let Served { pass, link: _, end } = session;
+        let Served {
+            pass,
+            link: _,
+            end,
+            disk: _,
+        } = session;
         let more = dropped_by(*dropped, end.kind)?;
         passes.push(pass)?;
         *dropped = more;
@@ -325,25 +330,38 @@ fn add_passes<L: Ledger, K: Link + Drop>(
     Ok(())
 }
 
-/// The passes of all sessions, one worker's after another, and how many clients were dropped.
+/// The passes of all sessions, one worker's after another, and how many clients were dropped. If memory is missing for them, the service
+/// stops, and later sessions are left out.
 #[tactic(auto, using(crate::proofs::Passes::none_served))]
-fn passes_of<L: Ledger, K: Link + Drop>(
+fn passes_of<L: Ledger, D: Disk, K: Link + Drop>(
     mut passes: Vec<Pass<L>>,
-    lists: Vec<Vec<Served<L, K>>>,
-) -> Result<(Vec<Pass<L>>, u64), AllocError>
+    lists: Vec<Vec<Served<L, D, K>>>,
+    stop: Option<Stop>,
+) -> Sessions<L>
     requires { passes.items ≡ [] }
-    ensures served { IfOk result (λ all. AreServed all.0.items all.1) }
-    ensures passes { IfOk result (λ all. all.0.items ≡ flat_map (λ l. map (λ s. s.pass) l.items) lists.items) }
-    ensures dropped { IfOk result (λ all. all.1 ≡ dropped_in (flat_map (λ l. map (λ s. s.end.kind) l.items) lists.items)) }
+    ensures served { AreServed D.keeps D.view K.told result.passes.items result.dropped }
+    ensures passes { result.stop ≡ None → result.passes.items ≡ flat_map (λ l. map (λ s. s.pass) l.items) lists.items }
+    ensures dropped { result.stop ≡ None → result.dropped ≡ dropped_in (flat_map (λ l. map (λ s. s.end.kind) l.items) lists.items) }
+    ensures stop { result.stop ≡ None → stop ≡ None }
 {
     let mut dropped = 0u64;
     for served in lists {
-        add_passes(&mut passes, &mut dropped, served)?;
+        let Ok(()) = add_passes(&mut passes, &mut dropped, served) else {
+            return Sessions {
+                passes,
+                dropped,
+                stop: Some(Stop::Memory),
+            };
+        };
     }
-    Ok((passes, dropped))
+    Sessions {
+        passes,
+        dropped,
+        stop,
+    }
 }
 
-/// Tells the port, and serves clients over a coordinator. Fails where memory is wanting for their passes.
+/// Tells the port, and serves clients over a coordinator.
 #[tactic(auto, using(crate::proofs::Passes::none_served))]
 fn serve_clients<
     L: Ledger + Send + Sync,
@@ -362,29 +380,21 @@ fn serve_clients<
     service: Service,
     output: &mut O,
     warnings: W,
-) -> Result<Sessions<L>, AllocError>
+) -> Sessions<L>
     requires service { IsService service }
     requires none { passes.items ≡ [] }
-    ensures served { IfOk result (λ s. AreServed s.passes.items s.dropped) }
-    ensures printed { IfOk result (λ s. PrintsPort s.stop (O.told output.old) (O.told output.new)) }
-    ensures lost { IfErr result (λ e. WritesPort (O.told output.old) (O.told output.new)) }
+    ensures served { AreServed D.keeps D.view ⟦<ClientConnection<R> as Link>⟧.told result.passes.items result.dropped }
+    ensures printed { PrintsPort result.stop (O.told output.old) (O.told output.new) }
 {
     let Ok(()) = write_port(output, port) else {
-        return Ok(Sessions {
+        return Sessions {
             passes,
             dropped: 0,
             stop: Some(Stop::Device),
-        });
+        };
     };
     let (lists, stop) = serve_sessions(rt, alloc, listener, coordinator, service, warnings);
-    match passes_of(passes, lists) {
-        Ok((passes, dropped)) => Ok(Sessions {
-            passes,
-            dropped,
-            stop,
-        }),
-        Err(fault) => Err(fault),
-    }
+    passes_of(passes, lists, stop)
 }
 
 /// Why the service stops behind its sessions, if it does. A worker without memory stops, and leaves clients unserved.
@@ -397,39 +407,43 @@ fn stop_behind<L: Ledger>(sessions: &Sessions<L>, wanted: u64) -> Option<Stop>
     sessions.stop
 }
 
-/// Ends the service whose coordinator was closed so, and tells the end where the service does not stop. Answers the disk.
-fn end_service<L: Ledger, D: Disk + Drop, O: Link>(
-    closed: Result<Ended<D>, Unclosed<L, D>>,
+/// What is left if the passes are not those of all turns.
+fn stopped_with<D: Disk>(remainder: Remainder<D>) -> Stopped<D>
+    ensures { (result.stop ≡ stopped_by remainder.fault) × (result.disk ≡ remainder.ended.disk) }
+{
+    let Remainder { fault, ended } = remainder;
+    let Ended { disk, .. } = ended;
+    Stopped {
+        stop: stop_of(&fault),
+        disk,
+    }
+}
+
+/// Ends the service whose coordinator ended so, and tells the end if the service does not stop. Answers the disk.
+fn end_service<D: Disk + Drop, O: Link>(
+    finished: Result<Ended<D>, Remainder<D>>,
     stop: Option<Stop>,
     output: &mut O,
 ) -> Result<D, Stopped<D>>
-    ensures ended { IfOk closed (λ e. MatchResult result (λ disk. EndsWith stop e.front e.disk (O.told output.old) (O.told output.new) disk) (λ s. EndsShort stop e.front e.disk (O.told output.old) (O.told output.new) s.disk s.stop)) }
-    ensures refused { IfErr closed (λ u. MatchResult result (λ disk. ⊥) (λ s. EndsNot u.fault (O.told output.old) (O.told output.new) s.disk s.stop)) }
+    ensures ended { IfOk finished (λ e. MatchResult result (λ disk. EndsWith stop e.front e.disk (O.told output.old) (O.told output.new) disk) (λ s. EndsShort stop e.front e.disk (O.told output.old) (O.told output.new) s.disk s.stop)) }
+    ensures remains { IfErr finished (λ r. MatchResult result (λ disk. ⊥) (λ s. EndsNot r.fault r.ended.disk (O.told output.old) (O.told output.new) s.disk s.stop)) }
 {
     let Ended {
         disk,
         front,
         turns: _,
-    } = match closed {
+    } = match finished {
         Ok(ended) => ended,
-        Err(unclosed) => {
-            return Err(Stopped {
-                stop: stop_of(&unclosed.fault),
-                disk: None,
-            });
-        }
+        Err(remainder) => return Err(stopped_with(remainder)),
     };
     if let Some(stop) = stop {
-        return Err(Stopped {
-            stop,
-            disk: Some(disk),
-        });
+        return Err(Stopped { stop, disk });
     }
     match write_end(output, front) {
         Ok(()) => Ok(disk),
         Err(_) => Err(Stopped {
             stop: Stop::Device,
-            disk: Some(disk),
+            disk,
         }),
     }
 }
@@ -456,10 +470,10 @@ fn serve_over<
 ) -> Result<(D, u64), Stopped<D>>
     requires service { IsService service }
     requires none { passes.items ≡ [] }
-    ensures ok { IfOk result (λ r. IsServed D.keeps D.view coordinator service.sessions r.1 (O.told output.old) (O.told output.new) r.0) }
-    ensures err { IfErr result (λ s. IsStopped D.keeps D.view coordinator service.sessions (O.told output.old) (O.told output.new) s.disk s.stop) }
+    ensures ok { IfOk result (λ r. IsServed D.keeps D.view ⟦<ClientConnection<R> as Link>⟧.told coordinator service.sessions r.1 (O.told output.old) (O.told output.new) r.0) }
+    ensures err { IfErr result (λ s. IsStopped D.keeps D.view ⟦<ClientConnection<R> as Link>⟧.told coordinator service.sessions (O.told output.old) (O.told output.new) s.disk s.stop) }
 {
-    let clients = serve_clients(
+    let sessions = serve_clients(
         rt,
         alloc,
         listener,
@@ -470,16 +484,10 @@ fn serve_over<
         output,
         warnings,
     );
-    let Ok(sessions) = clients else {
-        return Err(Stopped {
-            stop: Stop::Memory,
-            disk: None,
-        });
-    };
     let stop = stop_behind(&sessions, service.sessions);
     let dropped = sessions.dropped;
-    let closed = coordinator.close(sessions.passes);
-    match end_service(closed, stop, output) {
+    let finished = coordinator.finish(sessions.passes);
+    match end_service(finished, stop, output) {
         Ok(disk) => Ok((disk, dropped)),
         Err(stopped) => Err(stopped),
     }
@@ -507,8 +515,8 @@ fn serve_desk<
     requires parts { (blank.parts ≡ L.parts) × (blank.parts ≡ ledger_parts) }
     requires fresh { desk.turns ≡ [] }
     requires service { IsService service }
-    ensures ok { IfOk result (λ r. IsServed D.keeps D.view desk.opening service.sessions r.1 (O.told output.old) (O.told output.new) r.0) }
-    ensures err { IfErr result (λ s. Stops D.keeps D.view desk service.sessions (O.told output.old) (O.told output.new) s.disk s.stop) }
+    ensures ok { IfOk result (λ r. IsServed D.keeps D.view ⟦<ClientConnection<R> as Link>⟧.told desk.opening service.sessions r.1 (O.told output.old) (O.told output.new) r.0) }
+    ensures err { IfErr result (λ s. Stops D.keeps D.view ⟦<ClientConnection<R> as Link>⟧.told desk service.sessions (O.told output.old) (O.told output.new) s.disk s.stop) }
 {
     let Ok(passes) = Vec::with_capacity(alloc, service.sessions as usize) else {
         return Err(unserved(Stop::Memory, desk));
@@ -554,8 +562,7 @@ fn tell_dropped<F: Link>(faults: &mut F, dropped: u64)
 /// The command `serve`: opens the record file on a disk, tells the port of the listener, serves so many sessions over one desk by
 /// so many workers, of which each computes lines by as many threads at most, holds what the clients were shown against the turns,
 /// and tells how many reports were accepted, and how many clients were dropped for want of memory, if some were. While clients wait for a
-/// worker for five seconds and more, lines on a link of their own tell how many. Answers the status of the process, and the disk, which is lost only where memory was
-/// wanting at the end, or where what the clients were shown is not what the desk answered.
+/// worker for five seconds and more, lines on a link of their own tell how many. Answers the status of the process, and the disk.
 pub fn serve_on<
     D: Disk + Send + Drop,
     T: OpenListener<Stream = TcpStream> + Sync,
@@ -572,9 +579,9 @@ pub fn serve_on<
     output: &mut O,
     faults: &mut F,
     warnings: W,
-) -> (u8, Option<D>)
+) -> (u8, D)
     requires { IsService service }
-    ensures { ServesOn D.keeps D.view D.failed O.told F.told service.sessions disk result.1 output.old output.new faults.old faults.new result.0 }
+    ensures { ServesOn D.keeps D.view D.failed ⟦<ClientConnection<R> as Link>⟧.told O.told F.told service.sessions disk result.1 output.old output.new faults.old faults.new result.0 }
 {
     match Desk::open(alloc, disk) {
         Ok(desk) => {
@@ -584,7 +591,7 @@ pub fn serve_on<
             ) {
                 Ok((disk, dropped)) => {
                     tell_dropped(faults, dropped);
-                    (0, Some(disk))
+                    (0, disk)
                 }
                 Err(Stopped { stop, disk }) => {
                     tell(faults, line_of(stop));
@@ -594,7 +601,7 @@ pub fn serve_on<
         }
         Err((fault, disk)) => {
             tell_unopened(faults, fault);
-            (3, Some(disk))
+            (3, disk)
         }
     }
 }

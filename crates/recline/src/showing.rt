@@ -1,7 +1,8 @@
 //! What a record file has.
 
-ghost use Rattle.std.specs.Prelude.{◌≡◌, ℕ, List, IfOk, false, true};
+ghost use Rattle.std.specs.Prelude.{◌≡◌, ◌≢◌, ℕ, List, IfOk, false, true};
 ghost use Rattle.desk.specs.Openings.{RefusesFile};
+ghost use Rattle.desk.specs.declared.fault.DeskFault.TheVariants as opening;
 ghost use Rattle.earlier_file.specs.Facts.{AreFacts, IsUnread};
 ghost use Rattle.recline.specs.Outcome.{Tells, open_fault_line};
 ghost use Rattle.recline.specs.Showing.{IsDeskOf, IsTextOf, Shows, ShowsFront, ShowsPart};
@@ -190,7 +191,8 @@ fn show_part<K: Link, F: Link>(
     client: &mut K,
     faults: &mut F,
 ) -> u8
-    requires { RefusesFile bytes.now fault }
+    requires refuses { RefusesFile bytes.now fault }
+    requires file { fault ≢ opening.Device }
     ensures { ShowsPart F.told bytes.now faults.old faults.new result }
 {
     show_before(alloc, bytes, form, fault, client);
@@ -200,7 +202,8 @@ fn show_part<K: Link, F: Link>(
 
 /// Why the bytes of a record file cannot be read, as it is told of a file that is opened.
 fn fault_of(fault: FileFault) -> DeskFault
-    ensures { (bytes : List ℕ) → IsUnread bytes fault → RefusesFile bytes result }
+    ensures refuses { (bytes : List ℕ) → IsUnread bytes fault → RefusesFile bytes result }
+    ensures file { result ≢ opening.Device }
 {
     match fault {
         FileFault::Foreign => DeskFault::Foreign,

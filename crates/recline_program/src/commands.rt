@@ -277,20 +277,20 @@ pub(crate) fn check_over_file<T: Wait + Drop, K: Link, F: Link>(
     }
 }
 
-/// Asks one question over a copy of the records of this path, or of its first ones, and answers the status and the client.
+/// Asks one question over a copy of the records of this path, or of its first ones.
 pub(crate) fn ask_over_file<K: Link, F: Link>(
     teller: Teller<'_>,
     path: &str,
     at: Option<u32>,
     question: &Question<'_>,
-    client: K,
+    client: &mut K,
     faults: &mut F,
-) -> (u8, K)
+) -> u8
     requires { IsOneLine question.now }
 {
     match records_of(teller, path, at, faults) {
         Ok(bytes) => ask_on(teller.rt.alloc(), &bytes, question, client, faults),
-        Err(status) => (status, client),
+        Err(status) => status,
     }
 }
 
@@ -300,12 +300,12 @@ pub(crate) fn ask_line<K: Link, F: Link>(
     path: &str,
     names: &str,
     at: Option<u32>,
-    client: K,
+    client: &mut K,
     faults: &mut F,
-) -> (u8, K) {
+) -> u8 {
     match Question::for_line(names.as_bytes()) {
         Some(question) => ask_over_file(teller, path, at, &question, client, faults),
-        None => (teller.misused("no name has a line feed in it"), client),
+        None => teller.misused("no name has a line feed in it"),
     }
 }
 

@@ -2,9 +2,11 @@
 
 use crate::telling::{Reason, Teller};
 use client_link::Link;
+use earlier_file::{FileFault, facts, first_records};
 use line_disk::{Device, FileDisk, Modelled, Reach, Unopened};
 use recline::at_front;
 use record_file::RecordReach;
+use std::alloc::Global;
 use std::fs::File;
 use std::io::Read;
 use std::os::unix::fs::FileExt;
@@ -72,6 +74,47 @@ fn open_to_read(teller: Teller<'_>, path: &str) -> Result<File, u8> {
     match File::open(teller.rt, path) {
         Ok(file) => Ok(file),
         Err(error) => Err(teller.failed("open", path, &error)),
+    }
+}
+
+/// The number of the first record of these bytes that is damaged, and where it begins, if one is.
+fn damage_in(alloc: Global, bytes: &[u8]) -> Option<(usize, usize)> {
+    let Err(FileFault::Damaged(number)) = facts(bytes) else {
+        return None;
+    };
+    match first_records(alloc, bytes, number.saturating_sub(1)) {
+        Ok(earlier) => Some((number, earlier.len())),
+        Err(_) => None,
+    }
+}
+
+/// The bytes of the file of this path, as far as records can reach, if it can be read. Nothing is told.
+fn bytes_in_silence(rt: &HostRuntime, path: &str) -> Option<Vec<u8>> {
+    let Ok(mut file) = File::open(rt, path) else {
+        return None;
+    };
+    let mut bytes = Vec::new(rt.alloc());
+    let mut buf = [0u8; 65_536];
+    for _ in 0..u64::MAX {
+        let n = file.read(&mut buf).ok()?;
+        if n == 0 || bytes.len() >= MOST_BYTES {
+            break;
+        }
+        bytes.extend_from_slice(&buf[..n]).ok()?;
+    }
+    Some(bytes)
+}
+
+/// Says at which byte of the file of this path the record begins that is damaged, if one is among those that count.
+pub(crate) fn explain_damage(teller: Teller<'_>, path: &str, at: Option<u32>) {
+    let Some(bytes) = bytes_in_silence(teller.rt, path) else {
+        return;
+    };
+    let Some((number, offset)) = damage_in(teller.rt.alloc(), &bytes) else {
+        return;
+    };
+    if number <= at.unwrap_or(u32::MAX) as usize {
+        teller.explain_record(path, number, offset);
     }
 }
 

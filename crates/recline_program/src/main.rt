@@ -3,6 +3,7 @@
 
 mod commands;
 mod files;
+mod hearing;
 mod reporting;
 mod streams;
 mod telling;
@@ -13,6 +14,8 @@ use commands::{
     Drawn, ask_line, ask_over_file, check_over_file, draw, form_of, run_over_file, serve_over_file,
     show_file,
 };
+use files::explain_damage;
+use hearing::Heard;
 use recline::{Form, Host, Question, drive_on, explain_on};
 use std::env;
 use std::io::{self, BufWriter, Read};
@@ -57,10 +60,17 @@ fn act<T: Host, K: Link + Drop, F: Link + Drop>(
             check_over_file::<T, _, _>(teller, file, at, &mut client, &mut faults)
         }
         Command::Line { file, names, at } => {
-            return ask_line(teller, file, names, at, client, &mut faults);
+            ask_line(teller, file, names, at, &mut client, &mut faults)
         }
         Command::Garbage { file, at } => {
-            return ask_over_file(teller, file, at, &Question::Garbage, client, &mut faults);
+            ask_over_file(
+                teller,
+                file,
+                at,
+                &Question::Garbage,
+                &mut client,
+                &mut faults,
+            )
         }
         Command::Explain { .. } => explain_on(alloc, &mut client, &mut faults),
         Command::Drive { comments, .. } => {
@@ -98,11 +108,11 @@ fn act<T: Host, K: Link + Drop, F: Link + Drop>(
 /// Says why the input or standard output failed, if one did and where that is asked for.
 fn explain_streams<R: Read + Drop, W: Drop>(
     teller: Teller<'_>,
-    input: &Kept<Input<'_, R>>,
+    input: &Kept<Heard<Input<'_, R>>>,
     output: &Kept<W>,
 ) {
     if let Some(error) = input.error {
-        let (doing, name) = input.stream.failed_call();
+        let (doing, name) = input.stream.stream.failed_call();
         teller.explain(Reason::Cannot { doing, name, error });
     }
     if let Some(error) = output.error {
@@ -128,14 +138,47 @@ fn act_over<T: Host, R: Read + Drop>(
     let Ok(errors) = BufWriter::with_capacity(rt.alloc(), 0, rt.stderr()) else {
         return teller.fault("memory");
     };
-    let client = Streams::new(Kept::new(input), output);
+    let client = Streams::new(Kept::new(Heard::new(input)), output);
     let faults = Streams::new(io::empty(), errors);
     let (status, client) = act(teller, threads, command, client, faults);
     let (input, output) = client.into_inner();
     // What could not be handed on is not tried once more, as it would be where the buffer is dropped.
     let (output, _unwritten) = output.into_parts();
     explain_streams(teller, &input, &output);
+    explain_records(teller, command, status);
+    input.stream.hint(teller, command, status);
     status
+}
+
+/// Whether the environment asks for why a fault came, as the flag of each command does.
+fn is_explaining(rt: &HostRuntime) -> bool {
+    match env::var(rt, "RECLINE_EXPLAIN") {
+        Ok(value) => value.as_str() == "1",
+        Err(_) => false,
+    }
+}
+
+/// Says where the record file of a command is damaged, if it is, where that is asked for and the command ended with this status.
+fn explain_records(teller: Teller<'_>, command: Command<'_>, status: u8) {
+    if !teller.explains || status != 3 {
+        return;
+    }
+    let (path, at) = match command {
+        Command::Run { file: Some(file) } => (file, None),
+        Command::Serve { file, .. } => (file, None),
+        Command::Check { file, at, .. }
+        | Command::Line { file, at, .. }
+        | Command::Garbage { file, at }
+        | Command::Show { file, at, .. } => (file, at),
+        Command::Draw {
+            path,
+            records: true,
+            at,
+            ..
+        } => (path, at),
+        _ => return,
+    };
+    explain_damage(teller, path, at);
 }
 
 /// Does what the words of the command line ask for, and answers the status.
@@ -152,7 +195,7 @@ fn do_words<T: Host>(rt: &HostRuntime, threads: &T) -> u8 {
         Ok(wanted) => act_over(
             Teller {
                 rt,
-                explains: wanted.explain,
+                explains: wanted.explain || is_explaining(rt),
             },
             threads,
             wanted.command,

@@ -31,19 +31,34 @@ fn words_of(call: FileCall) -> &'static str {
 /// What was found of a file of which no call failed.
 fn found_of(call: FileCall) -> &'static str {
     match call {
+        FileCall::Open => "is not a regular file",
         FileCall::Lock => "is locked by another program",
-        _ => "is not as it was left: another program or its device changed it",
+        FileCall::Write | FileCall::Cut | FileCall::Sync => "was removed or shortened",
+        FileCall::Measure | FileCall::Read | FileCall::SyncFolder => {
+            "is not as it was left: another program or its device changed it"
+        }
     }
 }
 
-/// A name in a line, with `?` for each control character, as one that would part the line.
+/// Whether a character is written by its number: one that parts a line, moves the cursor, or turns or hides what stands beside it; and `\`.
+fn is_hidden(c: char) -> bool {
+    c.is_control()
+        || c == '\\'
+        || matches!(c, '\u{200b}'..='\u{200f}' | '\u{2028}'..='\u{202e}' | '\u{2060}'..='\u{206f}' | '\u{feff}')
+}
+
+/// A name in a line, with JSON's `\u` and four digits for each character that would hide what the line is.
 #[derive(Clone, Copy)]
 struct Plain<'a>(&'a str);
 
 impl<'a> Display for Plain<'a> {
     fn fmt<W: Write>(&self, f: &mut Formatter<W>) -> fmt::Result {
         for c in self.0.chars() {
-            f.write_char(if c.is_control() { '?' } else { c })?;
+            if is_hidden(c) {
+                write!(f, "\\u{:04x}", c as u32)?;
+            } else {
+                f.write_char(c)?;
+            }
         }
         Ok(())
     }
@@ -141,11 +156,37 @@ impl<'a> Teller<'a> {
         status
     }
 
+    /// Says at which byte of the file of this path a damaged record begins.
+    pub(crate) fn explain_record(self, path: &str, number: usize, offset: usize) {
+        let name = Plain(path);
+        let _told = eprintln!(self.rt;
+            "recline: record {number} of {name} begins at byte {offset}"
+        );
+    }
+
     /// Says why this port of the machine itself is not listened on, where that is asked for.
     pub(crate) fn explain_port(self, port: u16, error: &io::Error) {
         if self.explains {
             let _told = eprintln!(self.rt; "recline: cannot listen on 127.0.0.1:{port}: {error}");
         }
+    }
+
+    /// Says that so many bytes behind the last LF were not read.
+    pub(crate) fn tell_rest(self, bytes: u64) {
+        let _told = eprintln!(self.rt;
+            "recline: the last {bytes} bytes have no LF and were not read"
+        );
+    }
+
+    /// Says that what was read as a script is a record file.
+    pub(crate) fn tell_records(self, path: &str) {
+        let name = Plain(if path == "-" { "standard input" } else { path });
+        let _told = eprintln!(self.rt; "recline: {name} is a record file (draw --records)");
+    }
+
+    /// Says that a certificate stands behind the word of its reply.
+    pub(crate) fn tell_word_in_front(self) {
+        let _told = eprintln!(self.rt; "recline: leave out \"LINE \" in front of the certificate");
     }
 
     /// Says which word of the command line is none that may stand there, and answers the status.

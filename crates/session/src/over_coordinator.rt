@@ -5,7 +5,7 @@ ghost use Rattle.std.specs.Prelude.{◌≡◌, ◌≢◌, [], ◌∷◌, OnOk, O
 ghost use Rattle.report_line.specs.Cutting.{IsLine, ended};
 ghost use Rattle.report_line.specs.Replies.{reply_text};
 ghost use Rattle.coordinator.specs.Calls.{IsForeignOnly};
-ghost use Rattle.coordinator.specs.Passes.{IsAnswered};
+ghost use Rattle.coordinator.specs.Standing.{IsMade};
 ghost use Rattle.desk.specs.Files.{IsShort};
 ghost use Rattle.desk.specs.Records.{IsReadOff};
 ghost use Rattle.session.specs.Gained.{GainsEach, LinkServed};
@@ -52,7 +52,7 @@ fn ask<R: Threads + Wait + Sync, L: Ledger, D: Disk, G: Gate>(
 ) -> Result<(), CallFault>
     requires short { IsShort call }
     requires read { IsReadOff line.now call }
-    ensures ok { OnOk result (IsAnswered pass.old call pass.new) }
+    ensures ok { OnOk result (IsMade D.keeps D.view pass.old call pass.new) }
     ensures err { OnErr result (pass.new ≡ pass.old) }
     ensures foreign { IfErr result (λ fault. IsForeignOnly pass.old fault) }
 {
@@ -84,7 +84,7 @@ fn serve_by_pass<R: Threads + Wait + Sync, L: Ledger, D: Disk, G: Gate, K: Link>
     line: &[u8],
 ) -> Option<Kind>
     requires { IsLine line.now }
-    ensures { Serves GainsEach at_pass (K.told link.old) (K.told link.new) (line.now ∷ []) pass.old pass.new result (one_reply result) }
+    ensures { Serves (GainsEach D.keeps D.view) at_pass (K.told link.old) (K.told link.new) (line.now ∷ []) pass.old pass.new result (one_reply result) }
 {
     let read = read_line(coordinator.alloc(), line);
     let last = is_bye(&read);
@@ -108,7 +108,7 @@ struct OverCoordinator<'a, R, L: Ledger, D: Disk, G> {
 
 impl<'a, R: Threads + Wait + Sync, L: Ledger, D: Disk, G: Gate> Server<Pass<L>>
     for OverCoordinator<'a, R, L, D, G> {
-    ghost makes = { GainsEach };
+    ghost makes = { GainsEach D.keeps D.view };
 
     ghost grounds = { at_pass };
 
@@ -123,12 +123,13 @@ impl<'a, R: Threads + Wait + Sync, L: Ledger, D: Disk, G: Gate> Server<Pass<L>>
     }
 }
 
-/// Serves one client over a coordinator, as `run` does over a desk: each line takes its turn under the coordinator's lock and is
-/// added to the pass, and its reply is written and handed on before the next line's turn. The lines of other clients may take theirs in
-/// between. Where a write or a hand-on fails, be it of the ending line, all lines but the last one have gone, and no later turn is made.
-/// What is written is the session text of what was read, and its exchanges are just the entries that the pass gained. Where the
-/// pass is of another coordinator, the session ends as Foreign with nothing more written. At last the link is ended, however the session
-/// ended.
+/// Serves one client over a coordinator, as `run` does over a desk: each line takes its turn under the coordinator's lock and is added to
+/// the pass, and its reply is written and handed on before the next line's turn. The lines of other clients may take theirs in between.
+/// Where a write or a hand-on fails, be it of the ending line, all lines but the last one have gone, and no later turn is made. What is
+/// written is the session text of what was read, and its exchanges are just the entries that the pass gained. Each of these has a turn of
+/// a desk on such a disk: a `LINE` is right for what that desk held then, and after `OK` and `SETTLED` the call's record stands in the
+/// file. Where the pass is of another coordinator, the session ends as Foreign with nothing more written. At last the link is ended,
+/// however the session ended.
 pub fn serve_link<R: Threads + Wait + Sync, L: Ledger, D: Disk, G: Gate, K: Link>(
     rt: &R,
     coordinator: &Coordinator<L, D>,
@@ -136,7 +137,7 @@ pub fn serve_link<R: Threads + Wait + Sync, L: Ledger, D: Disk, G: Gate, K: Link
     gate: &G,
     link: &mut K,
 ) -> SessionEnd
-    ensures { LinkServed K.told link.old link.new pass.old pass.new result.kind result.replies }
+    ensures { LinkServed D.keeps D.view K.told link.old link.new pass.old pass.new result.kind result.replies }
 {
     let server = OverCoordinator {
         rt,

@@ -10,20 +10,23 @@ use coordinator::{Coordinator, Gate, Pass};
 use crossbeam_channel::Receiver;
 use line_disk::Disk;
 use std::alloc::{AllocError, Global};
+use std::marker::PhantomData;
 use std::sync::Wait;
 use std::sync::ledger::Ledger;
 use std::thread::{Threads, for_each_mut};
 
 /// A session that ended. What its pass gained, what its link tells and how it ended fit together as `serve_link` says.
 #[derive(Drop)]
-pub struct Served<L: Ledger, K: Link + Drop> {
+pub struct Served<L: Ledger, D: Disk, K: Link + Drop> {
     /// What the client was answered.
     pub pass: Pass<L>,
     /// The client's link.
     pub link: K,
     /// How the session ended.
     pub end: SessionEnd,
-    ghost served: { ∥ WasServed K.told link pass end.kind end.replies ∥₁ },
+    /// The kind of disk that its desk is on.
+    pub disk: PhantomData<D>,
+    ghost served: { ∥ WasServed D.keeps D.view K.told link pass end.kind end.replies ∥₁ },
 }
 
 /// Serves one link after the other, each with a pass of its own, until the channel is closed, or memory or a pass is wanting.
@@ -33,7 +36,7 @@ fn work<L: Ledger, D: Disk, G: Gate + Sync, K: Link + Drop, R: Threads + Wait + 
     coordinator: &Coordinator<L, D>,
     gate: &G,
     links: &Receiver<K>,
-    served: &mut Vec<Served<L, K>>,
+    served: &mut Vec<Served<L, D, K>>,
 ) {
     for _ in rt.forever() {
         let Ok(()) = served.reserve(1) else {
@@ -46,7 +49,12 @@ fn work<L: Ledger, D: Disk, G: Gate + Sync, K: Link + Drop, R: Threads + Wait + 
             return;
         };
         let end = serve_link(rt, coordinator, &mut pass, gate, &mut link);
-        served.push_reserved(Served { pass, link, end });
+        served.push_reserved(Served {
+            pass,
+            link,
+            end,
+            disk: PhantomData,
+        });
     }
 }
 
@@ -66,7 +74,7 @@ pub fn workers<
     gate: &G,
     n: usize,
     links: Receiver<K>,
-) -> Result<Vec<Vec<Served<L, K>>>, AllocError>
+) -> Result<Vec<Vec<Served<L, D, K>>>, AllocError>
     requires { (0 < n) × (n ≤ 64) }
     ensures { IfOk result (λ lists. length lists.items ≡ n) }
 {

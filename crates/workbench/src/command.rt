@@ -28,6 +28,8 @@ pub enum Command<'a> {
     Served(&'a str),
     /// The calls of a coordinator over the record file of this path, made once more where memory was wanting.
     Shared(&'a str),
+    /// Whether the openings of files at this path write to them.
+    Openings(&'a str),
     /// The calls of a coordinator over a disk in memory, of which the call of this number fails.
     Failing { call: u32, effect: Effect },
     /// The steps of a world, taken once more where memory was wanting.
@@ -70,6 +72,7 @@ fn tool_by_one<'a>(tool: &str, word: &'a str) -> Option<Command<'a>> {
         "workers" => Some(Command::Workers(count_of(word)?)),
         "served" => Some(Command::Served(word)),
         "shared" => Some(Command::Shared(word)),
+        "openings" => Some(Command::Openings(word)),
         _ => None,
     }
 }

@@ -6,6 +6,7 @@ mod calls;
 mod command;
 mod gates;
 mod measures;
+mod openings;
 mod traffic;
 
 use anyhow::Result;
@@ -17,7 +18,8 @@ use std::thread::Threads;
 
 /// Which words there are.
 const USAGE: &str =
-    "usage: workbench session | clocks | certificate | calls | served FILE | shared FILE | failing CALL EFFECT | world |
+    "usage: workbench session | clocks | certificate | calls | served FILE | shared FILE | openings FILE |
+                 failing CALL EFFECT | world |
                  passes COUNT | gate THREADS PLACE | workers BYTES | table THREADS PLACE | traffic STREAM | steps PROCESSES TURNS
 
 session      measures a session of one process against a loop that reads and compares the same lines
@@ -28,7 +30,8 @@ served       serves the client of standard input and output over a coordinator o
              session and the coordinator ended, and opens a desk over its disk
 shared       makes the calls of a coordinator for the lines on standard input over the record file FILE, each once more where
              memory was wanting for it; closes it likewise, and opens a desk over its disk
-failing      the same over a disk in memory, whose CALL-th call fails and has done nothing (none) or all (all)
+openings     makes files at the path FILE, and tells of each whether its opening writes to it
+failing      the same as shared over a disk in memory, whose CALL-th call fails and has done nothing (none) or all (all)
 world        drives a world by the steps on standard input, each taken once more where memory was wanting for it
 passes       takes COUNT passes of a coordinator, each of which makes a turn, or tells why there are no more; tells the number of the last
              one, why the coordinator is not closed without it, and how it ends with all
@@ -75,6 +78,7 @@ fn run<T: Threads + Wait + Sync>(
         Command::Table { workers, place } => gates::tables::answer_all(rt, threads, workers, place),
         Command::Served(path) => again::served::serve_one(rt, threads, path),
         Command::Shared(path) => again::shared::answer_all(rt, threads, path),
+        Command::Openings(path) => openings::put_openings(rt, path),
         Command::Failing { call, effect } => {
             again::failing::answer_all(rt, threads, call, effect)
         }

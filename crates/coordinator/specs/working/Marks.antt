@@ -1,9 +1,18 @@
 -- Working definitions: which turns have an entry, and where it stands.
 use Rattle.std.specs.Prelude.{◌≡◌, ◌⊎◌, ℕ, ◌+◌, ◌-◌, ◌<◌, ◌≤◌, List, length, All, Some, slice_get, slice_index, slice_index_or, sum}
+use Rattle.chains.specs.Held.{Held}
 use Rattle.desk.specs.declared.turn.Turn.{Turn}
 use Rattle.coordinator.specs.declared.marking.Owner.{Owner}
 use Rattle.coordinator.specs.Passes.{PassEntry, PassState}
-use Rattle.coordinator.specs.Closing.{IsAtTurn, times}
+use Rattle.coordinator.specs.declared.fault.CloseFault.{CloseFault}
+use Rattle.coordinator.specs.declared.fault.CloseFault.TheVariants.{Stranger, Missing, Memory}
+use Rattle.coordinator.specs.Closing.{IsAtTurn, IsMissing, IsStrange, entries_of, times}
+
+-- why passes were refused; if memory is missing, each entry stands at its turn nevertheless
+abbrev pub IsCauseWithFits : Held → List Turn → List PassState → CloseFault → Type 0
+IsCauseWithFits opening ts passes (Stranger number) = IsStrange opening ts passes number
+IsCauseWithFits opening ts passes (Missing shares turns) = IsMissing opening ts passes shares turns
+IsCauseWithFits opening ts passes Memory = All (IsAtTurn ts) (entries_of passes)
 
 -- the marks count the entries at each turn, and those entries stand at their turns
 pub record IsMarked (ts : List Turn) (marks : List ℕ) (es : List PassEntry) : Type 0 where

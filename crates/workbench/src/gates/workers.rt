@@ -55,11 +55,16 @@ fn channel_of<'t, 'm, R: Wait>(
 // Keeps the pass of a session and what its client got.
 fn keep<'t, 'm, L: Ledger>(
     alloc: Global,
-    session: Served<L, ClientLink<'t, 'm>>,
+    session: Served<L, MemoryDisk, ClientLink<'t, 'm>>,
     passes: &mut Vec<Pass<L>>,
     texts: &mut Vec<Vec<u8>>,
 ) -> Result<()> {
-    let Served { pass, link, end: _ } = session;
+    let Served {
+        pass,
+        link,
+        end: _,
+        disk: _,
+    } = session;
     passes.push(pass)?;
     let (_rest, got) = link.into_inner();
     texts.push(Vec::from_slice(alloc, got.get_ref().text())?)?;

@@ -1,5 +1,5 @@
 -- `conclude`: what the audit says of the desk under the lock is said of the disk that it leaves.
-use Rattle.std.proofs.Common.{◌≡◌, length, sym, ap, ◌∙◌, subst}
+use Rattle.std.proofs.Common.{◌≡◌, sym, ap, ◌∙◌, subst}
 use Rattle.chains.specs.Held.{held_of}
 use Rattle.coordinator.specs.Closing.{IsAudited}
 use Rattle.coordinator.proofs.WhatIsLeft.{ended}
@@ -11,5 +11,5 @@ returns-clause-ok g c =
     let same : c.desk.result.now ≡ desk = c.desk.ensures ∙ sym c.into_desk-desk.ensures in
     let held : desk.opening ≡ held_of c.args.opening.now = sym (c.in_default.ensures.opening ∙ ap (λ d. d.opening) same) in
     let audited = subst (λ d. IsAudited d.opening d.turns c.args.passes.now) same c.in_default.ensures.ok in
-    ended g.D.Disk.keeps g.D.Disk.view (held_of c.args.opening.now) c.args.passes.now desk c.close-disk.result (length c.turns.result.now) c.front-front.result
-    c.lawful.ensures.lawful held audited (ap length c.turns.ensures) c.front-front.ensures c.close-disk.ensures.disk c.close-disk.ensures.left
+    ended g.D.Disk.keeps g.D.Disk.view (held_of c.args.opening.now) c.args.passes.now desk c.end_desk.result.disk c.end_desk.result.turns c.end_desk.result.front
+    c.lawful.ensures.lawful held audited c.end_desk.ensures.turns c.end_desk.ensures.front c.end_desk.ensures.disk

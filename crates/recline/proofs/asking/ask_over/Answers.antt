@@ -1,8 +1,30 @@
-use Rattle.recline.specs.Asked.{asked_told}
-use Rattle.recline.proofs.AsTold.{asks_over}
+use Rattle.std.proofs.Common.{inl, inr, refl}
 use Rattle.recline.proofs.asking.ask_over.Goals as goal
 
-pub returns : goal.returns
-returns g c =
-    asks_over (asked_told g.K.Link.told) g.F.Link.told c.args.disk c.run_on-status.result.1 c.args.line.items (g.K.Link.told c.args.client) (g.K.Link.told c.into_client.result)
-    c.new-link.result c.run_on-status.new.client c.args.faults.now c.run_on-status.new.faults c.run_on-status.result.0 c.new-link.ensures c.into_client.ensures c.run_on-status.ensures
+pub returns-in-Ok : goal.returns-in-Ok
+returns-in-Ok g c =
+    let opened = c.in-Ok.ensures in
+    inl (record {
+      desk = c.in-Ok.desk;
+      after = c.ask_desk-status.new.desk;
+      opened = record { records = opened.records; opened = opened.opened; any_moment = opened.any_moment; fresh = opened.fresh; premise = opened.premise };
+      asks = c.ask_desk-status.ensures;
+      lawful = c.lawful.ensures.lawful;
+    })
+
+pub returns-in-Err : goal.returns-in-Err
+returns-in-Err g c =
+    let why = c.in-Err.ensures in
+    inr (
+      c.in-Err.disk,
+      record {
+        fault = c.in-Err.fault;
+        refused = why.refused;
+        any_moment = why.any_moment_err;
+        cause = why.cause;
+        premise = why.premise;
+        client_rests = refl;
+        status_is = refl;
+        faults_are = c.tell_unopened.ensures;
+      },
+    )

@@ -8,14 +8,17 @@ use Rattle.recline.proofs.checking.check_over.Goals as goal
 
 pub returns-in-Err : goal.returns-in-Err
 returns-in-Err g c =
-    let read = c.in-Ok.ensures in
-    record {
-      text = c.in-Ok.text.items;
-      only = read.only;
-      at_end = read.at_end;
-      sound = read.sound;
-      text_is = subst (λ (l : List ℕ). IsReadAs c.args.chains.now.accepted l (Err c.in-Err.fault)) c.deref.ensures.value c.in-Err.ensures;
-    }
+    let read = c.in-Ok.ensures in (
+      c.in-Err.fault,
+      c.cause_of.ensures,
+      record {
+        text = c.in-Ok.text.items;
+        only = read.only;
+        at_end = read.at_end;
+        sound = read.sound;
+        text_is = subst (λ (l : List ℕ). IsReadAs c.args.chains.now.accepted l (Err c.in-Err.fault)) c.deref.ensures.value c.in-Err.ensures;
+      },
+    )
 
 pub returns : goal.returns
 returns g c =

@@ -6,7 +6,7 @@ use Rattle.recline.proofs.serving.passes_of.Given as goal
 
 abbrev pub invariant-loop-served : goal.invariant-loop-served
 invariant-loop-served g l =
-    AreServed l.passes.items l.dropped ×
+    AreServed g.D.Disk.keeps g.D.Disk.view g.K.Link.told l.passes.items l.dropped ×
     (l.passes.items ≡ flat_map (λ q. map (λ s. s.pass) q.items) l.yielded) ×
     (l.dropped ≡ dropped_in (flat_map (λ q. map (λ s. s.end.kind) q.items) l.yielded)) ×
     (goal.iterator-loop-served g).can_next l.served-iterator ×

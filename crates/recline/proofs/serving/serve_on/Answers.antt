@@ -8,7 +8,7 @@ returns-in-Ok-serve_desk g c =
     inl (record {
       desk = c.in-Ok.desk;
       opened = record { records = opened.records; opened = opened.opened; any_moment = opened.any_moment; fresh = opened.fresh; premise = opened.premise };
-      serves = inl (record { disk = c.in-Ok-serve_desk.disk; dropped = c.in-Ok-serve_desk.dropped; is_back = refl; served = c.in-Ok-serve_desk.ensures.ok; told = c.tell_dropped.ensures; status_is = refl });
+      serves = inl (record { dropped = c.in-Ok-serve_desk.dropped; served = c.in-Ok-serve_desk.ensures.ok; told = c.tell_dropped.ensures; status_is = refl });
     })
 
 pub returns-in-Err-serve_desk : goal.returns-in-Err-serve_desk

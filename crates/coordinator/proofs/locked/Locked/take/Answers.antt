@@ -1,5 +1,6 @@
 use Rattle.std.proofs.Common.{sym, ap, ◌∙◌}
 use Rattle.report_line.specs.declared.reply.Reply.TheVariants.{Taken}
+use Rattle.coordinator.proofs.Made.{made_with}
 use Rattle.coordinator.proofs.Turns.{taken-front}
 use Rattle.coordinator.proofs.locked.Locked.take.Goals as goal
 
@@ -14,3 +15,6 @@ returns-in-Ok-clause-ok g c =
             ∙ ap Taken (sym c.in-Ok.ensures.front),
       );
     }
+
+pub returns-in-Ok-clause-stands : goal.returns-in-Ok-clause-stands
+returns-in-Ok-clause-stands g c = made_with g.D.Disk.keeps g.D.Disk.view _ _ _ _ _ _ c.lawful.ensures.lawful c.lawful-2.ensures.lawful (returns-in-Ok-clause-ok g c)

@@ -6,6 +6,8 @@ import subprocess
 TOP = os.path.dirname(os.path.dirname(os.path.abspath(__file__)))
 # The tools beside the program, which may not be built.
 WORKBENCH = os.path.join(TOP, "crates", "workbench", "out", "workbench")
+# An answer that has not come after this many seconds never comes (tests/program).
+HANG = int(os.environ.get("RECLINE_HANG") or 600)
 
 
 def program():

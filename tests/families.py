@@ -16,6 +16,7 @@ halves, those of `recline drive`; and `recline run` has to accept all of them. E
 """
 
 import json
+import os
 import random
 import subprocess
 import sys
@@ -27,6 +28,8 @@ from stamps import Stamp, join, leaves, text
 
 OLDER, NEWER, NOT_WAITING, SELF_TARGET, NAME_TAKEN, OVERLAP, OTHER_PROCESS, NOT_KNOWN = -8, -9, -7, -5, -6, -14, -15, -16
 LARGEST = 64
+# An answer that has not come after this many seconds never comes (tests/program).
+HANG = int(os.environ.get("RECLINE_HANG") or 600)
 
 
 class Family:
@@ -235,7 +238,7 @@ class Family:
 
 
 def replies_to(lines):
-    ran = subprocess.run([recline, "run"], input="".join(line + "\n" for line in lines), capture_output=True, text=True, timeout=60)
+    ran = subprocess.run([recline, "run"], input="".join(line + "\n" for line in lines), capture_output=True, text=True, timeout=HANG)
     return ran.stdout.splitlines()
 
 
@@ -243,7 +246,7 @@ def drive(script):
     with tempfile.NamedTemporaryFile("w", suffix=".script") as file:
         file.write("".join(step + "\n" for step in script))
         file.flush()
-        return subprocess.run([recline, "drive", file.name], capture_output=True, text=True, timeout=60).stdout.splitlines()
+        return subprocess.run([recline, "drive", file.name], capture_output=True, text=True, timeout=HANG).stdout.splitlines()
 
 
 def a_family(k):
@@ -293,7 +296,7 @@ expect("processes return in both ways, and hand messages over once more: %s" % w
 steps = "".join(step + "\n" for family in made for step in family.steps)
 for maker in makers:
     name, _, command = maker.partition("=")
-    ran = subprocess.run([command], input=steps, capture_output=True, text=True, timeout=300)
+    ran = subprocess.run([command], input=steps, capture_output=True, text=True, timeout=HANG)
     told = ran.stdout.splitlines()
     at = 0
     for k, family in enumerate(made):

@@ -8,6 +8,12 @@
 //   CALL, DONE               the call of this number of those for the record file fails, from 1, and with DONE it is done all the same
 //   CALLS                    the file to which the names of the calls for the record file are written, a line each, and `behind` for each
 //                            read of standard input and each write to standard output behind one that failed or took nothing
+//   OTHER                    the call of this number shows other bytes, where it is a read, or a length that is one less
+//   GONE                     from the call of this number on each measure shows that the record file has no name
+//   FOLDERS                  the file to which the path of each folder that is synced is written, a line each
+//   IMAGE                    the file that has what the device has of the record file, which is what the system shows of it. Of the pages
+//                            of PAGE bytes that were written since the last sync, a sync writes each to the device
+//   SYNC                     and the sync of this number fails: it writes none, and they count as written, as they do for the system
 //
 // The calls for the record file are those by which it is read, written, measured, cut and synced.
 typedef unsigned long size_t;
@@ -19,9 +25,15 @@ extern char *getenv(const char *);
 extern int *__errno_location(void);
 extern int open(const char *, int, ...);
 extern int close(int);
+extern off_t lseek(int, off_t, int);
+extern ssize_t readlink(const char *, char *, size_t);
 
-enum { FAILED = 5, APPENDED = 02001, MADE = 0100 };
+enum { FAILED = 5, APPENDED = 02001, MADE = 0100, WRITTEN = 1, END = 2 };
 enum { NO_LIMIT = -1 };
+// The most pages of an image, and the greatest page.
+enum { PAGES = 1 << 20, LARGEST = 1 << 16 };
+// Where the number of names and the length are in what a measure tells.
+enum { NAMES = 16, LENGTH = 40 };
 
 static ssize_t (*given_read)(int, void *, size_t), (*given_recv)(int, void *, size_t, int);
 static ssize_t (*given_write)(int, const void *, size_t), (*given_send)(int, const void *, size_t, int);
@@ -29,8 +41,11 @@ static ssize_t (*given_pread)(int, void *, size_t, off_t), (*given_pwrite)(int, 
 static int (*given_fsync)(int), (*given_fdatasync)(int), (*given_ftruncate)(int, off_t);
 static int (*given_statx)(int, const char *, int, unsigned, void *);
 static long read_most, write_most, read_end, write_end, send_end, read_lines, call, was_read, was_written, was_sent, calls;
+static long other, gone, sync_number, page, syncs;
 // Whether a standard stream broke.
 static int is_broken;
+// Which pages were written since the last sync.
+static unsigned char written[PAGES];
 
 static long number(const char *name)
 {
@@ -63,6 +78,10 @@ __attribute__((constructor)) static void begin(void)
     send_end = number("SEND_END");
     read_lines = number("READ_LINES");
     call = number("CALL");
+    other = number("OTHER");
+    gone = number("GONE");
+    sync_number = number("SYNC");
+    page = number("PAGE");
 }
 
 static int fail(void)
@@ -81,9 +100,10 @@ static size_t within(size_t asked, long most, long end, long before)
     return asked;
 }
 
-static void note(const char *name)
+// Adds a line to the file that a variable names, if it is there.
+static void add_line(const char *variable, const char *name)
 {
-    const char *path = getenv("CALLS");
+    const char *path = getenv(variable);
     if (!path)
         return;
     int file = open(path, APPENDED | MADE, 0600);
@@ -93,6 +113,11 @@ static void note(const char *name)
     given_write(file, name, length);
     given_write(file, "\n", 1);
     close(file);
+}
+
+static void note(const char *name)
+{
+    add_line("CALLS", name);
 }
 
 // A standard stream breaks, or is used once one broke.
@@ -168,23 +193,81 @@ ssize_t send(int file, const void *bytes, size_t asked, int flags)
         return fail();                          \
     } while (0)
 
+// A call that shows something else than what is so.
+static int is_other(void)
+{
+    return calls == other;
+}
+
 ssize_t pread(int file, void *bytes, size_t asked, off_t at)
 {
-    CALLED("read", given_pread(file, bytes, asked, at));
+    note("read");
+    if (++calls == call)
+        return fail();
+    ssize_t got = given_pread(file, bytes, asked, at);
+    if (got > 0 && is_other())
+        ((char *)bytes)[got - 1] ^= 1;
+    return got;
+}
+
+// The pages of these bytes were written.
+static void mark(off_t at, ssize_t put)
+{
+    for (off_t number = at / page; put > 0 && number <= (at + put - 1) / page; number++)
+        written[number] = 1;
 }
 
 ssize_t pwrite(int file, const void *bytes, size_t asked, off_t at)
 {
-    CALLED("write", given_pwrite(file, bytes, asked, at));
+    if (!getenv("IMAGE"))
+        CALLED("write", given_pwrite(file, bytes, asked, at));
+    ssize_t put = given_pwrite(file, bytes, asked, at);
+    mark(at, put);
+    return put;
+}
+
+// Writes the pages that were written since the last sync to the device, and their length; or none, where the sync fails.
+static int sync_image(int file)
+{
+    static char bytes[LARGEST];
+    int fails = ++syncs == sync_number, image = open(getenv("IMAGE"), WRITTEN);
+    for (off_t number = 0; number < PAGES; number++) {
+        ssize_t got = written[number] && !fails ? given_pread(file, bytes, page, number * page) : 0;
+        if (got > 0)
+            given_pwrite(image, bytes, got, number * page);
+        written[number] = 0;
+    }
+    if (!fails)
+        given_ftruncate(image, lseek(file, 0, END));
+    close(image);
+    return fails ? fail() : 0;
+}
+
+// Notes the path of a folder that is synced.
+static void note_folder(int file)
+{
+    char link[32] = "/proc/self/fd/", path[4096], *end = link + 14;
+    int power = 1;
+    while (file / power >= 10)
+        power *= 10;
+    for (; power; power /= 10)
+        *end++ = '0' + file / power % 10;
+    *end = 0;
+    ssize_t length = readlink(link, path, sizeof path - 1);
+    path[length > 0 ? length : 0] = 0;
+    add_line("FOLDERS", path);
 }
 
 int fsync(int file)
 {
+    note_folder(file);
     CALLED("sync", given_fsync(file));
 }
 
 int fdatasync(int file)
 {
+    if (getenv("IMAGE"))
+        return sync_image(file);
     CALLED("sync_data", given_fdatasync(file));
 }
 
@@ -198,5 +281,13 @@ int statx(int file, const char *path, int flags, unsigned asked, void *told)
 {
     if (path && *path)
         return given_statx(file, path, flags, asked, told);
-    CALLED("length", given_statx(file, path, flags, asked, told));
+    note("length");
+    if (++calls == call)
+        return fail();
+    int answer = given_statx(file, path, flags, asked, told);
+    if (is_other())
+        *(unsigned long *)((char *)told + LENGTH) -= 1;
+    if (gone != NO_LIMIT && calls >= gone)
+        *(unsigned *)((char *)told + NAMES) = 0;
+    return answer;
 }

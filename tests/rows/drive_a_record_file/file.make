@@ -1,0 +1,1 @@
+$records_of_the_first_version 'BEGIN a' >"$file"

@@ -1,0 +1,1 @@
+$records 'BEGIN a'

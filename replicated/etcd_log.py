@@ -23,6 +23,7 @@ import time
 import urllib.parse
 
 from faults import Broken, Cut, Silent, Stopped, Wrong
+from grammar import is_logged
 
 # A page of lines that is read at once. With lines of 8,192 bytes it stays below the four MiB that gRPC takes in one message.
 PAGE = 256
@@ -172,7 +173,7 @@ class Log:
 
     def entry(self, pair):
         number, words = data(pair, "key")[len(self.folder + b"lines/"):], LINE.fullmatch(data(pair, "value"))
-        if not words or not number.isdigit():
+        if not words or not number.isdigit() or not is_logged(words[3]):
             raise broken(pair)
         mark = b"%s %s" % words.groups()[:2]
         return Entry(Last(int(number), int(pair["mod_revision"]), mark), words[1], int(words[2]), words[3])

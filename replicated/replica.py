@@ -5,7 +5,6 @@ each line once, in the order of the log. The other one gives line after line to 
 
 import collections
 import queue
-import re
 import secrets
 import threading
 import time
@@ -13,6 +12,7 @@ import time
 from asks import Asks
 from coordinator import Coordinator
 from faults import Fault, Silent, Stopped
+from grammar import is_logged
 from snapshot import EVERY, Place, find
 
 # How many lines one transaction puts; etcd takes 128 operations and one and a half megabytes.
@@ -35,27 +35,16 @@ MOMENT, PUBLISH_SECONDS = 0.1, 30
 # once more.
 HELD, FINISHING, LATE = 0.01, 0.005, 0.05
 
-# What the log takes: each report and each settlement of the grammar, and little else. All other lines change nothing, whatever recline is given
-# them for, so they are asked here.
-NAME, NUMBER, MARK, TREE = rb"[a-z][a-z0-9_-]*", rb"[1-9][0-9]*", rb"(?:@[1-9][0-9]*)?", rb"[0-9(),]+"
-HEAD = MARK + b" " + NAME + b" " + NUMBER + b" " + TREE + b";" + TREE
-LOGGED = re.compile(b"|".join([
-    b"BEGIN " + NAME,
-    b"(?:CHECK|PRESENT)" + HEAD,
-    b"FORK" + HEAD + b" " + TREE + b" " + NAME + b" " + TREE,
-    b"(?:RETIRE|ABSORB)" + HEAD + b" " + NAME,
-    b"SETTLE " + NUMBER + b" (?:-|" + NAME + b"(?:," + NAME + b")*)",
-]))
-
 
 class Waiting:
-    """A line of a session, whose replies go to that in order."""
+    """A line of a session, whose replies go to that in order. Reports and settlements are put in the log. All other lines change nothing, so this
+    replica alone asks its recline."""
 
     __slots__ = "line", "is_logged", "number", "replies"
 
     def __init__(self, line, replies):
         self.line = line
-        self.is_logged = LOGGED.fullmatch(line) is not None
+        self.is_logged = is_logged(line)
         self.number = None
         self.replies = replies
 
@@ -145,8 +134,9 @@ class Replica:
 
     def submit(self, lines, replies):
         """Has the lines of a session answered, in order."""
+        waiting = [Waiting(line, replies) for line in lines]
         with self.work:
-            self.waiting.extend(Waiting(line, replies) for line in lines)
+            self.waiting.extend(waiting)
             self.work.notify()
 
     # ---- The follower

@@ -1,5 +1,10 @@
-"""Random families of processes, which each binding makes: tests/bindings calls this with the program, the folder of the client in Python, how many
-families, a seed, and NAME=COMMAND for each binding. The command takes steps, one a line, and writes the line of each that reports:
+#!/usr/bin/env python3
+"""Random families of processes, which each binding makes.
+
+Usage: tests/families.py FAMILIES SEED NAME=COMMAND..
+
+tests/bindings calls it with how many families, a seed, and the command of each binding. A command takes steps, one a line, and writes the line
+of each step that reports:
 
     root p                p begins as the root, in a family of its own
     work p, check p, present p
@@ -8,28 +13,28 @@ families, a seed, and NAME=COMMAND for each binding. The command takes steps, on
     retire p q, absorb q p, absorb_kept q p
     keep p k              the state of p is kept as k
     return_to p k e       p, which is alive, returns to the state k, in the epoch e
-    return p k e          the same where p has no state any more
-    again p m             p hands m over once more, which bears its epoch from now on
+    return p k e          the same if p has no state any more
+    again p m             p hands m over once more, which has its epoch from now on
 
-What is refused is written as FAULT and its number. The reports have to be those of examples/client/stamps.py, and, where all parts of ids are
+What is refused is written as FAULT and its number. The reports have to be those of examples/client/stamps.py, and, if all parts of ids are
 halves, those of `recline drive`; and `recline run` has to accept all of them. Every eighth family settles.
+The last line is 'N passed, M failed'.
 """
-
+import functools
 import json
-import os
 import random
 import subprocess
 import sys
-import tempfile
 
-recline, client, families, seed, *makers = sys.argv[1:]
-sys.path.insert(0, client)
+from harness import CLIENT, HANG, Suite
+
+sys.path.insert(0, CLIENT)
 from stamps import Stamp, join, leaves, text
 
 OLDER, NEWER, NOT_WAITING, SELF_TARGET, NAME_TAKEN, OVERLAP, OTHER_PROCESS, NOT_KNOWN = -8, -9, -7, -5, -6, -14, -15, -16
 LARGEST = 64
-# An answer that has not come after this many seconds never comes (tests/program).
-HANG = int(os.environ.get("RECLINE_HANG") or 600)
+
+suite = Suite()
 
 
 class Family:
@@ -47,28 +52,34 @@ class Family:
         self.birth(name, Stamp(), 0)
 
     def new_name(self):
+        """A name that no process has."""
         self.names += 1
         return "p%d" % (self.names - 1)
 
     def step(self, step, script=True):
+        """Adds a step, which a script of recline may have, too."""
         self.steps.append(step)
         if script:
             self.script.append(step)
 
     def report(self, line):
+        """Adds the line that a step reports."""
         self.lines.append(line)
         self.told.append(line)
 
     def refused(self, step, fault):
+        """Adds a step that is refused for this fault."""
         self.step(step, False)
         self.told.append("FAULT %d" % fault)
 
     def report_of(self, kind, name, stamp, rest=""):
+        """Adds the report of a process."""
         self.numbers[name] += 1
         mark = "@%d" % self.epochs[name] if self.epochs[name] else ""
         self.report("%s%s %s %d %s%s" % (kind, mark, name, self.numbers[name], stamp, rest))
 
     def birth(self, name, stamp, epoch):
+        """Adds a process."""
         self.stamps[name], self.numbers[name], self.epochs[name] = stamp, 0, epoch
         self.elements[name], self.absorbed[name] = [], set()
         self.keep(name)
@@ -79,13 +90,16 @@ class Family:
         self.step("keep %s %s.%d" % (name, name, len(self.elements[name])), False)
 
     def live(self):
+        """The names of the processes that are alive."""
         return sorted(self.stamps)
 
     def work(self, name):
+        """A step without a report."""
         self.stamps[name].event()
         self.step("work " + name)
 
     def tell(self, kind, name):
+        """A checkpoint or a present state."""
         self.stamps[name].event()
         self.step("%s %s" % (kind, name))
         self.report_of(kind.upper(), name, self.stamps[name])
@@ -93,12 +107,14 @@ class Family:
             self.keep(name)
 
     def send(self, name):
+        """A message of a process."""
         message = "m%d" % self.sent
         self.sent += 1
         self.step("send %s %s" % (name, message))
         self.messages[message] = self.stamps[name].event(), self.epochs[name], name, len(self.elements[name])
 
     def receive(self, name):
+        """A message for a process, if one is on its way."""
         if not self.messages:
             return
         message = self.chance.choice(list(self.messages))
@@ -111,11 +127,12 @@ class Family:
             self.refused(step, OLDER if epoch < self.epochs[name] else NEWER)
 
     def fork(self, name):
+        """A child of a process."""
         if len(self.stamps) == LARGEST:
             return
         stamp, child, depth = self.stamps[name], self.new_name(), None
         if self.depth is not None and self.chance.random() < 0.8:
-            # The leaf of this depth that examples/client carves where there is none is not given here.
+            # If there is no leaf of this depth, examples/client carves one, which is not given here.
             depth, paths = self.depth, [len(path) for path in leaves(stamp.id)]
             if min(paths) > depth or paths == [depth]:
                 depth = None
@@ -126,6 +143,7 @@ class Family:
         self.birth(child, other, self.epochs[name])
 
     def retire(self, name):
+        """The retirement of a process."""
         if name == "p0":
             return
         target = self.chance.choice([other for other in self.live() if other != name])
@@ -139,6 +157,7 @@ class Family:
         return [gone for gone, (target, _, _) in self.retired.items() if target in self.stamps and gone not in self.absorbed[target]]
 
     def absorb(self, kept=False):
+        """An absorption, if one is waiting."""
         waiting = self.waiting()
         if not waiting:
             return
@@ -160,12 +179,14 @@ class Family:
             self.refused("absorb_kept %s %s" % (target, gone), OVERLAP)
 
     def refuse(self, name):
+        """A step that is refused."""
         if self.chance.random() < 0.5:
             self.refused("retire %s %s" % (name, name), SELF_TARGET)
         else:
             self.refused("fork %s %s" % (name, name), NAME_TAKEN)
 
     def go(self, steps, presents=True):
+        """So many steps that chance chooses."""
         kinds = ["work", "check", "send", "send", "receive", "receive", "fork", "fork", "retire", "absorb"] + ["present"] * presents
         for _ in range(steps):
             name, what = self.chance.choice(self.live()), self.chance.choice(kinds)
@@ -213,7 +234,7 @@ class Family:
         self.elements = {name: elements for name, elements in self.elements.items() if line[name] != 0}
 
     def hand_over(self, message, events, sender):
-        """Whether it is handed over once more: by its sender, or where that ended by one that knows what it tells, if there is one."""
+        """Whether it is handed over once more: by its sender, or if that ended by one that knows what it says, if there is one."""
         knows = [name for name in self.live() if join(events, self.stamps[name].events) == self.stamps[name].events]
         others = [name for name in self.live() if name not in knows and name != sender]
         if others and self.chance.random() < 0.2:
@@ -224,6 +245,7 @@ class Family:
         return True
 
     def return_to(self, name, position, is_alive):
+        """A process returns to a position of the line."""
         stamp, number, absorbed = self.elements[name][position - 1]
         self.stamps[name], self.numbers[name], self.absorbed[name] = stamp.copy(), number, set(absorbed)
         self.epochs[name] = 1
@@ -237,21 +259,24 @@ class Family:
             self.refused("return_to %s %s.%d 1" % (name, name, position), OLDER)
 
 
+def in_lines(words):
+    """Each of them as a line."""
+    return "".join(word + "\n" for word in words)
+
+
 def replies_to(lines):
-    ran = subprocess.run([recline, "run"], input="".join(line + "\n" for line in lines), capture_output=True, text=True, timeout=HANG)
-    return ran.stdout.splitlines()
+    """The replies of one run to lines."""
+    return suite.run("run", input=in_lines(lines), text=True).stdout.splitlines()
 
 
 def drive(script):
-    with tempfile.NamedTemporaryFile("w", suffix=".script") as file:
-        file.write("".join(step + "\n" for step in script))
-        file.flush()
-        return subprocess.run([recline, "drive", file.name], capture_output=True, text=True, timeout=HANG).stdout.splitlines()
+    """The reports of a script."""
+    return suite.run("drive", "-", input=in_lines(script), text=True).stdout.splitlines()
 
 
 def a_family(k):
     """Of every four families one carves, and of every eight one settles."""
-    chance = random.Random("%s %d" % (seed, k))
+    chance = random.Random("%s %d" % (suite.seed, k))
     family = Family(chance, chance.choice([6, 8, 10]) if k % 4 == 0 else None)
     family.go(chance.randrange(120) if k % 50 else 600, presents=k % 8 != 1)
     if k % 8 == 1:
@@ -262,46 +287,54 @@ def a_family(k):
     return family
 
 
-passed = failed = 0
-
-
-def expect(what, told, wanted):
-    global passed, failed
-    if told == wanted:
-        passed += 1
-        return
-    failed += 1
-    if failed < 10:
-        differs = next((k for k, (one, two) in enumerate(zip(told, wanted)) if one != two), min(len(told), len(wanted)))
-        print("bindings: %s FAILED (seed %s), at line %d:\n  %s\n  %s was wanted" % (
-            what, seed, differs + 1, told[differs:differs + 1], wanted[differs:differs + 1]))
+def compare(name, got, wanted):
+    """Judges lines, of which the first that differ are shown."""
+    at = next((k for k, (one, two) in enumerate(zip(got, wanted)) if one != two), min(len(got), len(wanted)))
+    suite.expect(name, got == wanted, "at line %d: %s, and %s is wanted" % (at + 1, got[at:at + 1], wanted[at:at + 1]))
 
 
 def accepted(lines):
-    """The replies where each line is accepted."""
+    """The replies if each line is accepted."""
     return ["SETTLED 1 %d" % (k + 1) if line.startswith("SETTLE ") else "OK %d" % (k + 1) for k, line in enumerate(lines)]
 
 
-made = []
-for k in range(int(families)):
-    family = a_family(k)
-    made.append(family)
-    expect("recline run on family %d" % k, replies_to(family.lines), accepted(family.lines))
-    if family.depth is None:
-        expect("recline drive on family %d" % k, drive(family.script), family.lines)
-largest = max(len(family.elements) for family in made)
-expect("%d processes are in one family" % largest, [largest >= LARGEST or len(made) < 100], [True])
-ways = {kind: sum(step.startswith(kind + " ") for family in made for step in family.steps) for kind in ("return_to", "return", "again")}
-expect("processes return in both ways, and hand messages over once more: %s" % ways, [len(made) < 100 or min(ways.values()) > 0], [True])
-steps = "".join(step + "\n" for family in made for step in family.steps)
-for maker in makers:
-    name, _, command = maker.partition("=")
-    ran = subprocess.run([command], input=steps, capture_output=True, text=True, timeout=HANG)
-    told = ran.stdout.splitlines()
-    at = 0
-    for k, family in enumerate(made):
-        expect("family %d by %s" % (k, name), told[at:at + len(family.told)], family.told)
+def try_families(families):
+    """The reports of families are accepted, and are those of recline; and there are enough of each kind."""
+    for k, family in enumerate(families):
+        compare("recline run on family %d" % k, replies_to(family.lines), accepted(family.lines))
+        if family.depth is None:
+            compare("recline drive on family %d" % k, drive(family.script), family.lines)
+    largest = max(len(family.elements) for family in families)
+    suite.expect("%d processes are in one family" % largest, largest >= LARGEST or len(families) < 100)
+    ways = {kind: sum(step.startswith(kind + " ") for family in families for step in family.steps) for kind in ("return_to", "return", "again")}
+    suite.expect("processes return in both ways, and hand messages over once more", len(families) < 100 or min(ways.values()) > 0, ways)
+
+
+def try_binding(families, name, command):
+    """The reports of families are those of a binding."""
+    ran = subprocess.run(
+        [command], input=in_lines(step for family in families for step in family.steps), capture_output=True, text=True, timeout=HANG, check=False)
+    got, at = ran.stdout.splitlines(), 0
+    for k, family in enumerate(families):
+        compare("family %d by %s" % (k, name), got[at:at + len(family.told)], family.told)
         at += len(family.told)
-    expect("the end of the steps by %s" % name, [ran.returncode, len(told), ran.stderr], [0, at, ""])
-print("%d passed, %d failed" % (passed, failed))
-sys.exit(failed != 0)
+    suite.expect("the end of the steps by %s" % name, (ran.returncode, len(got), ran.stderr) == (0, at, ""), (ran.returncode, len(got), ran.stderr))
+
+
+def try_all(count, makers):
+    """Makes so many families, and tries them by each binding."""
+    families = [a_family(k) for k in range(count)]
+    try_families(families)
+    for maker in makers:
+        name, _, command = maker.partition("=")
+        try_binding(families, name, command)
+
+
+def main(count, seed, *makers):
+    """Tries so many families of this seed by each binding."""
+    suite.seed = seed
+    suite.main(functools.partial(try_all, int(count), makers))
+
+
+if __name__ == "__main__":
+    main(*sys.argv[1:])

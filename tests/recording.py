@@ -1,7 +1,7 @@
 """Lines of reports, as rows have them and as tests make them, and what a record file has of them."""
 import os
 
-from built import TOP
+from harness import TOP
 
 OPEN, LONGEST = 1, 8192
 

@@ -66,12 +66,12 @@ _recline_options() {
 
 # Sets COMPREPLY to what may stand in place of the word at the cursor.
 _recline() {
-    local word=${COMP_WORDS[COMP_CWORD]} command= given=" " ended= place= options arguments
+    local word=${COMP_WORDS[COMP_CWORD]} command='' given=" " ended='' place='' options arguments
     COMPREPLY=()
     _recline_take ""
     _recline_read
     # Behind '<' or '>' the word begins.
-    [[ "$word" != [\<\>]* ]] || word= place=file
+    [[ "$word" != [\<\>]* ]] || word='' place=file
     if [ "$place" = value ]; then
         return
     elif [[ "$place" = word && -z "$ended" && ("$word" = -* || ${#arguments[@]} = 0) ]]; then

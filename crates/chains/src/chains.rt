@@ -716,7 +716,7 @@ fn keep(
     processes: &mut Vec<Process>,
     report: &PackedReport,
     place: usize,
-    front: u32,
+    index: u32,
     last_run: u32,
     lasting: Vec<u32>,
 )
@@ -726,18 +726,18 @@ fn keep(
     requires empty { lasting.items ≡ [] }
     requires lasting { newborn report.now ≢ None → 0 < vec_capacity lasting }
     ensures names { names.new.keys ≡ names_after names.old.keys report.now }
-    ensures views { IsKeptBy (map view_of processes.old.items) names.old.keys report.now place front last_run (map view_of processes.new.items) }
+    ensures views { IsKeptBy (map view_of processes.old.items) names.old.keys report.now place index last_run (map view_of processes.new.items) }
 {
     match report.view() {
-        ReportView::Begin { process } => add(names, processes, process.copy(), front, lasting),
+        ReportView::Begin { process } => add(names, processes, process.copy(), index, lasting),
         ReportView::Numbered(fields) => {
-            note(processes, place, front, last_run, is_check(fields.action));
+            note(processes, place, index, last_run, is_check(fields.action));
             match fields.action {
                 ActionView::Fork(forked) => add(
                     names,
                     processes,
                     forked.child.copy(),
-                    front,
+                    index,
                     lasting,
                 ),
                 ActionView::Absorb { retired } => note_absorbed(names, processes, retired),
@@ -763,18 +763,18 @@ fn is_check(action: ActionView<'_>) -> bool
 }
 
 /// Notes a report of a process: it is the last one now, and may have made a lasting element.
-fn note(processes: &mut Vec<Process>, place: usize, front: u32, last_run: u32, lasts: bool)
+fn note(processes: &mut Vec<Process>, place: usize, index: u32, last_run: u32, lasts: bool)
     requires { HasNoteRoom processes.old.items place }
-    ensures views { map view_of processes.new.items ≡ changed_at (noted front last_run lasts) place (map view_of processes.old.items) }
+    ensures views { map view_of processes.new.items ≡ changed_at (noted index last_run lasts) place (map view_of processes.old.items) }
     ensures capacity { vec_capacity processes.new ≡ vec_capacity processes.old }
     ensures length { vec_len processes.new ≡ vec_len processes.old }
 {
     let kept = &mut processes[place];
     kept.reports += 1;
-    kept.last = Some(front);
+    kept.last = Some(index);
     kept.last_run = last_run;
     if lasts {
-        kept.lasting.push_reserved(front);
+        kept.lasting.push_reserved(index);
     }
 }
 

@@ -13,11 +13,11 @@ use Rattle.chains.specs.working.Keeping.{KeptProcess}
 
 -- a process of which the report of this index is accepted, and makes a lasting element of it or not; the last run is this one then
 abbrev pub noted : ℕ → ℕ → Bool → KeptProcess → KeptProcess
-noted front run lasts k = record {
+noted index run lasts k = record {
   reports = k.reports + 1;
-  last = Some front;
+  last = Some index;
   birth = k.birth;
-  lasting = if lasts then k.lasting ++ front ∷ [] else k.lasting;
+  lasting = if lasts then k.lasting ++ index ∷ [] else k.lasting;
   last_run = run;
   absorbed = k.absorbed;
 }
@@ -28,7 +28,7 @@ taken k = record { reports = k.reports; last = k.last; birth = k.birth; lasting 
 
 -- a process that is born by the report of this index
 abbrev pub born : ℕ → KeptProcess
-born front = record { reports = 0; last = None; birth = front; lasting = front ∷ []; last_run = 0; absorbed = false }
+born index = record { reports = 0; last = None; birth = index; lasting = index ∷ []; last_run = 0; absorbed = false }
 
 -- the process at this place, changed
 abbrev pub changed_at : (KeptProcess → KeptProcess) → ℕ → List KeptProcess → List KeptProcess
@@ -56,14 +56,14 @@ IsTakenBy names kept retired after = TakenAt names retired (position (pointwise 
 
 -- what is kept after an action, where the process itself was noted
 abbrev pub IsKeptByAction : List Name → List KeptProcess → Action → ℕ → List KeptProcess → Type 0
-IsKeptByAction names noted (Fork f) front after = after ≡ noted ++ born front ∷ []
-IsKeptByAction names noted (Absorb retired) front after = IsTakenBy names noted retired after
-IsKeptByAction names noted _ front after = after ≡ noted
+IsKeptByAction names noted (Fork f) index after = after ≡ noted ++ born index ∷ []
+IsKeptByAction names noted (Absorb retired) index after = IsTakenBy names noted retired after
+IsKeptByAction names noted _ index after = after ≡ noted
 
 -- what is kept after a report of the process at this place, whose last run this is then
 abbrev pub IsKeptBy : List KeptProcess → List Name → Report → ℕ → ℕ → ℕ → List KeptProcess → Type 0
-IsKeptBy kept names (Begin p) place front run after = after ≡ kept ++ born front ∷ []
-IsKeptBy kept names (Numbered r) place front run after = IsKeptByAction names (changed_at (noted front run (is_check r.action)) place kept) r.action front after
+IsKeptBy kept names (Begin p) place index run after = after ≡ kept ++ born index ∷ []
+IsKeptBy kept names (Numbered r) place index run after = IsKeptByAction names (changed_at (noted index run (is_check r.action)) place kept) r.action index after
 
 -- a report with a number is of a known process, whose number was found
 abbrev pub IsFound : Report → Option ℕ → Type 0

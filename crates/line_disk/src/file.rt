@@ -220,6 +220,18 @@ fn sync_present(file: &File, len: usize) -> Result<(), Option<io::Error>> {
     }
 }
 
+/// The length of a file of this length once it is emptied, if it counts as new. A block that was never written is given back with that: on
+/// ext4 the system writes it only once it is given out again.
+fn emptied_if<W: Reach>(file: &File, len: usize, reach: &W) -> Result<usize, Unopened> {
+    if len == 0 || !reach.is_new(len) {
+        return Ok(len);
+    }
+    match file.set_len(0) {
+        Ok(()) => Ok(0),
+        Err(error) => Err(FileCall::Cut.failed_by(error)),
+    }
+}
+
 /// Opens a file that no other program has open so, and locks it.
 fn open_locked<R: Files<File = File>>(rt: &R, path: &str) -> Result<File, Unopened> {
     let opened = OpenOptions::new()
@@ -242,7 +254,8 @@ impl<P: Device> FileDisk<P> {
     ghost use Rattle.line_disk.specs.File.{file_calls, file_failures, file_trouble};
 
     /// Opens a file, and makes it if it is missing. It is read once, from its start and as far as `reach` wants it, and a copy of
-    /// that is kept in memory. A file that another program has open so is not opened. If the file is empty its folder is synced.
+    /// that is kept in memory. A file that another program has open so is not opened. If the file counts as new it is emptied, and its
+    /// folder is synced.
     ///
     /// If the bytes are of the file's own format, its first 512 bytes and the last 16,384 of these are written over themselves: an
     /// earlier run may have left them unwritten when a sync failed. The first sync after that writes them to the device.
@@ -257,6 +270,7 @@ impl<P: Device> FileDisk<P> {
     {
         let file = open_locked(rt, path)?;
         let len = length_at_opening(&file)?;
+        let len = emptied_if(&file, len, reach)?;
         let bytes = read_front(alloc, &file, len, reach)?;
         if len == 0 {
             sync_folder(rt, alloc, path)?;

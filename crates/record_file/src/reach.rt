@@ -5,6 +5,9 @@ ghost use Rattle.std.specs.Prelude.{◌<◌, ◌≤◌, length};
 use crate::reading::{MAX_RECORD, OPEN, begins_with_magic, split_record};
 use line_disk::Reach;
 
+/// A file of so many bytes or fewer counts as new: it has no record.
+const NEW: usize = 9;
+
 /// Wants a record file as far as a store reads it when it opens: up to the piece with its closed gate, or with the gate behind
 /// which no record stands. Of a file that is foreign it wants the first piece.
 #[derive(Drop)]
@@ -42,6 +45,10 @@ fn pass_records(bytes: &[u8], gate: usize) -> usize
 }
 
 impl Reach for RecordReach {
+    fn is_new(&self, len: usize) -> bool {
+        len <= NEW
+    }
+
     fn wants_more(&mut self, bytes: &[u8]) -> bool {
         if bytes.len() <= self.gate {
             return true;

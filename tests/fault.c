@@ -2,6 +2,7 @@
 //
 //   READ_MOST, WRITE_MOST    so many bytes at most are given by a read of standard input or of a connection, or taken by a write
 //   READ_END, WRITE_END      behind so many bytes in all a read or a write fails
+//   ACCEPT                   the first call that takes a connection fails with the error of this number
 //   SEND_END                 behind so many bytes in all a write to a connection fails
 //   WRITE_NOTHING            in place of failing such a write takes nothing
 //   READ_LINES               standard input has no end: lines of so many letters x
@@ -40,8 +41,9 @@ static ssize_t (*given_write)(int, const void *, size_t), (*given_send)(int, con
 static ssize_t (*given_pread)(int, void *, size_t, off_t), (*given_pwrite)(int, const void *, size_t, off_t);
 static int (*given_fsync)(int), (*given_fdatasync)(int), (*given_ftruncate)(int, off_t);
 static int (*given_statx)(int, const char *, int, unsigned, void *);
+static int (*given_accept)(int, void *, void *), (*given_accept4)(int, void *, void *, int);
 static long read_most, write_most, read_end, write_end, send_end, read_lines, call, was_read, was_written, was_sent, calls;
-static long other, gone, sync_number, page, syncs;
+static long other, gone, sync_number, page, syncs, accept_error;
 // Whether a standard stream broke.
 static int is_broken;
 // Which pages were written since the last sync.
@@ -71,6 +73,9 @@ __attribute__((constructor)) static void begin(void)
     given_fdatasync = dlsym(next, "fdatasync");
     given_ftruncate = dlsym(next, "ftruncate");
     given_statx = dlsym(next, "statx");
+    given_accept = dlsym(next, "accept");
+    given_accept4 = dlsym(next, "accept4");
+    accept_error = number("ACCEPT");
     read_most = number("READ_MOST");
     write_most = number("WRITE_MOST");
     read_end = number("READ_END");
@@ -290,4 +295,24 @@ int statx(int file, const char *path, int flags, unsigned asked, void *told)
     if (gone != NO_LIMIT && calls >= gone)
         *(unsigned *)((char *)told + NAMES) = 0;
     return answer;
+}
+
+// Whether this call that takes a connection fails. Only one thread takes connections.
+static int is_refused(void)
+{
+    if (accept_error == NO_LIMIT)
+        return 0;
+    *__errno_location() = accept_error;
+    accept_error = NO_LIMIT;
+    return 1;
+}
+
+int accept(int socket, void *address, void *length)
+{
+    return is_refused() ? -1 : given_accept(socket, address, length);
+}
+
+int accept4(int socket, void *address, void *length, int flags)
+{
+    return is_refused() ? -1 : given_accept4(socket, address, length, flags);
 }

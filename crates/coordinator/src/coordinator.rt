@@ -15,6 +15,7 @@ use crate::fault::{CallFault, CloseFault, PassFault};
 use crate::line::show_line;
 use crate::locked::Locked;
 use crate::pass::Pass;
+use crate::progress::Progress;
 use chains::Chains;
 use desk::Desk;
 use knows_row::ChunkGate;
@@ -169,6 +170,14 @@ impl<L: Ledger, D: Disk> Coordinator<L, D> {
         match self.locked.lock(rt).pass(self.alloc) {
             Some(pass) => Ok(pass),
             None => Err(PassFault::Worn),
+        }
+    }
+
+    /// How far it has come, if no turn is under way. It makes none, and waits for none.
+    pub fn progress(&self) -> Option<Progress> {
+        match self.locked.try_lock() {
+            Some(locked) => Some(locked.progress()),
+            None => None,
         }
     }
 

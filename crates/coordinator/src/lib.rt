@@ -13,6 +13,7 @@ mod line;
 mod locked;
 mod marking;
 mod pass;
+mod progress;
 mod replaying;
 mod shown_lines;
 
@@ -21,3 +22,4 @@ pub use coordinator::{Coordinator, Ended, Gate, OpenGate, Refused, Remainder, Un
 pub use entry::Entry;
 pub use fault::{CallFault, CloseFault, PassFault};
 pub use pass::Pass;
+pub use progress::Progress;

@@ -10,6 +10,7 @@ ghost use Rattle.coordinator.specs.Passes.{front_of, ledger_parts, pass_limit};
 use crate::entry::Entry;
 use crate::fault::CallFault;
 use crate::pass::Pass;
+use crate::progress::Progress;
 use chains::Chains;
 use desk::{Desk, Receipt, TurnFault};
 use line_disk::Disk;
@@ -45,6 +46,7 @@ impl<L: Ledger, D: Disk + Drop> Drop for Locked<L, D> {
 
 impl<L: Ledger, D: Disk> Locked<L, D> {
     ghost use Rattle.std.specs.Prelude.{◌≡◌, ◌+◌, ◌<◌, ◌≤◌, [], length, IfOk, IfErr, OnOk, OnErr, IfSome, IfNone, OnSome, Some, None};
+    ghost use Rattle.chains.specs.Processes.{known};
     ghost use Rattle.desk.specs.Files.{IsShort};
     ghost use Rattle.desk.specs.Records.{IsReadOff};
     ghost use Rattle.coordinator.specs.Passes.{new_pass};
@@ -85,6 +87,22 @@ impl<L: Ledger, D: Disk> Locked<L, D> {
         ensures { result.now ≡ self.now.desk }
     {
         &self.desk
+    }
+
+    /// How far the desk has come.
+    pub fn progress(&self) -> Progress
+        ensures turns { result.turns ≡ length self.now.desk.turns }
+        ensures front { result.front ≡ self.now.desk.held.front }
+        ensures processes { result.processes ≡ length (known self.now.desk.held.accepted) }
+        ensures stopped { result.stopped ≡ self.now.desk.held.stopped }
+    {
+        self.desk.lawful();
+        Progress {
+            turns: self.desk.turns().len() as u32,
+            front: self.desk.front(),
+            processes: self.desk.chains().count(),
+            stopped: self.desk.stopped(),
+        }
     }
 
     /// A pass with the next number, while there are some.

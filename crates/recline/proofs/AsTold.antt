@@ -8,7 +8,7 @@ use Rattle.session.specs.declared.handing.HandOn.TheVariants as hand_ons
 use Rattle.session.specs.declared.kind.Kind.{Kind}
 use Rattle.session.specs.Exchanges.{Exchange}
 use Rattle.session.specs.Ends.{Ended, HaveGone, IsReadAt, Leaves}
-use Rattle.recline.specs.Asking.{AsksDesk, HandsOver, asking, keeps_always}
+use Rattle.recline.specs.Asking.{AsksDesk, HandsOver, HasReply, asking, keeps_always}
 
 read_as_told : {K : Type 0} (told : K → LinkState) (link : K) (n : ℕ) (earlier : List ℕ) (turned : List Exchange) → IsReadAt told link n earlier turned → IsReadAt (λ (s : LinkState). s) (told link) n earlier turned
 read_as_told told link n earlier turned r =
@@ -54,8 +54,8 @@ ended_as_told keeps told when link after_link desk after kind count e = record {
 -- a session with a client in memory that sends this line, whose reply was handed over
 pub asks_desk : {K F : Type 0} (told : K → LinkState) (faults_told : F → LinkState) (sent reply : List ℕ) (link link_after : K) (desk after : DeskState MemoryDisk) (kind : Kind) (count : ℕ) (client client_after : LinkState) (faults faults_after : F) (status : ℕ)
     → told link ≡ asking sent → Ended keeps_always told hand_ons.EachRead link link_after desk after kind count → Leaves kind (told link) (told link_after)
-    → (told link_after).held ≡ Some reply → HandsOver faults_told kind reply client client_after faults faults_after status → AsksDesk faults_told sent desk after client client_after faults faults_after status
-asks_desk told faults_told sent reply link link_after desk after kind count client client_after faults faults_after status begins session leaves reply_is handed =
+    → (told link_after).held ≡ Some reply → HasReply kind → HandsOver faults_told reply client client_after faults faults_after status → AsksDesk faults_told sent desk after client client_after faults faults_after status
+asks_desk told faults_told sent reply link link_after desk after kind count client client_after faults faults_after status begins session leaves reply_is whole handed =
     let there = ended_as_told keeps_always told hand_ons.EachRead link link_after desk after kind count session in
     inl (record {
       link = told link_after;
@@ -65,5 +65,6 @@ asks_desk told faults_told sent reply link link_after desk after kind count clie
       leaves = subst (λ (state : LinkState). Leaves kind state (told link_after)) begins leaves;
       reply = reply;
       reply_is = reply_is;
+      whole = whole;
       handed = handed;
     })

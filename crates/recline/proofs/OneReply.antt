@@ -34,7 +34,7 @@ use Rattle.session.specs.declared.kind.Kind.{Kind}
 use Rattle.session.specs.declared.kind.Kind.TheVariants as kinds
 use Rattle.recline.specs.Driving.{WritesAll}
 use Rattle.recline.specs.Outcome.{IsOpened, Tells}
-use Rattle.recline.specs.Asking.{AsksDesk, AsksOn, AsksOpened, AsksOver, IsAnswered, IsAnsweredByLine, IsAsked, IsAskedOf, IsRefused, IsReplied, HandsOver, ShowsRight, asked_fault, asked_status, asking, is_line, keeps_always, question_line, refusal_line}
+use Rattle.recline.specs.Asking.{AsksDesk, AsksOn, AsksOpened, AsksOver, IsAnswered, IsAnsweredByLine, IsAsked, IsAskedOf, IsRefused, IsReplied, HandsOver, HasReply, ShowsRight, asked_fault, asked_status, asking, is_line, keeps_always, question_line, refusal_line}
 use Rattle.recline.specs.declared.asking.Question.{Question}
 use Rattle.recline.specs.declared.asking.Question.TheVariants.{Line, Garbage}
 
@@ -200,10 +200,6 @@ no_line_by_letter r text none is = let e : true ≡ false = sym (letter_of_line 
 
 -- ---- which status tells what
 
--- the session ended with its input, with a reply that begins so
-abbrev EndsBy : Kind → List ℕ → Bool → Type 0
-EndsBy kind reply letter = (kind ≡ kinds.End) × (is_line reply ≡ letter)
-
 by_letter_0 : (reply : List ℕ) (letter : Bool) → is_line reply ≡ letter → ◌≡◌ {A = ℕ} (if letter then 0 else 4) 0 → is_line reply ≡ true
 by_letter_0 reply true is status = is
 by_letter_0 reply false is status = absurd (omega (arith, status))
@@ -212,28 +208,17 @@ by_letter_4 : (reply : List ℕ) (letter : Bool) → is_line reply ≡ letter �
 by_letter_4 reply true is status = absurd (omega (arith, status))
 by_letter_4 reply false is status = is
 
-ends_with_line : (kind : Kind) (reply : List ℕ) → asked_status kind reply ≡ 0 → EndsBy kind reply true
-ends_with_line kinds.End reply status = (refl, by_letter_0 reply (is_line reply) refl status)
-ends_with_line kinds.TooLong reply status = absurd (omega (arith, status))
-ends_with_line kinds.Bye reply status = absurd (omega (arith, status))
-ends_with_line kinds.Worn reply status = absurd (omega (arith, status))
-ends_with_line kinds.Endless reply status = absurd (omega (arith, status))
-ends_with_line kinds.Memory reply status = absurd (omega (arith, status))
-ends_with_line kinds.ReadFailed reply status = absurd (omega (arith, status))
-ends_with_line kinds.WriteFailed reply status = absurd (omega (arith, status))
-ends_with_line kinds.Foreign reply status = absurd (omega (arith, status))
-
--- the line was too long, or the reply is none that begins so
-ends_with_refusal : (kind : Kind) (reply : List ℕ) → asked_status kind reply ≡ 4 → EndsBy kind reply false ⊎ (kind ≡ kinds.TooLong)
-ends_with_refusal kinds.End reply status = inl (refl, by_letter_4 reply (is_line reply) refl status)
-ends_with_refusal kinds.TooLong reply status = inr refl
-ends_with_refusal kinds.Bye reply status = absurd (omega (arith, status))
-ends_with_refusal kinds.Worn reply status = absurd (omega (arith, status))
-ends_with_refusal kinds.Endless reply status = absurd (omega (arith, status))
-ends_with_refusal kinds.Memory reply status = absurd (omega (arith, status))
-ends_with_refusal kinds.ReadFailed reply status = absurd (omega (arith, status))
-ends_with_refusal kinds.WriteFailed reply status = absurd (omega (arith, status))
-ends_with_refusal kinds.Foreign reply status = absurd (omega (arith, status))
+-- a whole reply: the session ended with its input, or the line was too long
+ends_whole : (kind : Kind) → HasReply kind → (kind ≡ kinds.End) ⊎ (kind ≡ kinds.TooLong)
+ends_whole kinds.End whole = inl refl
+ends_whole kinds.TooLong whole = inr refl
+ends_whole kinds.Bye whole = absurd whole
+ends_whole kinds.Worn whole = absurd whole
+ends_whole kinds.Endless whole = absurd whole
+ends_whole kinds.Memory whole = absurd whole
+ends_whole kinds.ReadFailed whole = absurd whole
+ends_whole kinds.WriteFailed whole = absurd whole
+ends_whole kinds.Foreign whole = absurd whole
 
 -- ---- the reply went to the client
 
@@ -264,6 +249,15 @@ not_too_long faults_told question desk after client client_after faults faults_a
     no_limit_end keeps_always hand_ons.EachRead (question_line question) a.link desk after a.replies is
     (subst (λ (k : Kind). Ended keeps_always (λ (state : LinkState). state) hand_ons.EachRead (asking (ended (question_line question))) a.link desk after k a.replies) ends a.session)
 
+-- so the session ended with its input
+at_end : {F : Type 0} (faults_told : F → LinkState) (question : Question) (desk after : DeskState MemoryDisk) (client client_after : LinkState) (faults faults_after : F) (status : ℕ)
+    → IsLine (question_line question) → (a : IsAskedOf faults_told (ended (question_line question)) desk after client client_after faults faults_after status) → a.kind ≡ kinds.End
+at_end faults_told question desk after client client_after faults faults_after status is a = by_kind (ends_whole a.kind a.whole)
+  where
+    by_kind : (a.kind ≡ kinds.End) ⊎ (a.kind ≡ kinds.TooLong) → a.kind ≡ kinds.End
+    by_kind (inl ends) = ends
+    by_kind (inr long) = absurd (not_too_long faults_told question desk after client client_after faults faults_after status is a long)
+
 -- what a desk of these bytes answered
 answer_of : (bytes : List ℕ) (question : Question) (disk : MemoryDisk) (desk : DeskState MemoryDisk) (client client_after : LinkState) (reply : List ℕ) → (disk_view disk).seen ≡ bytes
     → IsOpened keeps_always disk_view disk desk → WritesAll client client_after reply → IsShownBy desk.held (question_line question) reply → IsAnswered bytes (question_line question) client client_after
@@ -276,10 +270,10 @@ answer_of bytes question disk desk client client_after reply seen opened writes 
 }
 
 -- a reply in full and its status, where no fault is told
-handed_by : {F : Type 0} (faults_told : F → LinkState) (kind : Kind) (reply : List ℕ) (client client_after : LinkState) (faults faults_after : F) (status : ℕ) → HandsOver faults_told kind reply client client_after faults faults_after status → status ≢ 3
-    → WritesAll client client_after reply × (status ≡ asked_status kind reply) × Tells (faults_told faults) (faults_told faults_after) (asked_fault kind reply)
-handed_by faults_told kind reply client client_after faults faults_after status (inl all) sound = all
-handed_by faults_told kind reply client client_after faults faults_after status (inr part) sound = absurd (sound part.1)
+handed_by : {F : Type 0} (faults_told : F → LinkState) (reply : List ℕ) (client client_after : LinkState) (faults faults_after : F) (status : ℕ) → HandsOver faults_told reply client client_after faults faults_after status → status ≢ 3
+    → WritesAll client client_after reply × (status ≡ asked_status reply) × Tells (faults_told faults) (faults_told faults_after) (asked_fault reply)
+handed_by faults_told reply client client_after faults faults_after status (inl all) sound = all
+handed_by faults_told reply client client_after faults faults_after status (inr part) sound = absurd (sound part.1)
 
 -- which question was asked of a desk where the status is none of a fault
 asked_by : {F : Type 0} (faults_told : F → LinkState) (bytes sent : List ℕ) (client client_after : LinkState) (faults faults_after : F) (status : ℕ) → AsksOn faults_told bytes sent client client_after faults faults_after status → status ≢ 3
@@ -304,10 +298,11 @@ answered faults_told bytes question client client_after faults faults_after stat
     let sound : status ≢ 3 = λ three. omega (arith, zero, three) in
     let by = asked_by faults_told bytes (ended (question_line question)) client client_after faults faults_after status asks sound in
     let a = by.5 in
-    let all = handed_by faults_told a.kind a.reply client client_after faults faults_after status a.handed sound in
-    let ends = ends_with_line a.kind a.reply (sym all.1 ∙ zero) in
-    let shown = shown_by faults_told question by.1 by.2 client client_after faults faults_after status is a ends.0 in
-    (answer_of bytes question by.0 by.1 client client_after a.reply by.3 by.4 all.0 shown, line_by_letter shown.exchange.shown (ap is_line (sym shown.reply_is) ∙ ends.1))
+    let all = handed_by faults_told a.reply client client_after faults faults_after status a.handed sound in
+    let letter = by_letter_0 a.reply (is_line a.reply) refl (sym all.1 ∙ zero) in
+    let ends = at_end faults_told question by.1 by.2 client client_after faults faults_after status is a in
+    let shown = shown_by faults_told question by.1 by.2 client client_after faults faults_after status is a ends in
+    (answer_of bytes question by.0 by.1 client client_after a.reply by.3 by.4 all.0 shown, line_by_letter shown.exchange.shown (ap is_line (sym shown.reply_is) ∙ letter))
 
 pub refused : {F : Type 0} (faults_told : F → LinkState) (bytes : List ℕ) (question : Question) (client client_after : LinkState) (faults faults_after : F) (status : ℕ)
     → AsksOn faults_told bytes (ended (question_line question)) client client_after faults faults_after status → IsLine (question_line question) → status ≡ 4
@@ -317,25 +312,14 @@ refused faults_told bytes question client client_after faults faults_after statu
     let sound : status ≢ 3 = λ three. omega (arith, four, three) in
     let by = asked_by faults_told bytes (ended (question_line question)) client client_after faults faults_after status asks sound in
     let a = by.5 in
-    let all = handed_by faults_told a.kind a.reply client client_after faults faults_after status a.handed sound in
-    by_end by.0 by.1 by.2 by.3 by.4 a all (ends_with_refusal a.kind a.reply (sym all.1 ∙ four))
-  where
-    line : List ℕ
-    line = question_line question
-
-    told_for : (kind : Kind) (reply : List ℕ) → EndsBy kind reply false → asked_fault kind reply ≡ refusal_line reply
-    told_for kind reply ends = rw (ends.0, ends.1) refl
-
-    by_end : (disk : MemoryDisk) (desk after : DeskState MemoryDisk) → (disk_view disk).seen ≡ bytes → IsOpened keeps_always disk_view disk desk
-        → (a : IsAskedOf faults_told (ended (question_line question)) desk after client client_after faults faults_after status)
-        → WritesAll client client_after a.reply × (status ≡ asked_status a.kind a.reply) × Tells (faults_told faults) (faults_told faults_after) (asked_fault a.kind a.reply)
-        → EndsBy a.kind a.reply false ⊎ (a.kind ≡ kinds.TooLong) → IsRefused faults_told bytes (question_line question) client client_after faults faults_after
-    by_end disk desk after seen opened a all (inr long) = absurd (not_too_long faults_told question desk after client client_after faults faults_after status is a long)
-    by_end disk desk after seen opened a all (inl ends) =
-        let shown = shown_by faults_told question desk after client client_after faults faults_after status is a ends.0 in
-        record {
-          answered = answer_of bytes question disk desk client client_after a.reply seen opened all.0 shown;
-          none = λ text is_line_text. no_line_by_letter shown.exchange.shown text (ap is_line (sym shown.reply_is) ∙ ends.1) is_line_text;
-          told =
-              subst (λ (l : List ℕ). Tells (faults_told faults) (faults_told faults_after) l) (told_for a.kind a.reply ends ∙ ap refusal_line shown.reply_is) all.2;
-        }
+    let all = handed_by faults_told a.reply client client_after faults faults_after status a.handed sound in
+    let letter = by_letter_4 a.reply (is_line a.reply) refl (sym all.1 ∙ four) in
+    let ends = at_end faults_told question by.1 by.2 client client_after faults faults_after status is a in
+    let shown = shown_by faults_told question by.1 by.2 client client_after faults faults_after status is a ends in
+    let none : is_line (exchange_line shown.exchange) ≡ false = ap is_line (sym shown.reply_is) ∙ letter in
+    let told : asked_fault a.reply ≡ refusal_line a.reply = rw letter refl in
+    record {
+      answered = answer_of bytes question by.0 by.1 client client_after a.reply by.3 by.4 all.0 shown;
+      none = λ text is_line_text. no_line_by_letter shown.exchange.shown text none is_line_text;
+      told = subst (λ (l : List ℕ). Tells (faults_told faults) (faults_told faults_after) l) (told ∙ ap refusal_line shown.reply_is) all.2;
+    }

@@ -59,25 +59,27 @@ refusal_line reply =
     else if starts_with nat_eq reply (codes "NO 16 ") then ended (codes "recline: memory")
     else ended (codes "recline: no list of names")
 
--- The status, by how the session with the question ended and by its reply: the line was shown, or the question was refused. One line in
--- memory ends no session otherwise, unless memory is wanting.
-abbrev pub asked_status : Kind → List ℕ → ℕ
-asked_status kinds.End reply = if is_line reply then 0 else 4
-asked_status kinds.TooLong reply = 4
-asked_status _ reply = 3
+-- the status, by the line of the reply: a line was shown, or the question was refused
+abbrev pub asked_status : List ℕ → ℕ
+asked_status reply = if is_line reply then 0 else 4
 
 -- the fault line; a line that is shown has none
-abbrev pub asked_fault : Kind → List ℕ → List ℕ
-asked_fault kinds.End reply = if is_line reply then [] else refusal_line reply
-asked_fault kinds.TooLong reply = ended (codes "recline: no list of names")
-asked_fault _ reply = ended (codes "recline: memory")
+abbrev pub asked_fault : List ℕ → List ℕ
+asked_fault reply = if is_line reply then [] else refusal_line reply
 
 -- The reply was written to the client and handed on, and the status and the fault line say what it is; or a part of it was written, and a
 -- call of the client failed.
-abbrev pub HandsOver : {F : Type 0} → (F → LinkState) → Kind → List ℕ → LinkState → LinkState → F → F → ℕ → Type 0
-HandsOver faults_told kind reply client client_after faults faults_after status =
-    (WritesAll client client_after reply × (status ≡ asked_status kind reply) × Tells (faults_told faults) (faults_told faults_after) (asked_fault kind reply))
+abbrev pub HandsOver : {F : Type 0} → (F → LinkState) → List ℕ → LinkState → LinkState → F → F → ℕ → Type 0
+HandsOver faults_told reply client client_after faults faults_after status =
+    (WritesAll client client_after reply × (status ≡ asked_status reply) × Tells (faults_told faults) (faults_told faults_after) (asked_fault reply))
     ⊎ (WritesPart client client_after reply × (status ≡ 3) × Tells (faults_told faults) (faults_told faults_after) (open_fault_line opening.Device))
+
+-- A session with a question has its whole reply: it ended with its input, or with a line that is too long. One line in memory ends no session
+-- otherwise, unless memory is missing.
+abbrev pub HasReply : Kind → Type 0
+HasReply kinds.End = ⊤
+HasReply kinds.TooLong = ⊤
+HasReply _ = ⊥
 
 -- ---- what was done
 
@@ -89,7 +91,8 @@ asking bytes = record { left = Some bytes; held = Some []; waiting = []; reads =
 abbrev pub keeps_always : MemoryDisk → Type 0
 keeps_always disk = Unit {0}
 
--- A session over this desk with a client that sends these bytes and no more, in memory. What it wrote is the reply, which was handed over.
+-- A session over this desk with a client that sends these bytes and no more, in memory. What it wrote is the whole reply, which was handed
+-- over.
 pub record IsAskedOf {F : Type 0} (faults_told : F → LinkState) (sent : List ℕ) (desk after : DeskState MemoryDisk) (client client_after : LinkState) (faults faults_after : F) (status : ℕ) : Type 0 where
   pub link : LinkState
   pub kind : Kind
@@ -98,9 +101,10 @@ pub record IsAskedOf {F : Type 0} (faults_told : F → LinkState) (sent : List �
   pub leaves : Leaves kind (asking sent) link
   pub reply : List ℕ
   pub reply_is : link.held ≡ Some reply
-  pub handed : HandsOver faults_told kind reply client client_after faults faults_after status
+  pub whole : HasReply kind
+  pub handed : HandsOver faults_told reply client client_after faults faults_after status
 
--- memory was wanting: nothing was written to the client
+-- memory was missing: nothing was written to the client
 pub record AsksNone {F : Type 0} (faults_told : F → LinkState) (client client_after : LinkState) (faults faults_after : F) (status : ℕ) : Type 0 where
   pub client_rests : client_after ≡ client
   pub status_is : status ≡ 3

@@ -1,10 +1,9 @@
 //! One question over the bytes of a record file, which are only read.
 
-ghost use Rattle.std.specs.Prelude.{◌≡◌, ◌++◌, codes, IfOk, IfSome, IfNone, Contains};
+ghost use Rattle.std.specs.Prelude.{◌≡◌, ◌++◌, ◌↔◌, codes, IfOk, IfSome, IfNone, IsTrue, Contains};
 ghost use Rattle.report_line.specs.Cutting.{ended, IsLine};
-ghost use Rattle.recline.specs.Asking.{AsksDesk, AsksNone, AsksOn, AsksOver, HandsOver, IsAnsweredByLine, IsOneLine, IsRefused, asked_fault, asked_status, is_line, name_in, question_line, refusal_line};
+ghost use Rattle.recline.specs.Asking.{AsksDesk, AsksNone, AsksOn, AsksOver, HandsOver, HasReply, IsAnsweredByLine, IsOneLine, IsRefused, asked_fault, asked_status, is_line, name_in, question_line, refusal_line};
 ghost use Rattle.recline.specs.Outcome.{Tells};
-ghost use Rattle.session.specs.declared.kind.Kind.TheVariants as kinds;
 
 use crate::copied::copy_of;
 use crate::telling::{tell, tell_all, tell_unopened, write_all};
@@ -104,9 +103,9 @@ fn tell_refusal<F: Link>(faults: &mut F, reply: &[u8])
     tell(faults, b"recline: no list of names\n")
 }
 
-/// Tells why no line was shown, if none was, by a reply that ended no session.
+/// Tells why no line was shown, if none was.
 fn tell_reply<F: Link>(faults: &mut F, reply: &[u8])
-    ensures { Tells (F.told faults.old) (F.told faults.new) (asked_fault kinds.End reply.now) }
+    ensures { Tells (F.told faults.old) (F.told faults.new) (asked_fault reply.now) }
 {
     if is_line(reply) {
         return tell(faults, b"");
@@ -114,48 +113,21 @@ fn tell_reply<F: Link>(faults: &mut F, reply: &[u8])
     tell_refusal(faults, reply)
 }
 
-/// Tells why no line was shown, if none was, where the session with the question ended so.
-fn tell_asked<F: Link>(faults: &mut F, kind: Kind, reply: &[u8])
-    ensures { Tells (F.told faults.old) (F.told faults.new) (asked_fault kind reply.now) }
+/// The status of the process for this reply.
+fn status_for(reply: &[u8]) -> u8
+    ensures { result ≡ asked_status reply.now }
 {
-    match kind {
-        Kind::End => tell_reply(faults, reply),
-        Kind::TooLong => tell(faults, b"recline: no list of names\n"),
-        Kind::Bye
-        | Kind::Worn
-        | Kind::Memory
-        | Kind::ReadFailed
-        | Kind::WriteFailed
-        | Kind::Endless
-        | Kind::Foreign => tell(faults, b"recline: memory\n"),
-    }
-}
-
-/// The status of the process, where the session with the question ended so.
-fn status_for(kind: Kind, reply: &[u8]) -> u8
-    ensures { result ≡ asked_status kind reply.now }
-{
-    match kind {
-        Kind::End => if is_line(reply) { 0 } else { 4 },
-        Kind::TooLong => 4,
-        Kind::Bye
-        | Kind::Worn
-        | Kind::Memory
-        | Kind::ReadFailed
-        | Kind::WriteFailed
-        | Kind::Endless
-        | Kind::Foreign => 3,
-    }
+    if is_line(reply) { 0 } else { 4 }
 }
 
 /// Writes the reply to the client, tells why it is no line, if it is none, and answers the status of the process.
-fn hand_over<K: Link, F: Link>(client: &mut K, faults: &mut F, kind: Kind, reply: &[u8]) -> u8
-    ensures { HandsOver F.told kind reply.now (K.told client.old) (K.told client.new) faults.old faults.new result }
+fn hand_over<K: Link, F: Link>(client: &mut K, faults: &mut F, reply: &[u8]) -> u8
+    ensures { HandsOver F.told reply.now (K.told client.old) (K.told client.new) faults.old faults.new result }
 {
     match write_all(client, reply) {
         Ok(()) => {
-            tell_asked(faults, kind, reply);
-            status_for(kind, reply)
+            tell_reply(faults, reply);
+            status_for(reply)
         }
         Err(_) => {
             tell_unopened(faults, DeskFault::Device);
@@ -164,7 +136,23 @@ fn hand_over<K: Link, F: Link>(client: &mut K, faults: &mut F, kind: Kind, reply
     }
 }
 
-/// Tells that memory was wanting.
+/// Whether a session that ended so has its whole reply. One line in memory ends no session otherwise, unless memory is missing.
+fn has_reply(kind: Kind) -> bool
+    ensures { IsTrue result ↔ HasReply kind }
+{
+    match kind {
+        Kind::End | Kind::TooLong => true,
+        Kind::Bye
+        | Kind::Worn
+        | Kind::Memory
+        | Kind::ReadFailed
+        | Kind::WriteFailed
+        | Kind::Endless
+        | Kind::Foreign => false,
+    }
+}
+
+/// Tells that memory is missing.
 fn without_memory<K: Link, F: Link>(client: &mut K, faults: &mut F) -> u8
     ensures { AsksNone F.told (K.told client.old) (K.told client.new) faults.old faults.new result }
 {
@@ -172,7 +160,7 @@ fn without_memory<K: Link, F: Link>(client: &mut K, faults: &mut F) -> u8
     3
 }
 
-/// Asks by this line over this desk. The reply is held in memory until the session has ended.
+/// Asks by this line over this desk. The reply is kept in memory until the session has ended, so that nothing is written of a part of it.
 fn ask_desk<K: Link, F: Link>(
     alloc: Global,
     desk: &mut Desk<MemoryDisk>,
@@ -186,7 +174,11 @@ fn ask_desk<K: Link, F: Link>(
         return without_memory(client, faults);
     };
     let end = run(desk, &mut link, HandOn::EachRead);
-    hand_over(client, faults, end.kind, link.written())
+    if has_reply(end.kind) {
+        hand_over(client, faults, link.written())
+    } else {
+        without_memory(client, faults)
+    }
 }
 
 /// Asks by this line over this disk.

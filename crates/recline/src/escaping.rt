@@ -46,7 +46,7 @@ fn push_unit(text: &mut Vec<u8>, code: u32) -> Result<(), AllocError>
     text.extend_from_slice(&digits)
 }
 
-/// Appends the two units of UTF-16 of a character behind the first 65,536.
+/// Appends the two units of UTF-16 of a character after the first 65,536.
 fn push_pair(text: &mut Vec<u8>, code: u32) -> Result<(), AllocError>
     requires above { 2 ^ 16 ≤ code }
     requires scalar { code < 1114112 }

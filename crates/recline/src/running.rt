@@ -8,7 +8,7 @@ use crate::telling::{tell, tell_unopened};
 use client_link::Link;
 use desk::Desk;
 use line_disk::Disk;
-use session::{HandOn, Kind, run};
+use session::{HandOn, Kind, Unwatched, Watch, run_watched};
 use std::alloc::Global;
 
 /// The status of the process for a session that ended so over a desk, which may be stopped.
@@ -35,34 +35,37 @@ fn fault_for(kind: Kind) -> &'static [u8]
     }
 }
 
-/// Serves one client over a desk, tells how it ended where that was a fault, and answers the status of the process.
-pub fn run_over<D: Disk, K: Link, F: Link>(
+/// Serves one client over a desk, tells how it ended where that was a fault, and answers the status of the process. A watch is told
+/// after each line how far the desk has come.
+pub fn run_over<D: Disk, K: Link, F: Link, H: Watch>(
     desk: &mut Desk<D>,
     client: &mut K,
     faults: &mut F,
     when: HandOn,
+    watch: &H,
 ) -> u8
     ensures { Runs D.keeps K.told F.told when client.old client.new faults.old faults.new desk.old desk.new result }
 {
-    let end = run(desk, client, when);
+    let end = run_watched(desk, client, when, watch);
     tell(faults, fault_for(end.kind));
     status_for(end.kind, desk.stopped())
 }
 
 /// The command `run`: opens the record file on a disk, serves one client over the desk of it, whose replies are handed on so, and answers
-/// the status of the process and the disk.
-pub fn run_handing_on<D: Disk, K: Link, F: Link>(
+/// the status of the process and the disk. A watch is told after each line how far the desk has come.
+pub fn run_handing_on<D: Disk, K: Link, F: Link, H: Watch>(
     alloc: Global,
     disk: D,
     client: &mut K,
     faults: &mut F,
     when: HandOn,
+    watch: &H,
 ) -> (u8, D)
     ensures { RunsOn D.keeps D.view D.failed K.told F.told when disk result.1 client.old client.new faults.old faults.new result.0 }
 {
     match Desk::open(alloc, disk) {
         Ok(mut desk) => {
-            let status = run_over(&mut desk, client, faults, when);
+            let status = run_over(&mut desk, client, faults, when, watch);
             desk.lawful();
             (status, desk.close())
         }
@@ -82,5 +85,5 @@ pub fn run_on<D: Disk, K: Link, F: Link>(
 ) -> (u8, D)
     ensures { RunsOn D.keeps D.view D.failed K.told F.told hand_ons.EachRead disk result.1 client.old client.new faults.old faults.new result.0 }
 {
-    run_handing_on(alloc, disk, client, faults, HandOn::EachRead)
+    run_handing_on(alloc, disk, client, faults, HandOn::EachRead, &Unwatched)
 }

@@ -5,17 +5,19 @@ ghost use Rattle.std.specs.List.{flat_map};
 ghost use Rattle.std.specs.Thread.{IsSend, IsSync};
 ghost use Rattle.recline.specs.Driving.{Writes};
 ghost use Rattle.recline.specs.Serving.{AreLimited, AreServed, EndsNot, EndsShort, EndsWith, IsService, IsServed, IsStopped, PrintsPort, ServesOn, Stops, StopsBehind, TellsDropped, dropped_in, drops, end_line, port_line, stop_line, stopped_by};
+ghost use Rattle.coordinator.specs.Closing.{IsEnded, IsRemainder};
 ghost use Rattle.coordinator.specs.Passes.{ledger_parts};
 
 use crate::host::Host;
 use crate::telling::{tell, tell_all, tell_unopened, write_pieces};
-use crate::waiting::watch;
+use crate::watching::{Door, watch, watch_end};
 use client_link::{ClientConnection, Link, LinkFault};
-use coordinator::{CloseFault, Coordinator, Ended, OpenGate, Pass, Refused, Remainder};
+use coordinator::{CloseFault, Coordinator, Ended, Entry, OpenGate, Pass, Refused, Remainder};
 use crossbeam_channel::{Receiver, Sender, bounded};
 use desk::Desk;
 use itoa::Buffer;
 use line_disk::Disk;
+use report_line::Reply;
 use session::{Kind, Served, workers};
 use std::alloc::{AllocError, Global};
 use std::io::{self, ErrorKind};
@@ -24,7 +26,7 @@ use std::net::{OpenListener, TcpStream};
 use std::sync::Wait;
 use std::sync::atomic::{AtomicU64, Ordering};
 use std::sync::ledger::{Blank, Ledger};
-use std::thread::{scope, scope_env};
+use std::thread::{scope, scope_env, sleep};
 use std::time::{Clock, Duration};
 
 /// How many clients wait at most for a worker, while others may still connect.
@@ -66,7 +68,7 @@ impl Service {
 /// Why a service stops before its end.
 #[derive(Clone, Copy)]
 enum Stop {
-    /// The listener failed, as where descriptors run out, or standard output did.
+    /// The listener failed for good, or standard output did.
     Device,
     /// Memory was wanting.
     Memory,
@@ -125,31 +127,45 @@ fn write_end<O: Link>(output: &mut O, front: u32) -> Result<(), LinkFault>
     )
 }
 
-/// The system's error where it has no buffers for one connection more.
-const NO_BUFFERS: i32 = 105;
+/// The system's errors when it has no connection to give for a while: ENOMEM, ENFILE, EMFILE and ENOBUFS, when memory, descriptors of all
+/// programs or of this one, or buffers are used up; and those of a connection that failed before it was accepted: EPERM (a firewall), ENONET,
+/// EPROTO, ENOPROTOOPT, ENETDOWN, ENETUNREACH, EHOSTDOWN and EHOSTUNREACH.
+const PASSING: [i32; 12] = [1, 12, 23, 24, 64, 71, 92, 100, 101, 105, 112, 113];
 
-/// Why a service stops where it can take no client.
-fn stop_at(error: &io::Error) -> Stop {
-    if matches!(error.kind(), ErrorKind::OutOfMemory) {
-        return Stop::Memory;
-    }
+/// After so many milliseconds a connection is asked for again.
+const PAUSE: u64 = 100;
+
+/// Whether there may be a connection to accept a little later.
+fn is_passing(error: &io::Error) -> bool {
     match error.raw_os_error() {
-        Some(NO_BUFFERS) => Stop::Memory,
-        _ => Stop::Device,
+        Some(number) => PASSING.contains(&number),
+        None => matches!(error.kind(), ErrorKind::OutOfMemory),
     }
 }
 
-/// The next client. One whose connection the system gave up before it was taken is passed over.
-fn next_client<T: OpenListener<Stream = TcpStream>, R: Wait>(
+/// The next client. A connection that was aborted before it was accepted is skipped. If there is none to accept for a while, that is counted,
+/// and the system is asked again.
+fn next_client<T: OpenListener<Stream = TcpStream>, R: Wait + Clock>(
     rt: &R,
     listener: &T,
+    door: &Door,
 ) -> Result<TcpStream, Stop> {
+    let mut is_closed = false;
     for _ in rt.forever() {
         match listener.accept() {
             Ok((stream, _)) => return Ok(stream),
             Err(error) => match error.kind() {
                 ErrorKind::ConnectionAborted | ErrorKind::Interrupted => {}
-                _ => return Err(stop_at(&error)),
+                _ => {
+                    if !is_passing(&error) {
+                        return Err(Stop::Device);
+                    }
+                    if !is_closed {
+                        door.closed.fetch_add(1, Ordering::SeqCst);
+                    }
+                    is_closed = true;
+                    sleep(rt, Duration::from_millis(PAUSE));
+                }
             },
         }
     }
@@ -162,7 +178,7 @@ fn take_clients<T: OpenListener<Stream = TcpStream>, R: Wait + Clock + Clone + D
     alloc: Global,
     listener: &T,
     service: Service,
-    taken: &AtomicU64,
+    door: &Door,
     links: Sender<ClientConnection<R>>,
 ) -> Result<(), Stop> {
     let idle = match service.idle {
@@ -174,14 +190,14 @@ fn take_clients<T: OpenListener<Stream = TcpStream>, R: Wait + Clock + Clone + D
         if left == 0 {
             return Ok(());
         }
-        let client = next_client(rt, listener)?;
+        let client = next_client(rt, listener, door)?;
         let Ok(clock) = rt.clone() else {
             return Err(Stop::Memory);
         };
         let Ok(link) = ClientConnection::of_client(alloc, clock, client, idle) else {
             return Err(Stop::Memory);
         };
-        taken.fetch_add(1, Ordering::SeqCst);
+        door.taken.fetch_add(1, Ordering::SeqCst);
         let Ok(()) = links.send(rt, link) else {
             return Err(Stop::Memory);
         };
@@ -209,17 +225,19 @@ fn unserved<D: Disk>(stop: Stop, desk: Desk<D>) -> Stopped<D>
     }
 }
 
-/// The passes of the sessions that there were, how many of their clients were dropped, and why there were no more, if the service stops.
+/// The passes of the sessions that there were, how many of their clients were dropped, why there were no more, if the service stops, and
+/// the link of notices, if its thread gave it back.
 #[derive(Drop)]
-struct Sessions<L: Ledger> {
+struct Sessions<L: Ledger, W: Link + Drop> {
     passes: Vec<Pass<L>>,
     dropped: u64,
     stop: Option<Stop>,
+    warnings: Option<W>,
 }
 
-/// Serves so many sessions over a coordinator by so many workers, while a thread of its own takes the clients, and another one tells of those
-/// that wait for a worker: where there is none of these, nobody is served. Answers for each worker its sessions, and why there are no more, if
-/// the service stops.
+/// Serves so many sessions over a coordinator by so many workers, while one more thread takes the clients, and another one prints what the
+/// operator has to know. If one of these two cannot be started, nobody is served. Answers for each worker its sessions, why there are no more, if
+/// the service stops, and the link of notices, if its thread gave it back.
 fn serve_sessions<
     L: Ledger + Send + Sync,
     D: Disk + Send + Drop,
@@ -233,55 +251,75 @@ fn serve_sessions<
     coordinator: &Coordinator<L, D>,
     service: Service,
     warnings: W,
-) -> (Vec<Vec<Served<L, D, ClientConnection<R>>>>, Option<Stop>)
+) -> (
+    Vec<Vec<Served<L, D, ClientConnection<R>>>>,
+    Option<Stop>,
+    Option<W>,
+)
     requires { IsService service }
 {
     let Ok((links, clients)) = bounded::<ClientConnection<R>, _>(
         alloc,
         service.sessions.min(MOST_WAITING) as usize,
     ) else {
-        return (Vec::new(alloc), Some(Stop::Memory));
+        return (Vec::new(alloc), Some(Stop::Memory), Some(warnings));
     };
     let watched: Result<Receiver<ClientConnection<R>>, AllocError> = clients.clone();
     let (Ok((goes_on, going)), Ok(watched)) = (bounded::<(), _>(alloc, 1), watched) else {
-        return (Vec::new(alloc), Some(Stop::Memory));
+        return (Vec::new(alloc), Some(Stop::Memory), Some(warnings));
     };
     let n = service.workers as usize;
-    let counter = AtomicU64::new(0);
-    let taken = &counter;
+    let open = Door {
+        taken: AtomicU64::new(0),
+        closed: AtomicU64::new(0),
+    };
+    let door = &open;
     scope(
         scope_env(),
         rt,
-        move |scope| -> (Vec<Vec<Served<L, D, ClientConnection<R>>>>, Option<Stop>)
+        move |scope| -> (
+            Vec<Vec<Served<L, D, ClientConnection<R>>>>,
+            Option<Stop>,
+            Option<W>,
+        )
             requires { IsSync R.row × IsSend L.row × IsSync L.row × IsSend R.row × IsSend D.row × IsSend W.row × (0 < n) × (n ≤ 64) }
         {
             let watcher = scope.spawn(
-                move ||
-                    requires { IsSync R.row × IsSend R.row × IsSend W.row }
+                move || -> W
+                    requires { IsSync R.row × IsSend R.row × IsSend L.row × IsSync L.row × IsSend D.row × IsSend W.row }
                 {
                     let mut warnings = warnings;
-                    watch(rt, &going, &watched, taken, &mut warnings)
+                    watch(
+                        rt,
+                        &going,
+                        coordinator,
+                        &watched,
+                        service.sessions,
+                        door,
+                        &mut warnings,
+                    );
+                    warnings
                 },
             );
             let Ok(watcher) = watcher else {
-                return (Vec::new(alloc), Some(Stop::Memory));
+                return (Vec::new(alloc), Some(Stop::Memory), None);
             };
             let taker = scope.spawn(
                 move || -> Result<(), Stop>
                     requires { IsSync R.row × IsSend R.row }
-                { take_clients(rt, alloc, listener, service, taken, links) },
+                { take_clients(rt, alloc, listener, service, door, links) },
             );
             let Ok(taker) = taker else {
-                return (Vec::new(alloc), Some(Stop::Memory));
+                return (Vec::new(alloc), Some(Stop::Memory), None);
             };
             let served = workers(rt, alloc, coordinator, &OpenGate, n, clients);
-            // Behind this no worker takes a client, and while another receiver is there the taker would wait for one.
+            // After this no worker takes a client, and while another receiver is there the taker would wait for one.
             drop(goes_on);
-            watcher.join(rt);
+            let warnings = Some(watcher.join(rt));
             let taken = taker.join(rt);
             match served {
-                Ok(lists) => (lists, taken.err()),
-                Err(_) => (Vec::new(alloc), Some(Stop::Memory)),
+                Ok(lists) => (lists, taken.err(), warnings),
+                Err(_) => (Vec::new(alloc), Some(Stop::Memory), warnings),
             }
         },
     )
@@ -333,11 +371,12 @@ fn add_passes<L: Ledger, D: Disk, K: Link + Drop>(
 /// The passes of all sessions, one worker's after another, and how many clients were dropped. If memory is missing for them, the service
 /// stops, and later sessions are left out.
 #[tactic(auto, using(crate::proofs::Passes::none_served))]
-fn passes_of<L: Ledger, D: Disk, K: Link + Drop>(
+fn passes_of<L: Ledger, D: Disk, K: Link + Drop, W: Link + Drop>(
     mut passes: Vec<Pass<L>>,
     lists: Vec<Vec<Served<L, D, K>>>,
     stop: Option<Stop>,
-) -> Sessions<L>
+    warnings: Option<W>,
+) -> Sessions<L, W>
     requires { passes.items ≡ [] }
     ensures served { AreServed D.keeps D.view K.told result.passes.items result.dropped }
     ensures passes { result.stop ≡ None → result.passes.items ≡ flat_map (λ l. map (λ s. s.pass) l.items) lists.items }
@@ -351,6 +390,7 @@ fn passes_of<L: Ledger, D: Disk, K: Link + Drop>(
                 passes,
                 dropped,
                 stop: Some(Stop::Memory),
+                warnings,
             };
         };
     }
@@ -358,6 +398,7 @@ fn passes_of<L: Ledger, D: Disk, K: Link + Drop>(
         passes,
         dropped,
         stop,
+        warnings,
     }
 }
 
@@ -380,7 +421,7 @@ fn serve_clients<
     service: Service,
     output: &mut O,
     warnings: W,
-) -> Sessions<L>
+) -> Sessions<L, W>
     requires service { IsService service }
     requires none { passes.items ≡ [] }
     ensures served { AreServed D.keeps D.view ⟦<ClientConnection<R> as Link>⟧.told result.passes.items result.dropped }
@@ -391,14 +432,22 @@ fn serve_clients<
             passes,
             dropped: 0,
             stop: Some(Stop::Device),
+            warnings: Some(warnings),
         };
     };
-    let (lists, stop) = serve_sessions(rt, alloc, listener, coordinator, service, warnings);
-    passes_of(passes, lists, stop)
+    let (lists, stop, warnings) = serve_sessions(
+        rt,
+        alloc,
+        listener,
+        coordinator,
+        service,
+        warnings,
+    );
+    passes_of(passes, lists, stop, warnings)
 }
 
 /// Why the service stops behind its sessions, if it does. A worker without memory stops, and leaves clients unserved.
-fn stop_behind<L: Ledger>(sessions: &Sessions<L>, wanted: u64) -> Option<Stop>
+fn stop_behind<L: Ledger, W: Link + Drop>(sessions: &Sessions<L, W>, wanted: u64) -> Option<Stop>
     ensures { StopsBehind sessions.now.stop (length sessions.now.passes.items) wanted result }
 {
     if sessions.stop.is_none() && sessions.passes.len() as u64 != wanted {
@@ -417,6 +466,65 @@ fn stopped_with<D: Disk>(remainder: Remainder<D>) -> Stopped<D>
         stop: stop_of(&fault),
         disk,
     }
+}
+
+/// Whether the client was shown a line.
+fn shows_line(entry: &Entry) -> bool {
+    matches!(entry.shown(), Reply::Line(_))
+}
+
+/// How many lines clients were shown.
+fn lines_in<L: Ledger>(passes: &[Pass<L>]) -> u64 {
+    let mut lines = 0u64;
+    for pass in passes {
+        for entry in pass.entries() {
+            if shows_line(entry) {
+                lines = lines.saturating_add(1);
+            }
+        }
+    }
+    lines
+}
+
+/// Ends a coordinator with these passes. If that takes longer than a second, it is printed how many lines are checked, provided that there is
+/// a link of notices and a thread for it.
+fn finish_watched<L: Ledger + Send + Sync, D: Disk + Send + Drop, W: Link + Send + Drop, R: Host>(
+    rt: &R,
+    alloc: Global,
+    coordinator: Coordinator<L, D>,
+    passes: Vec<Pass<L>>,
+    warnings: Option<W>,
+) -> Result<Ended<D>, Remainder<D>>
+    ensures ok { IfOk result (λ e. IsEnded D.keeps D.view coordinator passes.items e.turns e.front e.disk) }
+    ensures left { IfErr result (λ r. IsRemainder D.keeps D.view coordinator passes.items r.fault r.ended.turns r.ended.front r.ended.disk) }
+{
+    let (Some(warnings), Ok((goes_on, going))) = (warnings, bounded::<(), _>(alloc, 1)) else {
+        return coordinator.finish(passes);
+    };
+    let lines = lines_in(passes.as_slice());
+    scope(
+        scope_env(),
+        rt,
+        move |scope| -> Result<Ended<D>, Remainder<D>>
+            requires { IsSync R.row × IsSend R.row × IsSend W.row }
+            ensures { IfOk result (λ e. IsEnded D.keeps D.view coordinator passes.items e.turns e.front e.disk) × IfErr result (λ r. IsRemainder D.keeps D.view coordinator passes.items r.fault r.ended.turns r.ended.front r.ended.disk) }
+        {
+            let watcher = scope.spawn(
+                move ||
+                    requires { IsSync R.row × IsSend R.row × IsSend W.row }
+                {
+                    let mut warnings = warnings;
+                    watch_end(rt, &going, lines, &mut warnings)
+                },
+            );
+            let finished = coordinator.finish(passes);
+            drop(goes_on);
+            if let Ok(watcher) = watcher {
+                watcher.join(rt);
+            }
+            finished
+        },
+    )
 }
 
 /// Ends the service whose coordinator ended so, and tells the end if the service does not stop. Answers the disk.
@@ -486,7 +594,7 @@ fn serve_over<
     );
     let stop = stop_behind(&sessions, service.sessions);
     let dropped = sessions.dropped;
-    let finished = coordinator.finish(sessions.passes);
+    let finished = finish_watched(rt, alloc, coordinator, sessions.passes, sessions.warnings);
     match end_service(finished, stop, output) {
         Ok(disk) => Ok((disk, dropped)),
         Err(stopped) => Err(stopped),
@@ -561,8 +669,8 @@ fn tell_dropped<F: Link>(faults: &mut F, dropped: u64)
 
 /// The command `serve`: opens the record file on a disk, tells the port of the listener, serves so many sessions over one desk by
 /// so many workers, of which each computes lines by as many threads at most, holds what the clients were shown against the turns,
-/// and tells how many reports were accepted, and how many clients were dropped for want of memory, if some were. While clients wait for a
-/// worker for five seconds and more, lines on a link of their own tell how many. Answers the status of the process, and the disk.
+/// and tells how many reports were accepted, and how many clients were dropped for want of memory, if some were. What has come while it
+/// goes on, as that its sessions are used up, lines on a link of their own tell. Answers the status of the process, and the disk.
 pub fn serve_on<
     D: Disk + Send + Drop,
     T: OpenListener<Stream = TcpStream> + Sync,

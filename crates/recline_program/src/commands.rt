@@ -5,6 +5,7 @@ ghost use Rattle.recline.specs.Asking.{IsOneLine};
 ghost use Rattle.recline.specs.Serving.{IsService};
 
 use crate::files::{bytes_of, explain_disk, open_file, records_of};
+use crate::nearing::Nearness;
 use crate::reporting::{ReportedDisk, ReportedListener, Reporter, tell_whys};
 use crate::telling::{Teller, Why};
 use client_link::{Link, Streams};
@@ -12,7 +13,7 @@ use crossbeam_channel::{Receiver, Sender, bounded};
 use line_disk::{FileDisk, Modelled, NullDisk};
 use recline::{
     Form, HandOn, Host, Question, ScriptForm, Service, ask_on, check_on, copy_of, draw_on,
-    draw_records_on, run_handing_on, run_on, serve_on, show_front_on, show_on,
+    draw_records_on, run_handing_on, serve_on, show_front_on, show_on,
 };
 use std::alloc::{AllocError, Global};
 use std::io::{self, BufWriter};
@@ -29,14 +30,30 @@ pub(crate) fn run_over_file<T: Wait + Drop, K: Link, F: Link>(
     faults: &mut F,
 ) -> u8 {
     let alloc = teller.rt.alloc();
+    let nearness = Nearness::new(teller);
     let Some(path) = file else {
-        let (status, _disk) = run_on(alloc, NullDisk::new(), client, faults);
+        let disk = NullDisk::new();
+        let (status, _disk) = run_handing_on(
+            alloc,
+            disk,
+            client,
+            faults,
+            HandOn::EachRead,
+            &nearness,
+        );
         return status;
     };
     match open_file(teller, path) {
         Ok(disk) => {
             let disk = ReportedDisk::new(disk, None::<Reporter<T>>);
-            let (status, disk) = run_handing_on(alloc, disk, client, faults, HandOn::EachReply);
+            let (status, disk) = run_handing_on(
+                alloc,
+                disk,
+                client,
+                faults,
+                HandOn::EachReply,
+                &nearness,
+            );
             explain_disk(teller, path, &disk.disk);
             status
         }

@@ -7,7 +7,7 @@ use line_disk::{Device, FileDisk, Modelled, Reach, Unopened};
 use recline::at_front;
 use record_file::RecordReach;
 use std::alloc::Global;
-use std::fs::File;
+use std::fs::{self, File};
 use std::io::Read;
 use std::os::unix::fs::FileExt;
 
@@ -105,8 +105,19 @@ fn bytes_in_silence(rt: &HostRuntime, path: &str) -> Option<Vec<u8>> {
     Some(bytes)
 }
 
+/// Whether this path names a regular file. To open another thing may wait, and to read it may take what others are to read.
+fn is_regular(rt: &HostRuntime, path: &str) -> bool {
+    match fs::metadata(rt, path) {
+        Ok(metadata) => metadata.is_file(),
+        Err(_) => false,
+    }
+}
+
 /// Says at which byte of the file of this path the record begins that is damaged, if one is among those that count.
 pub(crate) fn explain_damage(teller: Teller<'_>, path: &str, at: Option<u32>) {
+    if !is_regular(teller.rt, path) {
+        return;
+    }
     let Some(bytes) = bytes_in_silence(teller.rt, path) else {
         return;
     };

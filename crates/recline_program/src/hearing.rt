@@ -7,15 +7,15 @@ use std::io::{self, Read};
 /// How many of the first bytes are looked at.
 const FRONT: usize = 8;
 
-/// A stream, with its first bytes, and how many bytes came behind the last LF.
+/// A stream, with its first bytes, and how many bytes came after the last LF.
 #[derive(Drop)]
 pub(crate) struct Heard<S: Drop> {
     pub(crate) stream: S,
-    /// The first bytes, as many as were read, with zeros behind them.
+    /// The first bytes, as many as were read, followed by zeros.
     front: [u8; FRONT],
     /// How many bytes were read, as far as the first ones are wanted.
     read: usize,
-    /// How many bytes came behind the last LF.
+    /// How many bytes came after the last LF.
     rest: u64,
     /// Whether the stream was read to its end.
     at_end: bool,
@@ -53,7 +53,7 @@ impl<S: Drop> Heard<S> {
         self.front.starts_with(bytes)
     }
 
-    /// Says that what stands behind the last LF was not read, if something does.
+    /// Says that what comes after the last LF was not read, if something does.
     fn tell_rest(&self, teller: Teller<'_>) {
         if self.at_end && self.rest > 0 {
             teller.tell_rest(self.rest);

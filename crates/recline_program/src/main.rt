@@ -4,6 +4,7 @@
 mod commands;
 mod files;
 mod hearing;
+mod nearing;
 mod reporting;
 mod streams;
 mod telling;

@@ -11,9 +11,10 @@ use std::alloc::Global;
 use std::io::{self, ErrorKind, Write};
 use std::net::{OpenListener, SocketAddr, TcpListener, TcpStream};
 use std::sync::Wait;
+use std::sync::atomic::{AtomicBool, Ordering};
 use std::time::{Clock, Duration};
 
-/// Hands over why something failed, once: there is room for one of each reporter.
+/// Hands over why something failed: there is room for one of each reporter.
 #[derive(Drop)]
 pub(crate) struct Reporter<T: Wait + Drop> {
     threads: T,
@@ -26,9 +27,9 @@ impl<T: Wait + Drop> Reporter<T> {
         Reporter { threads, whys }
     }
 
-    /// Hands it over, which nobody is waited for.
+    /// Hands it over where there is room, so that nobody is waited for.
     fn report(&self, why: Why) {
-        let _handed = self.whys.send(&self.threads, why);
+        let _handed = self.whys.try_send(&self.threads, why);
     }
 }
 
@@ -100,17 +101,35 @@ impl<P: Device, T: Wait + Drop> Disk for ReportedDisk<P, T> {
     }
 }
 
-/// A listener that reports why it takes no client, where there is a reporter.
+/// A listener that reports why it takes no client, where there is a reporter: once until it takes one again.
 #[derive(Drop)]
 pub(crate) struct ReportedListener<T: Wait + Drop> {
     listener: TcpListener,
     reporter: Option<Reporter<T>>,
+    is_reported: AtomicBool,
 }
 
 impl<T: Wait + Drop> ReportedListener<T> {
     /// The listener with its reporter, if there is one.
     pub(crate) fn new(listener: TcpListener, reporter: Option<Reporter<T>>) -> ReportedListener<T> {
-        ReportedListener { listener, reporter }
+        ReportedListener {
+            listener,
+            reporter,
+            is_reported: AtomicBool::new(false),
+        }
+    }
+
+    /// Reports this error, if it is not one that the service passes over.
+    fn report(&self, error: &io::Error) {
+        let Some(reporter) = &self.reporter else {
+            return;
+        };
+        match error.kind() {
+            ErrorKind::ConnectionAborted | ErrorKind::Interrupted => {}
+            _ => if !self.is_reported.swap(true, Ordering::SeqCst) {
+                reporter.report(Why::Client(*error))
+            },
+        }
     }
 }
 
@@ -119,12 +138,9 @@ impl<T: Wait + Drop> OpenListener for ReportedListener<T> {
 
     fn accept(&self) -> io::Result<(TcpStream, SocketAddr)> {
         let accepted = self.listener.accept();
-        if let (Err(error), Some(reporter)) = (&accepted, &self.reporter) {
-            match error.kind() {
-                // The service passes over these.
-                ErrorKind::ConnectionAborted | ErrorKind::Interrupted => {}
-                _ => reporter.report(Why::Client(*error)),
-            }
+        match &accepted {
+            Ok(_) => self.is_reported.store(false, Ordering::SeqCst),
+            Err(error) => self.report(error),
         }
         accepted
     }

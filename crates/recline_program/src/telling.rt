@@ -171,6 +171,11 @@ impl<'a> Teller<'a> {
         }
     }
 
+    /// Says that there are so many of at most so many.
+    pub(crate) fn tell_near(self, what: &str, number: u32, most: u32) {
+        let _told = eprintln!(self.rt; "recline: {what} {number} of {most}");
+    }
+
     /// Says that so many bytes behind the last LF were not read.
     pub(crate) fn tell_rest(self, bytes: u64) {
         let _told = eprintln!(self.rt;

@@ -25,5 +25,5 @@ pub use laws::{
     served_without_a_device,
 };
 pub use over_coordinator::serve_link;
-pub use over_desk::run;
+pub use over_desk::{Unwatched, Watch, run, run_watched};
 pub use threads::{Served, workers};

@@ -55,11 +55,27 @@ fn serve_by_desk<D: Disk, K: Link>(desk: &mut Desk<D>, link: &mut K, line: &[u8]
     }
 }
 
-/// The desk makes the turns.
-#[derive(Drop)]
-struct Alone;
+/// What is told how far a desk has come.
+pub trait Watch {
+    /// A line was answered: this is the front now, and so many processes are known.
+    fn after_line(&self, front: u32, processes: u32);
+}
 
-impl<D: Disk> Server<Desk<D>> for Alone {
+/// A watch that does nothing.
+#[derive(Clone, Copy, Debug, Drop)]
+pub struct Unwatched;
+
+impl Watch for Unwatched {
+    fn after_line(&self, _front: u32, _processes: u32) {}
+}
+
+/// The desk makes the turns, and a watch is told of it.
+#[derive(Drop)]
+struct Alone<'a, H> {
+    watch: &'a H,
+}
+
+impl<'a, D: Disk, H: Watch> Server<Desk<D>> for Alone<'a, H> {
     ghost makes = { MakesTurns D.keeps };
 
     ghost grounds = { λ d. at_desk (length d.turns) };
@@ -71,7 +87,9 @@ impl<D: Disk> Server<Desk<D>> for Alone {
     }
 
     fn serve_line<K: Link>(&self, state: &mut Desk<D>, link: &mut K, line: &[u8]) -> Option<Kind> {
-        serve_by_desk(state, link, line)
+        let end = serve_by_desk(state, link, line);
+        self.watch.after_line(state.front(), state.chains().count());
+        end
     }
 }
 
@@ -84,6 +102,19 @@ pub fn run<D: Disk, K: Link>(desk: &mut Desk<D>, link: &mut K, when: HandOn) -> 
     ensures session { Ended D.keeps K.told when link.old link.new desk.old desk.new result.kind result.replies }
     ensures leaves { Leaves result.kind (K.told link.old) (K.told link.new) }
 {
+    run_watched(desk, link, when, &Unwatched)
+}
+
+/// The same, where a watch is told after each line how far the desk has come.
+pub fn run_watched<D: Disk, K: Link, H: Watch>(
+    desk: &mut Desk<D>,
+    link: &mut K,
+    when: HandOn,
+    watch: &H,
+) -> SessionEnd
+    ensures session { Ended D.keeps K.told when link.old link.new desk.old desk.new result.kind result.replies }
+    ensures leaves { Leaves result.kind (K.told link.old) (K.told link.new) }
+{
     desk.lawful();
-    serve(&Alone, desk, link, when)
+    serve(&Alone { watch }, desk, link, when)
 }

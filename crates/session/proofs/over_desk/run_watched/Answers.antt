@@ -1,5 +1,5 @@
 use Rattle.session.proofs.OverDesk.{desk_lawful, ended_at_desk}
-use Rattle.session.proofs.over_desk.run.Goals as goal
+use Rattle.session.proofs.over_desk.run_watched.Goals as goal
 
 pub serve-requires-clause-laws : goal.serve-requires-clause-laws
 serve-requires-clause-laws g c = desk_lawful g.D.Disk.keeps

@@ -1,12 +1,25 @@
-"""Clients that report as fast as they are answered, for bench/serve and bench/replicas."""
+"""What the measures in Python share: the program, reports, and clients that report as fast as they are answered."""
 import multiprocessing
 import os
+import subprocess
 import sys
 import time
 
 TOP = os.path.dirname(os.path.dirname(os.path.abspath(__file__)))
 sys.path[:0] = [os.path.join(TOP, "tests"), os.path.join(TOP, "examples", "client")]
 from client import Connection, Process
+from harness import TRAFFIC
+
+RECLINE = os.path.join(TOP, "crates", "recline_program", "out", "recline_program")
+
+
+def traffic(*words):
+    """The lines of a stream of tests/traffic. Ends with the cause, if the program is not built."""
+    if not os.access(RECLINE, os.X_OK):
+        print("bench: %s is not built; rt run in its crate or rt ci builds it" % RECLINE, file=sys.stderr)
+        sys.exit(2)
+    wrote = subprocess.run([TRAFFIC, *words], env={**os.environ, "RECLINE_PROGRAM": RECLINE}, stdout=subprocess.PIPE, text=True, check=True)
+    return wrote.stdout.splitlines()
 
 
 class Kept:

@@ -35,8 +35,10 @@ from typing import IO, Any, NoReturn
 TOP = os.path.dirname(os.path.dirname(os.path.abspath(__file__)))
 # The folder of the client in Python, which some suites import.
 CLIENT = os.path.join(TOP, "examples", "client")
-# The tools beside the program, which may not be built.
+# The program that makes the calls of the crates, which may not be built.
 WORKBENCH = os.path.join(TOP, "crates", "workbench", "out", "workbench")
+# The program that writes reports of a family.
+TRAFFIC = os.path.join(TOP, "tests", "traffic")
 # An answer that has not come after this many seconds never comes (tests/program).
 HANG = int(os.environ.get("RECLINE_HANG") or 600)
 # How long a whole suite may take, in seconds.

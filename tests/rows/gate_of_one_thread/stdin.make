@@ -1,4 +1,3 @@
 # The reports of a family of 256 processes: so many are the fewest that are looked at by two threads.
-$traffic script 256 0 >"$file.script"
-"$program" drive "$file.script"
+"$traffic" forks 255
 printf '\n\nLINE -\nGARBAGE\n'

@@ -8,12 +8,6 @@ use std::num::NonZeroU32;
 /// Which tool is wanted.
 #[derive(Clone, Copy)]
 pub enum Command<'a> {
-    /// The measure of sessions.
-    Session,
-    /// The measure of clock operations.
-    Clocks,
-    /// The measure of certificates.
-    Certificate,
     /// An answer to each line.
     Calls,
     /// So many passes of a coordinator.
@@ -34,31 +28,11 @@ pub enum Command<'a> {
     Failing { call: u32, effect: Effect },
     /// The steps of a world, taken once more where memory was wanting.
     World,
-    /// Lines of reports.
-    Traffic(Stream),
-    /// The clock operations of a script of traffic alone.
-    Steps { processes: NonZeroU32, turns: u32 },
-}
-
-/// Which lines are wanted.
-#[derive(Clone, Copy)]
-pub enum Stream {
-    /// As many reports of one process as are accepted, the last one once more, and one report more.
-    Limit,
-    /// So many forks.
-    Forks(u32),
-    /// So many reports of a family of so many processes, which send messages to one another.
-    Messages { processes: NonZeroU32, reports: u32 },
-    /// A script of a family of so many processes, which send so many messages to one another.
-    Script { processes: NonZeroU32, turns: u32 },
 }
 
 // The tool that is named by one word alone.
 fn tool_of(tool: &str) -> Option<Command<'_>> {
     match tool {
-        "session" => Some(Command::Session),
-        "clocks" => Some(Command::Clocks),
-        "certificate" => Some(Command::Certificate),
         "calls" => Some(Command::Calls),
         "world" => Some(Command::World),
         _ => None,
@@ -92,10 +66,6 @@ fn tool_by_two<'a>(tool: &str, one: &'a str, other: &'a str) -> Option<Command<'
             call: number_of(one)?,
             effect: effect_of(other)?,
         }),
-        "steps" => Some(Command::Steps {
-            processes: count_of(one)?,
-            turns: number_of(other)?,
-        }),
         _ => None,
     }
 }
@@ -104,30 +74,10 @@ fn tool_by_two<'a>(tool: &str, one: &'a str, other: &'a str) -> Option<Command<'
 pub fn read(words: &[String]) -> Option<Command<'_>> {
     let (_program, words) = words.split_first()?;
     let (tool, rest) = words.split_first()?;
-    if tool.as_str() == "traffic" {
-        return Some(Command::Traffic(stream_of(rest)?));
-    }
     match rest {
         [] => tool_of(tool.as_str()),
         [word] => tool_by_one(tool.as_str(), word.as_str()),
         [one, other] => tool_by_two(tool.as_str(), one.as_str(), other.as_str()),
-        _ => None,
-    }
-}
-
-fn stream_of(words: &[String]) -> Option<Stream> {
-    let (kind, numbers) = words.split_first()?;
-    match (kind.as_str(), numbers) {
-        ("limit", []) => Some(Stream::Limit),
-        ("forks", [forks]) => Some(Stream::Forks(number_of(forks.as_str())?)),
-        ("messages", [processes, reports]) => Some(Stream::Messages {
-            processes: count_of(processes.as_str())?,
-            reports: number_of(reports.as_str())?,
-        }),
-        ("script", [processes, turns]) => Some(Stream::Script {
-            processes: count_of(processes.as_str())?,
-            turns: number_of(turns.as_str())?,
-        }),
         _ => None,
     }
 }

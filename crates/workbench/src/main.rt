@@ -1,13 +1,11 @@
-//! Tools beside the program `recline`: measures, streams of reports, and the calls of the libraries line by line.
+//! A tool beside the program `recline`: it makes the calls of the libraries line by line, for the tests.
 #![tactic(auto)]
 
 mod again;
 mod calls;
 mod command;
 mod gates;
-mod measures;
 mod openings;
-mod traffic;
 
 use anyhow::Result;
 use command::Command;
@@ -18,46 +16,28 @@ use std::thread::Threads;
 
 /// Which words there are.
 const USAGE: &str =
-    "usage: workbench session | clocks | certificate | calls | served FILE | shared FILE | openings FILE |
-                 failing CALL EFFECT | world |
-                 passes COUNT | gate THREADS PLACE | workers BYTES | table THREADS PLACE | traffic STREAM | steps PROCESSES TURNS
+    "usage: workbench calls | served FILE | shared FILE | openings FILE | failing CALL EFFECT | world | passes COUNT |
+                 gate THREADS PLACE | workers BYTES | table THREADS PLACE
 
-session      measures a session of one process against a loop that reads and compares the same lines
-clocks       measures clock operations on families of 2, 64 and 1,024 processes
-certificate  measures finding, writing, reading and checking the certificate of the reports on standard input
-calls        answers each line of standard input, a call of the libraries, by a line
-served       serves the client of standard input and output over a coordinator of the record file FILE; tells on standard error how the
-             session and the coordinator ended, and opens a desk over its disk
-shared       makes the calls of a coordinator for the lines on standard input over the record file FILE, each once more where
-             memory was wanting for it; closes it likewise, and opens a desk over its disk
-openings     makes files at the path FILE, and tells of each whether its opening writes to it
-failing      the same as shared over a disk in memory, whose CALL-th call fails and has done nothing (none) or all (all)
-world        drives a world by the steps on standard input, each taken once more where memory was wanting for it
-passes       takes COUNT passes of a coordinator, each of which makes a turn, or tells why there are no more; tells the number of the last
-             one, why the coordinator is not closed without it, and how it ends with all
-gate         serves three clients, whose texts on standard input are parted by empty lines, over a coordinator that computes a line by
-             THREADS threads, the last two at once. At PLACE a line of the last one waits until the one before was served: before it is
-             computed, in a session (session) or by a call (line), or before its first run (run). Or its first two runs wait for each
-             other (runs), or it waits nowhere (open). Writes what each got, what the gate counted, and how the coordinator ended
-workers      serves three clients, whose texts on standard input are parted by empty lines, by two workers, the last two at once: their first
-             reads wait for each other. Each read and each write takes BYTES bytes at most. Writes what each got, that of the last two in
-             the order of these texts, how many of them waited in vain, and how the coordinator ended
-table        makes the table of needs of the reports on standard input by THREADS threads, with a gate as above, and writes it, a line
-             for each element
-steps        makes the clock operations of `traffic script` for the same numbers, and writes nothing
-traffic      writes a stream of reports:
-
-  limit     BEGIN and 16,383 checkpoints of one process, the last one once more, and one checkpoint more
-  forks FORKS
-            BEGIN and so many forks: in each round each process that is there forks once
-  messages PROCESSES REPORTS
-            BEGIN, a family of so many processes, and checkpoints until there are so many reports: in each round process
-            i sends a message to process 7 * i + ROUND, counted round the family (or to the one after it, if that is i
-            itself), which receives it and takes a checkpoint; the lines of 1,000 processes and 16,384 reports have
-            6,243 bytes at most
-  script PROCESSES TURNS
-            not reports but a script: a family of so many processes, which send so many messages as above, and each is
-            received at once";
+calls     answers each line of standard input, a call of the libraries, by a line
+served    serves the client of standard input and output over a coordinator of the record file FILE; tells on standard error how the
+          session and the coordinator ended, and opens a desk over its disk
+shared    makes the calls of a coordinator for the lines on standard input over the record file FILE, each once more where
+          memory was wanting for it; closes it likewise, and opens a desk over its disk
+openings  makes files at the path FILE, and tells of each whether its opening writes to it
+failing   the same as shared over a disk in memory, whose CALL-th call fails and has done nothing (none) or all (all)
+world     drives a world by the steps on standard input, each taken once more where memory was wanting for it
+passes    takes COUNT passes of a coordinator, each of which makes a turn, or tells why there are no more; tells the number of the last
+          one, why the coordinator is not closed without it, and how it ends with all
+gate      serves three clients, whose texts on standard input are parted by empty lines, over a coordinator that computes a line by
+          THREADS threads, the last two at once. At PLACE a line of the last one waits until the one before was served: before it is
+          computed, in a session (session) or by a call (line), or before its first run (run). Or its first two runs wait for each
+          other (runs), or it waits nowhere (open). Writes what each got, what the gate counted, and how the coordinator ended
+workers   serves three clients, whose texts on standard input are parted by empty lines, by two workers, the last two at once: their first
+          reads wait for each other. Each read and each write takes BYTES bytes at most. Writes what each got, that of the last two in
+          the order of these texts, how many of them waited in vain, and how the coordinator ended
+table     makes the table of needs of the reports on standard input by THREADS threads, with a gate as above, and writes it, a line
+          for each element";
 
 /// Does what the command asks for, with threads where a coordinator is called.
 fn run<T: Threads + Wait + Sync>(
@@ -66,9 +46,6 @@ fn run<T: Threads + Wait + Sync>(
     command: Command<'_>,
 ) -> Result<()> {
     match command {
-        Command::Session => measures::sessions::measure_all(rt),
-        Command::Clocks => measures::clocks::measure_all(rt),
-        Command::Certificate => measures::certificates::measure_all(rt),
         Command::Calls => calls::answer_all(rt),
         Command::Passes(count) => again::passes::put_passes(rt, threads, count),
         Command::Gate { workers, place } => gates::sessions::answer_all(
@@ -83,8 +60,6 @@ fn run<T: Threads + Wait + Sync>(
             again::failing::answer_all(rt, threads, call, effect)
         }
         Command::World => again::world::drive_all(rt),
-        Command::Steps { processes, turns } => traffic::steps(rt.alloc(), processes, turns),
-        Command::Traffic(stream) => traffic::write(rt, stream),
     }
 }
 

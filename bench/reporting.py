@@ -6,7 +6,7 @@ import sys
 import time
 
 TOP = os.path.dirname(os.path.dirname(os.path.abspath(__file__)))
-sys.path[:0] = [os.path.join(TOP, "tests"), os.path.join(TOP, "examples", "client")]
+sys.path[:0] = [os.path.join(TOP, "tests", "lib"), os.path.join(TOP, "examples", "client")]
 from client import Connection, Process
 from harness import TRAFFIC
 

@@ -1,4 +1,4 @@
-/* Takes the steps that standard input says, and writes the line of each that reports; of one that is refused "FAULT n". tests/bindings says
+/* Takes the steps that standard input says, and writes the line of each that reports; of one that is refused "FAULT n". tests/suites/bindings says
  * what the steps are. */
 #define _POSIX_C_SOURCE 200809L
 #include "process.h"

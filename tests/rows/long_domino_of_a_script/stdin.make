@@ -1,2 +1,0 @@
-"$program" drive <(bash "$rows/drive_long_domino/script.make")
-echo 'LINE a'

@@ -1,4 +1,5 @@
 """The `recline run FILE` of a replica, which is given one line at a time."""
+from __future__ import annotations
 
 import subprocess
 import time
@@ -12,15 +13,17 @@ LOCKED = 20
 
 
 class Coordinator:
-    def __init__(self, program, file):
+    process: subprocess.Popen[bytes]
+    turns: int
+
+    def __init__(self, program: str, file: str) -> None:
         self.program = program
         self.file = file
-        self.process = None
         # Where it had its file before it may have it again.
         self.opened = False
         self.open()
 
-    def open(self):
+    def open(self) -> None:
         """Starts recline over the file, which it has opened when this is done."""
         limit = time.monotonic() + LOCKED
         while True:
@@ -37,7 +40,7 @@ class Coordinator:
                     raise
             time.sleep(0.1)
 
-    def ask(self, line):
+    def ask(self, line: bytes) -> bytes:
         """The reply to a line. No other line is given to recline before it has come: behind one that was refused for want of memory the next one
         might be accepted, and the file would have what the log has not."""
         self.turns += 1
@@ -51,7 +54,7 @@ class Coordinator:
             raise Ended(self.told(), again=self.opened)
         return reply[:-1]
 
-    def told(self):
+    def told(self) -> str:
         """What recline told when it ended, on one line. One that does not end by itself is killed."""
         try:
             status = self.process.wait(timeout=5)
@@ -61,7 +64,7 @@ class Coordinator:
         lines = self.process.stderr.read().decode(errors="replace").split("\n")
         return "; ".join(line for line in lines if line) or "recline ended with status %d" % status
 
-    def end(self):
+    def end(self) -> None:
         """Ends recline in order: it has answered all that it was given."""
         self.process.stdin.close()
         status = self.process.wait()
@@ -70,12 +73,12 @@ class Coordinator:
         self.process.stdout.close()
         self.process.stderr.close()
 
-    def renew(self):
+    def renew(self) -> None:
         """Goes on with a new recline over the same file where this one is near its last turn."""
         if self.turns >= TURNS:
             self.end()
             self.open()
 
-    def kill(self):
+    def kill(self) -> None:
         self.process.kill()
         self.process.wait()

@@ -11,16 +11,19 @@ The keys of the computation NAME, all below /recline/NAME/:
 Lines are put by transactions alone, each of which asks that `end` be what its replica knows, puts its lines behind that, and puts the new
 `end`. A run is a word that was drawn by lot. So the numbers of lines have no gap, they stand in the order of the revisions, and within one transaction
 in the order of the lines."""
+from __future__ import annotations
 
 import base64
-import collections
 import http.client
 import json
 import os
 import re
 import ssl
+import threading
 import time
 import urllib.parse
+from collections.abc import Callable, Iterable
+from typing import Any, NamedTuple
 
 from faults import Broken, Cut, Silent, Stopped, Wrong
 from grammar import is_logged
@@ -33,20 +36,41 @@ SECONDS = 4
 END = re.compile(rb"([1-9][0-9]*) ([0-9a-f]+ [1-9][0-9]*)")
 LINE = re.compile(rb"([0-9a-f]+) ([1-9][0-9]*) (.*)", re.DOTALL)
 
-# The last line that is known of a log: its number, the revision by which it was put, and its mark, which is its run and its number there. Where etcd was
-# given an old copy of its data revisions come again, with other lines, and marks do not.
-Last = collections.namedtuple("Last", "position revision mark")
+
+class Last(NamedTuple):
+    """The last line that is known of a log: its number, the revision by which it was put, and its mark, which is its run and its number there. Where
+    etcd was given an old copy of its data revisions come again, with other lines, and marks do not."""
+
+    position: int
+    revision: int
+    mark: bytes
+
+
 BEGINNING = Last(0, 0, b"0 0")
-Entry = collections.namedtuple("Entry", "last run number line")
-# That a run asks, since the revision by which it was put first, and by which it was put last.
-Ask = collections.namedtuple("Ask", "created run changed")
 
 
-def text(data):
+class Entry(NamedTuple):
+    """A line of the log, with its run and its number in that."""
+
+    last: Last
+    run: bytes
+    number: int
+    line: bytes
+
+
+class Ask(NamedTuple):
+    """That a run asks, since the revision by which it was put first, and by which it was put last."""
+
+    created: int
+    run: bytes
+    changed: int
+
+
+def text(data: bytes) -> str:
     return base64.b64encode(data).decode()
 
 
-def data(pair, name):
+def data(pair: dict[str, Any], name: str) -> bytes:
     return base64.b64decode(pair.get(name, ""))
 
 
@@ -56,23 +80,26 @@ class Etcd:
     A request that failed may have been carried out, or be so later. Whoever makes one has to bear that it is made again. Where `patience` is set a
     request is made for so many seconds at most."""
 
-    def __init__(self, urls, stopping, tell, context=None):
+    def __init__(
+            self, urls: list[str], stopping: threading.Event, tell: Callable[[str], object], context: ssl.SSLContext | None = None) -> None:
         self.nodes = [urllib.parse.urlsplit(url) for url in urls]
         self.stopping = stopping
         self.tell = tell
         self.context = context
-        self.connection = None
-        self.patience = None
-        self.told = 0
+        self.connection: http.client.HTTPConnection | None = None
+        self.patience: float | None = None
+        self.failed = 0
+        self.told = 0.0
 
-    def connect(self):
+    def connect(self) -> http.client.HTTPConnection:
         node = self.nodes[0]
+        host, port = node.hostname or node.netloc, node.port or 2379
         if node.scheme == "https":
             context = self.context or ssl.create_default_context()
-            return http.client.HTTPSConnection(node.hostname, node.port or 2379, timeout=SECONDS, context=context)
-        return http.client.HTTPConnection(node.hostname, node.port or 2379, timeout=SECONDS)
+            return http.client.HTTPSConnection(host, port, timeout=SECONDS, context=context)
+        return http.client.HTTPConnection(host, port, timeout=SECONDS)
 
-    def ask_node(self, body):
+    def ask_node(self, body: bytes) -> Any:
         """What the node in front answers. OSError, HTTPException or ValueError where it does not."""
         self.connection = self.connection or self.connect()
         self.connection.request("POST", "/v3/kv/txn", body, {"Content-Type": "application/json"})
@@ -89,7 +116,7 @@ class Etcd:
             raise Wrong(why)
         raise ValueError(why)
 
-    def leave_node(self, why):
+    def leave_node(self, why: str) -> None:
         """Goes on to the next node. Behind the last one there is a rest, and it is told, once in five seconds."""
         if self.connection:
             self.connection.close()
@@ -102,7 +129,7 @@ class Etcd:
                 self.tell("etcd fails: %s: %s" % (self.nodes[-1].geturl(), why))
             self.stopping.wait(min(1, 0.1 * self.failed))
 
-    def transact(self, compare, success, failure=()):
+    def transact(self, compare: list[dict[str, Any]], success: list[dict[str, Any]], failure: Iterable[dict[str, Any]] = ()) -> Any:
         """The answer to a transaction, whenever a node has one."""
         body = json.dumps({"compare": compare, "success": success, "failure": list(failure)}).encode()
         self.failed = 0
@@ -119,66 +146,67 @@ class Etcd:
                 raise Silent("no node of etcd did what it was asked for %d seconds: %s" % (self.patience, why))
 
 
-def broken(pair):
+def broken(pair: dict[str, Any]) -> Broken:
     return Broken("the key %s is not as a replica puts it" % data(pair, "key").decode(errors="replace"))
 
 
 class Log:
     """The lines of one computation."""
 
-    def __init__(self, etcd, name):
+    def __init__(self, etcd: Etcd, name: str) -> None:
         self.etcd = etcd
         self.folder = b"/recline/%s/" % name.encode()
         # The asks that the last answer had, each with the time at which an answer had it first, and the time of that answer.
-        self.asks, self.asked = {}, 0
+        self.asks: dict[Ask, float] = {}
+        self.asked = 0.0
 
-    def line_key(self, position):
+    def line_key(self, position: int) -> bytes:
         return self.folder + b"lines/%010d" % position
 
-    def get(self, key, **more):
+    def get(self, key: bytes, **more: Any) -> dict[str, Any]:
         return {"request_range": dict({"key": text(key)}, **more)}
 
-    def put(self, key, value):
+    def put(self, key: bytes, value: bytes) -> dict[str, Any]:
         return {"request_put": {"key": text(key), "value": text(value)}}
 
-    def get_folder(self, name, **more):
+    def get_folder(self, name: bytes, **more: Any) -> dict[str, Any]:
         """All keys below a folder: '0' is the byte behind '/'."""
         key = self.folder + name
         return self.get(key + b"/", range_end=text(key + b"0"), **more)
 
-    def get_behind(self, position):
+    def get_behind(self, position: int) -> list[dict[str, Any]]:
         """The requests for the end of the log, for one line, for the lines behind it, and for the asks. All are answered for the same revision."""
         lines = self.get(self.line_key(position + 1), range_end=text(self.line_key(10 ** 10 - 1)), limit=PAGE)
         return [self.get(self.folder + b"end"), self.get(self.line_key(position)), lines, self.get_asks()]
 
-    def get_asks(self):
+    def get_asks(self) -> dict[str, Any]:
         """The request for the runs that ask. Whose they are is for people."""
         return self.get_folder(b"asks", keys_only=True)
 
-    def put_ask(self, run, value):
+    def put_ask(self, run: bytes, value: bytes) -> dict[str, Any]:
         return self.put(self.folder + b"asks/" + run, value)
 
-    def take_ask(self, run):
+    def take_ask(self, run: bytes) -> dict[str, Any]:
         return {"request_delete_range": {"key": text(self.folder + b"asks/" + run)}}
 
-    def note_asks(self, response):
+    def note_asks(self, response: dict[str, Any]) -> None:
         self.asked = time.monotonic()
         asks = [Ask(int(pair["create_revision"]), data(pair, "key")[len(self.folder + b"asks/"):], int(pair["mod_revision"]))
                 for pair in response["response_range"].get("kvs", [])]
         self.asks = {ask: self.asks.get(ask, self.asked) for ask in asks}
 
-    def change_asks(self, requests):
+    def change_asks(self, requests: list[dict[str, Any]]) -> None:
         """Makes these requests alone."""
         self.note_asks(self.etcd.transact([], requests + [self.get_asks()])["responses"][-1])
 
-    def entry(self, pair):
+    def entry(self, pair: dict[str, Any]) -> Entry:
         number, words = data(pair, "key")[len(self.folder + b"lines/"):], LINE.fullmatch(data(pair, "value"))
         if not words or not number.isdigit() or not is_logged(words[3]):
             raise broken(pair)
         mark = b"%s %s" % words.groups()[:2]
         return Entry(Last(int(number), int(pair["mod_revision"]), mark), words[1], int(words[2]), words[3])
 
-    def page(self, last, responses):
+    def page(self, last: Last, responses: list[dict[str, Any]]) -> tuple[int, list[Entry]]:
         """The end, and the lines behind the last one that is known, by the answer to `get_behind`. A log whose end is before that line, which has another one
         there, as where etcd was given an old copy of its data, or which lacks it or the next one, is cut."""
         self.note_asks(responses[3])
@@ -195,7 +223,7 @@ class Log:
             raise Cut("the log no longer has line %d" % last.position)
         if last.position and (int(line[0]["mod_revision"]) != last.revision or not data(line[0], "value").startswith(last.mark + b" ")):
             raise Cut("line %d of the log is not the one that was known" % last.position)
-        entries = []
+        entries: list[Entry] = []
         for pair in lines:
             entry = self.entry(pair)
             if entry.last.position != last.position + len(entries) + 1:
@@ -211,12 +239,14 @@ class Log:
             raise broken(pairs[0])
         return end, entries
 
-    def read(self, last, ask=[]):
+    def read(self, last: Last, ask: list[dict[str, Any]] = []) -> tuple[int, list[Entry]]:
         """How many lines the log has, and those behind the last one that is known, as far as a page has room. Nothing that was in the log before the call is
         missed: the read is linearizable, as etcd's are where nothing else is asked for. It may ask, too."""
         return self.page(last, self.etcd.transact([], ask + self.get_behind(last.position))["responses"][len(ask):])
 
-    def append(self, last, run, lines, ask=[], over=[]):
+    def append(
+            self, last: Last, run: bytes, lines: list[tuple[int, bytes]], ask: list[dict[str, Any]] = [],
+            over: list[dict[str, Any]] = []) -> tuple[int, list[Entry]]:
         """Puts the lines, pairs of a number and a text, behind the last one that is known, where there are no others yet. Answers what `read` does behind
         that one: with these lines alone, or where there were others with those. In the latter case it makes the request that asks, and in the former
         those that take asks away.
@@ -239,7 +269,7 @@ class Log:
         revision = int(answer["header"]["revision"])
         return end + len(lines), [Entry(Last(end + k, revision, mark), run, number, line) for k, (mark, (number, line)) in enumerate(zip(marks, lines), 1)]
 
-    def exchange_digests(self, replica, digests):
+    def exchange_digests(self, replica: str, digests: dict[int, str]) -> list[tuple[int, str, str]]:
         """Puts digests of a replica by their fronts, and answers those of all as (front, replica, digest)."""
         puts = [self.put(self.folder + b"digests/%08d/%s" % (front, os.fsencode(replica)), digest.encode()) for front, digest in digests.items()]
         pairs = self.etcd.transact([], puts + [self.get_folder(b"digests")])["responses"][-1]["response_range"].get("kvs", [])
@@ -251,16 +281,16 @@ class Log:
             found.append((int(front), os.fsdecode(other), data(pair, "value").decode(errors="replace")))
         return found
 
-    def put_place(self, replica, position, front):
+    def put_place(self, replica: str, position: int, front: int) -> None:
         self.etcd.transact([], [self.put(self.folder + b"places/" + os.fsencode(replica), b"%d %d" % (position, front))])
 
-    def position_of(self, pair):
+    def position_of(self, pair: dict[str, Any]) -> tuple[int, bytes]:
         position = data(pair, "value").partition(b" ")[0]
         if not position.isdigit():
             raise broken(pair)
         return int(position), data(pair, "key")[len(self.folder + b"places/"):]
 
-    def compact(self):
+    def compact(self) -> tuple[int, str, int] | None:
         """Takes away the lines in front of that up to which the slowest snapshot stands, if no place was put meanwhile. That line itself stays: a
         replica knows its log by it. Answers how many lines that were, and the slowest replica with its line; None without any replica."""
         while not self.etcd.stopping.is_set():

@@ -1,10 +1,11 @@
 """Why a replica ends. Each fault has the status that it ends with, and says whether the replica may go on from its snapshot."""
+from __future__ import annotations
 
 
 class Fault(Exception):
     again = False
 
-    def __init__(self, told, status=3, again=None):
+    def __init__(self, told: str, status: int = 3, again: bool | None = None) -> None:
         super().__init__(told)
         self.status = status
         if again is not None:

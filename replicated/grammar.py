@@ -2,8 +2,10 @@
 
 recline answers `BAD 1` to every other line, whatever came before it, so such a line is not put in the log. Reports and settlements are put there; all
 other calls change nothing."""
+from __future__ import annotations
 
 import re
+from collections.abc import Iterator
 
 GREATEST = 2 ** 32 - 1
 DEEPEST = 40
@@ -28,19 +30,19 @@ class NoTree(Exception):
     """The text is that of no tree in normal form within the limits."""
 
 
-def number(token):
+def number(token: bytes) -> int:
     """The number of a token: decimal, without leading zeros."""
     if len(token) > 10 or not token.isdigit() or token[:1] == b"0" != token:
         raise NoTree()
     return int(token)
 
 
-def expect(tokens, sign):
+def expect(tokens: Iterator[bytes], sign: bytes) -> None:
     if next(tokens) != sign:
         raise NoTree()
 
 
-def id_part(tokens, levels):
+def id_part(tokens: Iterator[bytes], levels: int) -> bytes | None:
     """Reads an id with so many levels at most. Answers its leaf; None for a node."""
     token = next(tokens)
     if token in (b"0", b"1"):
@@ -56,7 +58,7 @@ def id_part(tokens, levels):
     return None
 
 
-def events_part(tokens, levels):
+def events_part(tokens: Iterator[bytes], levels: int) -> tuple[bool, int, int]:
     """Reads an event tree with so many levels at most. Answers whether it is a leaf, and its least and greatest value."""
     token = next(tokens)
     if token != b"(":
@@ -76,12 +78,12 @@ def events_part(tokens, levels):
     return False, least, least + max(left[2], right[2])
 
 
-def tokens_of(text):
+def tokens_of(text: bytes) -> Iterator[bytes]:
     yield from TOKENS.findall(text)
     yield END
 
 
-def is_id(text):
+def is_id(text: bytes) -> bool:
     tokens = tokens_of(text)
     try:
         id_part(tokens, DEEPEST)
@@ -90,7 +92,7 @@ def is_id(text):
         return False
 
 
-def is_events(text):
+def is_events(text: bytes) -> bool:
     tokens = tokens_of(text)
     try:
         greatest = events_part(tokens, DEEPEST)[2]
@@ -99,7 +101,7 @@ def is_events(text):
         return False
 
 
-def is_report(line):
+def is_report(line: bytes) -> bool:
     """Whether a line is a report."""
     found = REPORT.fullmatch(line) or HANDOVER.fullmatch(line) or FORK.fullmatch(line)
     if not found:
@@ -108,17 +110,17 @@ def is_report(line):
     return int(mark or 0) <= GREATEST and int(count) <= GREATEST and is_id(owned) and is_events(events) and all(map(is_id, parts))
 
 
-def is_settlement(line):
+def is_settlement(line: bytes) -> bool:
     """Whether a line asks for a settlement."""
     found = SETTLE.fullmatch(line)
     return found is not None and int(found[1]) <= GREATEST
 
 
-def is_logged(line):
+def is_logged(line: bytes) -> bool:
     """Whether a line is put in the log."""
     return is_report(line) or is_settlement(line)
 
 
-def is_call(line):
+def is_call(line: bytes) -> bool:
     """Whether a line is a call of recline at all: it is answered `BAD 1` if it is not."""
     return is_logged(line) or QUESTION.fullmatch(line) is not None

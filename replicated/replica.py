@@ -2,15 +2,19 @@
 
 Two threads do that. The follower is the only one that speaks with etcd: it puts in the log what sessions wait for, reads what others put, and hands on
 each line once, in the order of the log. The other one gives line after line to recline, and each reply to whoever waits for it."""
+from __future__ import annotations
 
 import collections
 import queue
 import secrets
 import threading
 import time
+from collections.abc import Callable
+from typing import Any
 
 from asks import Asks
 from coordinator import Coordinator
+from etcd_log import Entry, Log
 from faults import Fault, Silent, Stopped
 from grammar import is_logged
 from snapshot import EVERY, Place, find
@@ -42,30 +46,31 @@ class Waiting:
 
     __slots__ = "line", "is_logged", "number", "replies"
 
-    def __init__(self, line, replies):
+    def __init__(self, line: bytes, replies: queue.SimpleQueue[bytes | None]) -> None:
         self.line = line
         self.is_logged = is_logged(line)
-        self.number = None
+        self.number: int | None = None
         self.replies = replies
 
 
 class Replica:
     """The replica of the computation `name` over a record file, known among the others by its identity."""
 
-    def __init__(self, name, log, program, file, identity):
+    def __init__(self, name: str, log: Log, program: str, file: str, identity: str) -> None:
         self.name = name
         self.log = log
         self.file = file
         self.identity = identity
         self.stopping = log.etcd.stopping
-        self.fault = None
+        self.fault: Fault | None = None
         # Each line of this run is known in the log by it and a number, so one that stands there is answered as the first time, however often it was put.
         self.run = secrets.token_hex(8).encode()
         self.numbers = 0
         self.asks = Asks(log, self.run, identity)
-        self.waiting = collections.deque()
+        self.waiting: collections.deque[Waiting] = collections.deque()
         self.work = threading.Condition()
-        self.turns = queue.Queue(AHEAD)
+        # Lines of the log and questions, each with whoever waits for its reply; None is the mark of the end.
+        self.turns: queue.Queue[tuple[Entry | None, Waiting | None] | None] = queue.Queue(AHEAD)
         self.coordinator = Coordinator(program, file)
         try:
             self.place, self.accepted = find(log, file, name)
@@ -76,14 +81,15 @@ class Replica:
         self.known = self.answered = self.place.last
         # The number of the last line that another run put.
         self.foreign = 0
-        self.published, self.exchanged, self.compared = None, 0, 0
+        self.published: Place | None = None
+        self.exchanged, self.compared = 0, 0.0
         # Before this time nothing is published.
-        self.publishing = 0
+        self.publishing = 0.0
         # How many seconds recline takes for a line of the log, the last ones above all. Before there are any it is taken for slow.
         self.pace = LATE / 10
-        self.threads = []
+        self.threads: list[threading.Thread] = []
 
-    def start(self):
+    def start(self) -> None:
         # It counts for whoever cuts off the log before its first client comes.
         self.publish()
         self.log.etcd.patience = PATIENCE
@@ -91,7 +97,7 @@ class Replica:
             self.threads.append(threading.Thread(target=self.guard, args=[work], daemon=True))
             self.threads[-1].start()
 
-    def guard(self, work):
+    def guard(self, work: Callable[[], object]) -> None:
         """Runs a thread. What ends it ends the replica."""
         try:
             work()
@@ -102,11 +108,11 @@ class Replica:
         except Exception as fault:
             self.fail(Fault("%s: %s" % (type(fault).__name__, fault), again=True))
 
-    def fail(self, fault):
+    def fail(self, fault: Fault) -> None:
         self.fault = self.fault or fault
         self.stopping.set()
 
-    def stop(self):
+    def stop(self) -> None:
         """Ends in order: what this run has put in the log is answered, and the place is kept."""
         self.stopping.set()
         with self.work:
@@ -124,7 +130,7 @@ class Replica:
         if not self.fault:
             self.guard(self.end)
 
-    def end(self):
+    def end(self) -> None:
         self.coordinator.end()
         self.keep_place()
         self.publish()
@@ -132,7 +138,7 @@ class Replica:
 
     # ---- What sessions ask for
 
-    def submit(self, lines, replies):
+    def submit(self, lines: list[bytes], replies: queue.SimpleQueue[bytes | None]) -> None:
         """Has the lines of a session answered, in order."""
         waiting = [Waiting(line, replies) for line in lines]
         with self.work:
@@ -141,10 +147,11 @@ class Replica:
 
     # ---- The follower
 
-    def follow(self):
+    def follow(self) -> None:
         rest = 1
         while not self.stopping.is_set():
-            batch, before = collections.deque(), self.known.position
+            batch: collections.deque[Waiting] = collections.deque()
+            before = self.known.position
             self.fill(batch, rest)
             if any(item.is_logged for item in batch):
                 self.append(batch)
@@ -156,7 +163,7 @@ class Replica:
             rest = 1 if self.known.position - before >= AT_ONCE else min(2 * rest, REST)
             self.publish_by_the_way()
 
-    def fill(self, batch, rest=0):
+    def fill(self, batch: collections.deque[Waiting], rest: float = 0) -> None:
         """Fills a batch with lines that wait, up to as many as one transaction puts, and with the questions between them. Where there is none it waits
         so long for the first one."""
         logged = sum(item.is_logged for item in batch)
@@ -171,7 +178,7 @@ class Replica:
                     self.numbers += 1
                     batch[-1].number = self.numbers
 
-    def append(self, batch):
+    def append(self, batch: collections.deque[Waiting]) -> None:
         """Puts the lines of a batch in the log, and hands on the log up to the last of them. What is left of the batch are questions behind it."""
         found = False
         self.asks.begin(self.foreign > self.answered.position)
@@ -196,15 +203,15 @@ class Replica:
                 self.hand_on(entry, own)
         self.take_back_ask()
 
-    def backlog(self):
+    def backlog(self) -> float:
         """How many seconds recline takes for the lines that were handed on to it."""
         return self.pace * (self.known.position - self.answered.position)
 
-    def ask(self):
+    def ask(self) -> list[dict[str, Any]]:
         """The request that asks for the turn of this replica, where it is time for it."""
         return self.asks.due(self.backlog())
 
-    def is_held_back(self):
+    def is_held_back(self) -> bool:
         """Whether another is to put its lines first, which is waited for a little. Beside others lines are not tried before recline has answered almost all
         that was handed on: so they are answered soon when they are put, and the others do not run away from a slow recline."""
         while self.asks.is_contended and self.backlog() > LATE and not self.stopping.wait(FINISHING):
@@ -216,12 +223,12 @@ class Replica:
             self.stopping.wait(HELD)
         return held
 
-    def take_back_ask(self):
+    def take_back_ask(self) -> None:
         """Where lines were put by a transaction whose answer was lost the ask may be left, and so it may be where the replica ends."""
         if self.asks.own():
             self.log.change_asks(self.asks.over())
 
-    def placed(self, batch, entry):
+    def placed(self, batch: collections.deque[Waiting], entry: Entry) -> Waiting:
         """The line of the batch that stands in this entry. Questions that came before it are asked before it."""
         while batch:
             item = batch.popleft()
@@ -232,7 +239,7 @@ class Replica:
             self.hand_on(None, item)
         raise Fault("line %d of the log bears a number that this run did not wait for" % entry.last.position, again=True)
 
-    def come_to_end(self):
+    def come_to_end(self) -> None:
         """Hands on the log up to the end that it has at the first read."""
         end, entries = self.log.read(self.known)
         while True:
@@ -245,7 +252,7 @@ class Replica:
                 raise Stopped()
             _, entries = self.log.read(self.known)
 
-    def hand_on(self, entry, item):
+    def hand_on(self, entry: Entry | None, item: Waiting | None) -> None:
         """Hands on a line of the log with whoever waits for its reply, or a question."""
         while True:
             try:
@@ -260,7 +267,7 @@ class Replica:
             if entry.run != self.run:
                 self.foreign = self.known.position
 
-    def publish(self):
+    def publish(self) -> None:
         """Puts the place that is kept, and the digests that are new, and compares digests. The log is cut off by places that are on the device already."""
         place, digests = self.place, dict(self.accepted.digests)
         if self.published != place:
@@ -274,7 +281,7 @@ class Replica:
                 if digests.get(front, digest) != digest:
                     raise Fault("the first %d accepted lines are others than those of replica %s" % (front, replica), status=4)
 
-    def publish_by_the_way(self):
+    def publish_by_the_way(self) -> None:
         """An etcd that has no room still answers questions: what it does not take at once it is given later."""
         if time.monotonic() < self.publishing:
             return
@@ -288,7 +295,7 @@ class Replica:
 
     # ---- The turns
 
-    def run_turns(self):
+    def run_turns(self) -> None:
         kept = time.monotonic()
         while True:
             try:
@@ -314,7 +321,7 @@ class Replica:
                 self.keep_place()
                 kept = time.monotonic()
 
-    def judge_reply(self, entry, reply):
+    def judge_reply(self, entry: Entry, reply: bytes) -> None:
         """Holds the reply to a line of the log against the front. One that stands for a fault of this machine is not that of the log: the others took
         the line, or may have."""
         word, _, rest = reply.partition(b" ")
@@ -331,7 +338,7 @@ class Replica:
             raise Fault("line %d of the log was answered front %d, and %d is right" % (entry.last.position, front, self.accepted.front), again=True)
         self.answered = entry.last
 
-    def keep_place(self):
+    def keep_place(self) -> None:
         if self.answered != self.place.last:
             place = Place(self.name, self.answered, self.accepted.front, self.accepted.hash.hexdigest())
             place.write(self.file)

@@ -1,4 +1,5 @@
 """Sessions of clients on the port of a replica, as docs/CLIENTS.md says of `recline serve`."""
+from __future__ import annotations
 
 import collections
 import queue
@@ -6,8 +7,13 @@ import re
 import socket
 import threading
 import time
+from collections.abc import Callable, Iterable
+from typing import TYPE_CHECKING
 
 from faults import Taken
+
+if TYPE_CHECKING:
+    from replica import Replica
 
 LONGEST = 8192
 # How many bytes are read at once, and how many lines are taken out of them and wait at once.
@@ -17,7 +23,7 @@ METHODS = tuple(method + b" " for method in (b"GET", b"POST", b"PUT", b"HEAD", b
 LARGE = re.compile(b"LINE |GARBAGE$")
 
 
-def is_last(line):
+def is_last(line: bytes) -> bool:
     """Whether a session ends with the reply to this line."""
     return line == b"BYE" or len(line) > LONGEST
 
@@ -34,15 +40,16 @@ class Session:
     """One client. Its thread reads a piece, takes some lines at a time out of it, has them answered, and sends each reply as it comes. So what is kept for
     a client are a piece and the beginning of a line, a hundred lines of them, and their replies, of which one at most is large."""
 
-    def __init__(self, connection, replica, idle):
+    def __init__(self, connection: socket.socket, replica: Replica, idle: int) -> None:
         self.connection = connection
         self.replica = replica
         self.idle = idle
-        self.waited = 0
-        self.replies = queue.SimpleQueue()
+        self.waited = 0.0
+        # None comes after the last reply, if the replica answers nothing any more.
+        self.replies: queue.SimpleQueue[bytes | None] = queue.SimpleQueue()
         self.is_asking = False
 
-    def receive(self):
+    def receive(self) -> bytes:
         """The next bytes, or none at the end."""
         begun = time.monotonic()
         if self.idle:
@@ -53,7 +60,7 @@ class Session:
             raise Rested()
         return piece
 
-    def send(self, text):
+    def send(self, text: bytes) -> None:
         """Sends it all. The client has the whole limit each time that it takes some of it."""
         if self.idle:
             self.connection.settimeout(self.idle)
@@ -61,9 +68,9 @@ class Session:
         while view:
             view = view[self.connection.send(view):]
 
-    def answer(self, lines):
+    def answer(self, asked: Iterable[bytes]) -> bool:
         """Sends the replies to these lines, and answers whether the session goes on."""
-        lines = collections.deque(lines)
+        lines = collections.deque(asked)
         while lines and not is_last(lines[0]):
             group = [lines.popleft()]
             while lines and len(group) < GROUP and not is_last(lines[0]) and not LARGE.match(group[-1]):
@@ -73,7 +80,7 @@ class Session:
             self.send(b"BYE\n" if lines[0] == b"BYE" else b"BAD 2\n")
         return not lines
 
-    def answer_group(self, group):
+    def answer_group(self, group: list[bytes]) -> None:
         left, self.is_asking = len(group), True
         self.replica.submit(group, self.replies)
         while left:
@@ -87,7 +94,7 @@ class Session:
                 raise Over()
         self.is_asking = False
 
-    def serve(self):
+    def serve(self) -> None:
         rest, is_first = b"", True
         while True:
             piece = self.receive()
@@ -103,7 +110,7 @@ class Session:
                 self.answer([rest])
                 return
 
-    def end(self):
+    def end(self) -> None:
         """The client sees the end behind all replies. What it sent beyond is read for a second, lest the system throw away replies that it has not
         read yet."""
         limit = time.monotonic() + 1
@@ -117,7 +124,7 @@ class Session:
             pass
         self.connection.close()
 
-    def run(self):
+    def run(self) -> None:
         try:
             self.serve()
         except (OSError, Rested, Over):
@@ -128,28 +135,28 @@ class Session:
 class Door:
     """The port, on which so many clients are served at once. Further ones wait in the system's queue."""
 
-    def __init__(self, port, clients, idle):
+    def __init__(self, port: int, clients: int, idle: int) -> None:
         self.socket = socket.socket()
         self.socket.setsockopt(socket.SOL_SOCKET, socket.SO_REUSEADDR, 1)
         self.claim_port(lambda: self.socket.bind(("127.0.0.1", port)), port)
         self.port = self.socket.getsockname()[1]
         self.free = threading.BoundedSemaphore(clients)
         self.idle = idle
-        self.sessions = set()
+        self.sessions: set[Session] = set()
         self.lock = threading.Lock()
 
-    def claim_port(self, call, port):
+    def claim_port(self, call: Callable[[], object], port: int) -> None:
         try:
             call()
         except OSError as fault:
             raise Taken("cannot listen on 127.0.0.1:%d: %s" % (port, fault))
 
-    def open(self, replica):
+    def open(self, replica: Replica) -> None:
         """Takes clients. Before that connecting is refused, so that they go to another replica."""
         self.claim_port(lambda: self.socket.listen(256), self.port)
         threading.Thread(target=self.admit, args=[replica], daemon=True).start()
 
-    def admit(self, replica):
+    def admit(self, replica: Replica) -> None:
         while True:
             self.free.acquire()
             try:
@@ -162,7 +169,7 @@ class Door:
                 self.free.release()
                 time.sleep(0.1)
 
-    def run(self, session):
+    def run(self, session: Session) -> None:
         with self.lock:
             self.sessions.add(session)
         try:
@@ -172,14 +179,14 @@ class Door:
                 self.sessions.discard(session)
             self.free.release()
 
-    def shut(self):
+    def shut(self) -> None:
         """Connecting is refused from now on."""
         try:
             self.socket.shutdown(socket.SHUT_RDWR)
         except OSError:
             pass
 
-    def end(self):
+    def end(self) -> None:
         """Gives those whose lines were answered a second to take the replies, behind which they see the end."""
         with self.lock:
             asking = [session for session in self.sessions if session.is_asking]

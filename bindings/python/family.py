@@ -2,18 +2,19 @@
 """Four processes over pipes, whose reports go to standard output: family.py | recline run. A message goes round them three times, and each takes a
 checkpoint behind each receipt. Then b, c and d retire into a."""
 import os
+from typing import TextIO
 from recline import Process
 
 
-def tell(to, text):
+def tell(to: int, text: str) -> None:
     os.write(to, text.encode() + b"\n")
 
 
-def hear(source):
+def hear(source: TextIO) -> str:
     return source.readline().rstrip("\n")
 
 
-def pass_on(process, source, to):
+def pass_on(process: Process, source: TextIO, to: int) -> None:
     for _ in range(3):
         process.receive(hear(source))
         tell(1, process.check())

@@ -1,15 +1,17 @@
 #!/usr/bin/env python3
 """Takes the steps that standard input says, and writes the line of each that reports; of one that is refused "FAULT n". tests/suites/bindings says
 what the steps are."""
+from __future__ import annotations
 
 import sys
 
 from recline import Fault, Process
 
-processes, texts = {}, {}  # of one family: texts that were handed out or kept, by their names
+processes: dict[str, Process] = {}
+texts: dict[str, str] = {}  # of one family: texts that were handed out or kept, by their names
 
 
-def step(kind, name, *words):
+def step(kind: str, name: str, *words: str) -> str | None:
     """The line of the step, where it has one."""
     line = None
     if kind == "root":

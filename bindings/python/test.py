@@ -1,8 +1,10 @@
 #!/usr/bin/env python3
 """Tests recline.py. The last line is "N passed, M failed"."""
+from __future__ import annotations
 
 import sys
 import threading
+from collections.abc import Callable
 
 import recline
 from recline import Fault, Process
@@ -10,7 +12,7 @@ from recline import Fault, Process
 passed = failed = 0
 
 
-def expect(what, told, wanted):
+def expect(what: str, told: object, wanted: object) -> None:
     global passed, failed
     if told == wanted:
         passed += 1
@@ -19,14 +21,14 @@ def expect(what, told, wanted):
         print("bindings/python: %s FAILED: %r, and not %r" % (what, told, wanted))
 
 
-def fault_of(call, *handed):
+def fault_of(call: Callable[..., object], *handed: object) -> object:
     try:
         return "no fault: %r" % (call(*handed),)
     except Fault as fault:
         return fault.number
 
 
-def example():
+def example() -> None:
     """What stands in docs/STAMPING.md: two processes, two messages, and an end."""
     a, line = Process.root("a")
     expect("BEGIN", line, "BEGIN a")
@@ -64,7 +66,7 @@ def example():
     expect("an older retirement that was kept", a.absorb(retirement, kept=True), "ABSORB@1 a 4 1;(5,0,2) b")
 
 
-def faults():
+def faults() -> None:
     expect("no name", fault_of(Process.root, "A"), recline.NO_NAME)
     expect("no state", fault_of(Process("process a").check), recline.NO_STATE)
     expect("no start", fault_of(Process.born, "process a 0 0 1;0"), recline.NO_TEXT)
@@ -85,7 +87,7 @@ def faults():
     expect("what is refused changes nothing", a.state, "process a 0 0 (1,0);1")
 
 
-def numbers():
+def numbers() -> None:
     """What is no number of 8 or of 32 bits is not cut to one."""
     a = Process("process a 0 0 (1,0);1")
     for call in (lambda: a.fork("b", 257), lambda: a.returned(-1), lambda: a.return_to("process a 0 0 1;0", 2 ** 32 + 1)):
@@ -96,7 +98,7 @@ def numbers():
             expect("a number that is too large or too small", a.state, "process a 0 0 (1,0);1")
 
 
-def long_texts():
+def long_texts() -> None:
     """More than there is room for at first."""
     a, _ = Process.root("a")
     for k in range(255):
@@ -109,20 +111,20 @@ def long_texts():
     expect("what is sent with it", a.send()[10:], a.state.partition(";")[2])
 
 
-def threads():
+def threads() -> None:
     """Calls from many threads at once give what they give one by one."""
-    def run(name, lines):
+    def run(name: str, lines: list[str]) -> None:
         process, line = Process.root(name)
         lines.append(line)
         for k in range(20):
             lines += process.fork("%s%d" % (name, k))
-    told = [[] for _ in range(8)]
+    told: list[list[str]] = [[] for _ in range(8)]
     running = [threading.Thread(target=run, args=("p", lines)) for lines in told]
     for thread in running:
         thread.start()
     for thread in running:
         thread.join()
-    wanted = []
+    wanted: list[str] = []
     run("p", wanted)
     expect("threads", told, [wanted] * len(told))
 

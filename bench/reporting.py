@@ -6,9 +6,9 @@ import sys
 import time
 
 TOP = os.path.dirname(os.path.dirname(os.path.abspath(__file__)))
-sys.path[:0] = [os.path.join(TOP, "tests", "lib"), os.path.join(TOP, "examples", "client")]
-from client import Connection, Process
+sys.path.insert(0, os.path.join(TOP, "tests", "lib"))
 from harness import TRAFFIC
+from plain_client import Connection, Process
 
 RECLINE = os.path.join(TOP, "crates", "recline_program", "out", "recline_program")
 

@@ -62,7 +62,7 @@ void *__wrap_realloc(void *bytes, size_t size) {
 }
 
 /* An id of six leaves, and events of 55 numbers; the next event fills them up, the one behind it raises a leaf. What comes of them is what
- * examples/client/stamps.py makes of them. */
+ * tests/lib/stamps.py makes of them. */
 #define ID "((0,((((0,1),1),1),((1,0),0))),(0,(((((0,(((0,(0,1)),0),0)),0),(((0,1),0),0)),0),0)))"
 #define EVENTS \
     "(4,(3,5,(0,(0,(0,(0,2,0),0),6),(6,(0,1,0),0))),(0,(5,(0,(0,(3,0,(0,(1,7,0),0)),0),0),0),(0,(0,(1,(0,(1,0,(2,(1,(1,0," \

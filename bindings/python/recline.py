@@ -17,8 +17,11 @@ from typing import Any
 (MEMORY, NO_STATE, NO_TEXT, NO_NAME, SELF_TARGET, NAME_TAKEN, NOT_WAITING, OLDER, NEWER, WORN, NOTHING_OWNED, CLOCK_FULL, TOO_DEEP, OVERLAP,
  OTHER_PROCESS, NOT_KNOWN) = range(-1, -17, -1)
 
-# `build` beside this file makes the library.
-library = ctypes.CDLL(os.environ.get("RECLINE_LIBRARY") or os.path.join(os.path.dirname(os.path.abspath(__file__)), "librecline.so"))
+HERE = os.path.dirname(os.path.abspath(__file__))
+try:
+    library = ctypes.CDLL(os.environ.get("RECLINE_LIBRARY") or os.path.join(HERE, "librecline.so"))
+except OSError as fault:
+    raise ImportError("%s; %s links it from librecline.a" % (fault, os.path.join(HERE, "build"))) from fault
 
 
 class Fault(Exception):

@@ -16,7 +16,7 @@ of each step that reports:
     return p k e          the same if p has no state any more
     again p m             p hands m over once more, which has its epoch from now on
 
-What is refused is written as FAULT and its number. The reports have to be those of examples/client/stamps.py, and, if all parts of ids are
+What is refused is written as FAULT and its number. The reports have to be those of stamps.py beside this file, and, if all parts of ids are
 halves, those of `recline drive`; and `recline run` has to accept all of them. Every eighth family settles.
 The last line is 'N passed, M failed'.
 """
@@ -26,9 +26,7 @@ import random
 import subprocess
 import sys
 
-from harness import CLIENT, HANG, Suite
-
-sys.path.insert(0, CLIENT)
+from harness import HANG, Suite
 from stamps import Stamp, join, leaves, text
 
 OLDER, NEWER, NOT_WAITING, SELF_TARGET, NAME_TAKEN, OVERLAP, OTHER_PROCESS, NOT_KNOWN = -8, -9, -7, -5, -6, -14, -15, -16

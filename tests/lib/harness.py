@@ -34,7 +34,7 @@ from types import FrameType
 from typing import IO, Any, NoReturn
 
 TOP = os.path.dirname(os.path.dirname(os.path.dirname(os.path.abspath(__file__))))
-# The folder of the client in Python, which some suites import.
+# The folder of the client in Python.
 CLIENT = os.path.join(TOP, "examples", "client")
 # The program that makes the calls of the crates, which may not be built.
 WORKBENCH = os.path.join(TOP, "crates", "workbench", "out", "workbench")
@@ -85,6 +85,18 @@ def library(name: str, room: str) -> str:
     subprocess.run(
         [compiler, "-O1", "-shared", "-fPIC", "-nostdlib", "-o", built, os.path.join(TOP, "tests", "lib", name + ".c")], check=True)
     return built
+
+
+def linked_library(room: str) -> str | None:
+    """The library for the binding for Python, linked in the room from the archive that tests/suites/bindings takes; none if one of the parts is
+    missing."""
+    linked = os.path.join(room, "librecline.so")
+    steps = """top="$1"
+        . "$top/dist/common"
+        cp "${RECLINE_LIBRARY_ARCHIVE:-}" "$2.a" || put_library "$2.a" && "$top/bindings/python/build" "$2.a" "$2"
+    """
+    ran = subprocess.run(["bash", "-c", steps, "-", TOP, linked], stdout=subprocess.DEVNULL, stderr=subprocess.DEVNULL, check=False)
+    return linked if ran.returncode == 0 else None
 
 
 # ---- rows of the data suite

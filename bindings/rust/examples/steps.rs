@@ -1,5 +1,5 @@
-//! Takes the steps that standard input says, and writes the line of each that reports; of one that is refused "FAULT n". tests/suites/bindings says what
-//! the steps are.
+//! Takes the steps that standard input says, and writes the line of each that reports; of one that is refused "FAULT n". tests/suites/bindings says
+//! what the steps are.
 
 use recline::{Fault, Process};
 use std::collections::HashMap;

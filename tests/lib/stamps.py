@@ -1,20 +1,28 @@
-"""Stamps of interval tree clocks, by the rules of docs/STAMPING.md.
+"""Stamps of interval tree clocks, by the rules of docs/STAMPING.md: a reading of its own, with which the program and the library are compared.
 
 An id is 0, 1 or a pair (left, right). An event tree is a number, or a triple (base, left, right). All values are immutable,
 so a stamp may be kept, sent and compared as it is.
 """
+from __future__ import annotations
+
+from collections.abc import Iterator
+from typing import Any, Tuple, Union
+
+Id = Union[int, Tuple[Any, Any]]
+Events = Union[int, Tuple[int, Any, Any]]
+Path = Tuple[int, ...]
 
 
 # ---- ids
 
-def pair(left, right):
+def pair(left: Id, right: Id) -> Id:
     """The id with these halves, in its shortest form."""
     if left == right and left in (0, 1):
         return left
     return (left, right)
 
 
-def split(i):
+def split(i: Id) -> tuple[Id, Id]:
     """Two ids that share no point and own together what the id owns."""
     if i == 0:
         return 0, 0
@@ -30,7 +38,7 @@ def split(i):
     return (left, 0), (0, right)
 
 
-def leaves(i, path=()):
+def leaves(i: Id, path: Path = ()) -> Iterator[Path]:
     """The paths of the leaves that the id owns, from left to right. A path has 0 for each left half and 1 for each right one."""
     if i == 1:
         yield path
@@ -39,14 +47,14 @@ def leaves(i, path=()):
         yield from leaves(i[1], path + (1,))
 
 
-def leaf(path):
+def leaf(path: Path) -> Id:
     """The id that owns what is below this path, and nothing else."""
     if not path:
         return 1
     return (leaf(path[1:]), 0) if path[0] == 0 else (0, leaf(path[1:]))
 
 
-def without(i, path):
+def without(i: Id, path: Path) -> Id:
     """What the id owns but for what is below this path, all of which it owns."""
     if not path:
         return 0
@@ -56,7 +64,7 @@ def without(i, path):
     return pair(left, without(right, path[1:]))
 
 
-def carve(i, depth):
+def carve(i: Id, depth: int) -> tuple[Id, Id]:
     """Two ids that share no point and own together what the id owns: what is kept, and one leaf that is given away.
 
     The leaf has this depth where the id owns something as shallow as that: it is cut from the deepest such leaf, so that the greater
@@ -73,7 +81,7 @@ def carve(i, depth):
     return without(i, path), leaf(path)
 
 
-def total(i, j):
+def total(i: Id, j: Id) -> Id:
     """What either of two ids owns that share no point."""
     if i == 0:
         return j
@@ -86,16 +94,16 @@ def total(i, j):
 
 # ---- event trees
 
-def base(e):
+def base(e: Events) -> int:
     return e[0] if isinstance(e, tuple) else e
 
 
-def lift(n, e):
+def lift(n: int, e: Events) -> Events:
     """The tree with n more at each point."""
     return (e[0] + n, e[1], e[2]) if isinstance(e, tuple) else e + n
 
 
-def node(n, left, right):
+def node(n: int, left: Events, right: Events) -> Events:
     """The tree with these halves, n more at each point, in its shortest form."""
     if not isinstance(left, tuple) and left == right:
         return n + left
@@ -103,12 +111,12 @@ def node(n, left, right):
     return (n + least, lift(-least, left), lift(-least, right))
 
 
-def greatest(e):
+def greatest(e: Events) -> int:
     """The greatest value of the tree."""
     return e[0] + max(greatest(e[1]), greatest(e[2])) if isinstance(e, tuple) else e
 
 
-def join(e, f):
+def join(e: Events, f: Events) -> Events:
     """At each point the greater value."""
     if not isinstance(e, tuple) and not isinstance(f, tuple):
         return max(e, f)
@@ -122,7 +130,7 @@ def join(e, f):
     return node(e[0], join(e[1], lift(more, f[1])), join(e[2], lift(more, f[2])))
 
 
-def fill(i, e):
+def fill(i: Id, e: Events) -> Events:
     """Where the id owns a whole half, its values are filled up to a level that is there already."""
     if i == 0 or not isinstance(e, tuple):
         return e
@@ -142,7 +150,7 @@ def fill(i, e):
 CUT = 1000
 
 
-def grow(i, e):
+def grow(i: Id, e: Events) -> tuple[Events, int]:
     """The leaf of the id that costs least, raised by one, and what that costs. A tie goes to the right half."""
     if not isinstance(e, tuple):
         if i == 1:
@@ -163,7 +171,7 @@ def grow(i, e):
     return (n, left, two), cost_two + 1
 
 
-def event(i, e):
+def event(i: Id, e: Events) -> Events:
     """The events behind one event of the process that owns the id."""
     if i == 0:
         raise ValueError("a process that owns nothing has no events")
@@ -173,16 +181,16 @@ def event(i, e):
 
 # ---- texts
 
-def text(tree):
+def text(tree: Id | Events) -> str:
     """The text of an id or an event tree."""
     if isinstance(tree, tuple):
         return "(" + ",".join(text(part) for part in tree) + ")"
     return str(tree)
 
 
-def parse(words):
+def parse(words: str) -> Any:
     """The id or the event tree of a text."""
-    def at(place):
+    def at(place: int) -> tuple[Any, int]:
         if words[place] != "(":
             end = place
             while end < len(words) and words[end].isdigit():
@@ -200,33 +208,33 @@ def parse(words):
 class Stamp:
     """The stamp of one process, which each of its events changes."""
 
-    def __init__(self, i=1, e=0):
+    def __init__(self, i: Id = 1, e: Events = 0) -> None:
         self.id = i
         self.events = e
 
-    def __str__(self):
+    def __str__(self) -> str:
         return text(self.id) + ";" + text(self.events)
 
-    def copy(self):
+    def copy(self) -> Stamp:
         return Stamp(self.id, self.events)
 
-    def event(self):
+    def event(self) -> Events:
         """Work, a checkpoint, a present state, a retirement; or a message, which carries the events behind it."""
         self.events = event(self.id, self.events)
         return self.events
 
-    def receive(self, events):
+    def receive(self, events: Events) -> None:
         """The message that carries these events was received."""
         self.events = event(self.id, join(self.events, events))
 
-    def fork(self, depth=None):
+    def fork(self, depth: int | None = None) -> Stamp:
         """The event and the split of a fork: the process keeps one part, and the child's stamp is answered. The child gets half of the id,
         or, where a depth is given, a leaf of that depth."""
         self.event()
         self.id, other = split(self.id) if depth is None else carve(self.id, depth)
         return Stamp(other, self.events)
 
-    def absorb(self, other):
+    def absorb(self, other: Stamp) -> None:
         """The process whose last stamp this is retired into this one."""
         self.event()
         self.events = join(self.events, other.events)

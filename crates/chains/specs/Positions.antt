@@ -9,6 +9,10 @@ use Rattle.chains.specs.declared.position.Position.TheVariants.{At, Retired}
 use Rattle.chains.specs.Processes.{known, target_of}
 use Rattle.chains.specs.Elements.{name_of, elements, lasting}
 
+-- the position of a process that is not born
+abbrev pub before_birth : Position
+before_birth = At 0
+
 -- whether the process retired
 abbrev pub is_retired : List Report → ℕ → Bool
 is_retired accepted p = option_map_or (λ name. is_some (target_of name accepted)) (name_of accepted p) false
@@ -46,11 +50,11 @@ positions_of line = map (λ x. x.position) line
 
 -- the position of a process in a cut, which lists one of each known process in order of birth
 abbrev pub position_in : List Position → ℕ → Position
-position_in cut p = slice_index_or cut p (At 0)
+position_in cut p = slice_index_or cut p before_birth
 
 -- unborn, or at a surviving position
 abbrev pub IsChosen : List Report → List ℕ → ℕ → Position → Type 0
-IsChosen accepted failed p k = (k ≡ At 0) ⊎ IsSurviving accepted failed p k
+IsChosen accepted failed p k = (k ≡ before_birth) ⊎ IsSurviving accepted failed p k
 
 pub record IsCut (accepted : List Report) (failed : List ℕ) (cut : List Position) : Type 0 where
   pub complete : length cut ≡ length (known accepted)

@@ -13,10 +13,8 @@ use Rattle.report_line.specs.declared.report.Action.{Action}
 use Rattle.report_line.specs.declared.report.Action.TheVariants.{Fork, Retire, Absorb}
 use Rattle.report_line.specs.declared.report.Report.{Report}
 use Rattle.report_line.specs.declared.report.Report.TheVariants.{Begin, Numbered}
-
 -- a name, as its bytes
-abbrev pub Name : Type 0
-Name = List ℕ
+pub use Rattle.report_line.specs.histories.History.{Name}
 
 -- the child that the action makes, if it makes one
 abbrev pub child_of : Action → Option Name

@@ -10,7 +10,7 @@ use Rattle.chains.specs.declared.position.Position.{Position}
 use Rattle.chains.specs.declared.position.Position.TheVariants.{At, Retired}
 use Rattle.chains.specs.Processes.{Name, known, reports_of}
 use Rattle.chains.specs.Elements.{name_of, elements_of, makers_of}
-use Rattle.chains.specs.Positions.{rank, position_in, positions_of, IsCut}
+use Rattle.chains.specs.Positions.{before_birth, rank, position_in, positions_of, IsCut}
 use Rattle.chains.specs.Failures.{IsFailedSet}
 use Rattle.chains.specs.Folded.{IsFolded, IsReached}
 use Rattle.chains.specs.Greatest.{IsGreatestCut}
@@ -18,8 +18,8 @@ use Rattle.chains.specs.Held.{Held, with_settlement}
 
 -- the position of a process in a cut that lists one for each of these names; who is not among them is unborn
 abbrev pub position_for : List Name → List Position → Name → Position
-position_for [] cut p = At 0
-position_for (q ∷ names) [] p = At 0
+position_for [] cut p = before_birth
+position_for (q ∷ names) [] p = before_birth
 position_for (q ∷ names) (k ∷ cut) p = if bytes_eq p q then k else position_for names cut p
 
 -- the number of a report of p; a report by which p is born has none, and counts as 0

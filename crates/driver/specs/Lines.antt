@@ -6,8 +6,8 @@ use Rattle.report_line.specs.declared.report.Report.TheVariants.{Begin}
 use Rattle.report_line.specs.histories.History.{Name}
 use Rattle.report_line.specs.histories.StepReports.{reports}
 use Rattle.chains.specs.declared.position.Position.{Position}
-use Rattle.chains.specs.declared.position.Position.TheVariants.{At}
 use Rattle.chains.specs.Processes.{known}
+use Rattle.chains.specs.Positions.{before_birth}
 use Rattle.driver.specs.declared.line.NamedPosition.{NamedPosition}
 use Rattle.driver.specs.Chronicle.{Chronicle}
 
@@ -24,7 +24,7 @@ IsNamedOnce line = (i j : ℕ) (p : Name) → slice_get (names_of line) i ≡ So
 
 -- the position of a process; who is not named is unborn
 abbrev pub position_of : List NamedPosition → Name → Position
-position_of [] p = At 0
+position_of [] p = before_birth
 position_of (x ∷ line) p = if bytes_eq p x.name then x.position else position_of line p
 
 -- the line as one position of each known process, in order of birth

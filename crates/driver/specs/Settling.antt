@@ -1,7 +1,7 @@
 -- A settlement of a world: all processes return to a line.
 use Rattle.std.specs.Prelude.{◌≡◌, ◌≢◌, ◌⊎◌, ℕ, suc, List, Contains, ⊤}
 use Rattle.report_line.specs.histories.History.{Name, Unborn, status}
-use Rattle.chains.specs.declared.position.Position.TheVariants.{At}
+use Rattle.chains.specs.Positions.{before_birth}
 use Rattle.chains.specs.Failures.{IsFailedSet}
 use Rattle.settled_histories.specs.Kept.{Cut, kept}
 use Rattle.history_law.specs.Places.{IsClosedCut}
@@ -22,7 +22,7 @@ pub record HasUnknownName (w : Chronicle) (failed : List Name) (line : List Name
 -- history it is a closed cut for just these failed processes.
 pub record IsClosedLine (w : Chronicle) (failed : List Name) (line : List NamedPosition) : Type 0 where
   pub once : IsNamedOnce line
-  pub root_stays : position_of line w.root ≢ At 0
+  pub root_stays : position_of line w.root ≢ before_birth
   pub numbers : List ℕ
   pub are_failed : IsFailedSet (reported w) failed numbers
   pub closed : IsClosedCut w.root w.history (reported w) numbers (positions_by line (reported w))

@@ -7,6 +7,7 @@ use Rattle.report_line.specs.declared.report.Action.TheVariants as reported
 use Rattle.report_line.specs.declared.report.Report.TheVariants.{Begin}
 use Rattle.report_line.specs.declared.step.Deed.TheVariants.{Work, Check, Present, Fork}
 use Rattle.chains.specs.declared.position.Position.TheVariants.{At}
+use Rattle.chains.specs.Positions.{before_birth}
 use Rattle.histories.specs.Example.{a, b, left, right, halves, act}
 use Rattle.settled_histories.specs.Kept.{Cut}
 use Rattle.history_law.specs.Example.{told, forked}
@@ -44,7 +45,7 @@ abbrev pub twice_settled : Run
 twice_settled =
     Accepts 2 (told a 2 One (Leaf 2) reported.Check)
     ∷ Made 2 (act a Check One (Leaf 2))
-    ∷ Settles (0 ∷ []) (At 2 ∷ At 0 ∷ []) up_to_checkpoint
+    ∷ Settles (0 ∷ []) (At 2 ∷ before_birth ∷ []) up_to_checkpoint
     ∷ once_settled
 
 abbrev pub TwiceSettledIsObeyed : Type 0

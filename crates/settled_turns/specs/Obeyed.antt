@@ -2,11 +2,10 @@
 use Rattle.std.specs.Prelude.{◌≡◌, ◌↔◌, ℕ, ◌<◌, List, [], ◌++◌, Contains, Some, length}
 use Rattle.report_line.specs.histories.History.{Name}
 use Rattle.chains.specs.declared.position.Position.{Position}
-use Rattle.chains.specs.declared.position.Position.TheVariants.{At}
 use Rattle.chains.specs.Elements.{name_of}
 use Rattle.chains.specs.Greatest.{IsGreatestCut}
 use Rattle.chains.specs.Held.{Held, counting}
-use Rattle.chains.specs.Positions.{position_in}
+use Rattle.chains.specs.Positions.{before_birth, position_in}
 use Rattle.chains.specs.Processes.{known, IsKnown}
 use Rattle.history_law.specs.Headline.{IsGreatestClosedCut}
 use Rattle.history_law.specs.Places.{IsPremise}
@@ -87,4 +86,4 @@ WhoIsGoneWasUnbornThen =
     (root : Name) (run : Run) (held between after : Held) (first second : Trace) (all : List ℕ) (garbage : List Position) (p : Name)
     → IsObeyed root run → IsHeldAfter run held → AreTurns held first between → AreTurns between second after → ProcessesObey root run (first ++ second)
     → ((q : ℕ) → q < length (known between.accepted) → Contains all q) → IsGreatestCut between.accepted all garbage
-    → ¬ IsKnown after.accepted p → position_for (known between.accepted) garbage p ≡ At 0
+    → ¬ IsKnown after.accepted p → position_for (known between.accepted) garbage p ≡ before_birth

@@ -13,6 +13,7 @@ mod Unfailing
 mod TurnSteps
 pub mod RightLines
 mod OverRuns
+mod OverAnswers
 mod FileTurns
 mod OverFiles
 mod OpenedTwice

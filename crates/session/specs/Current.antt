@@ -3,10 +3,9 @@ use Rattle.std.specs.Prelude.{◌≡◌, ℕ, ◌-◌, List, [], ◌∷◌, ◌+
 use Rattle.record_file.specs.File.{Said}
 use Rattle.report_line.specs.declared.call.Call.TheVariants as calls
 use Rattle.report_line.specs.declared.reply.Reply.TheVariants.{Line}
-use Rattle.chains.specs.declared.position.Position.TheVariants.{At}
 use Rattle.chains.specs.Elements.{name_of}
 use Rattle.chains.specs.Held.{Held, counting}
-use Rattle.chains.specs.Positions.{position_in}
+use Rattle.chains.specs.Positions.{before_birth, position_in}
 use Rattle.chains.specs.Processes.{Name, known, IsKnown}
 use Rattle.reasons.specs.declared.certificate.Certificate.{Certificate}
 use Rattle.reasons.specs.Certificates.{IsForNames, positions_of}
@@ -67,7 +66,7 @@ pub record AreInOrder (first at : Held) (lowest text : List ℕ) : Type 0 where
   pub text_is : text ≡ certificate_text at.accepted certificate
   pub below : (i : ℕ) (p : Name) → name_of at.accepted i ≡ Some p
       → IsNotAfter (position_for (known first.accepted) (positions_of garbage.line) p) (position_in (positions_of certificate.line) i)
-  pub gone : (p : Name) → ¬ IsKnown at.accepted p → position_for (known first.accepted) (positions_of garbage.line) p ≡ At 0
+  pub gone : (p : Name) → ¬ IsKnown at.accepted p → position_for (known first.accepted) (positions_of garbage.line) p ≡ before_birth
 
 -- A LINE that is shown behind one for GARBAGE is not below it, whatever happened before the first and in between.
 abbrev pub NoLineIsBelowGarbage : Type 0

@@ -4,6 +4,7 @@ pub mod Turned
 pub mod OneText
 pub mod Ends
 pub mod Headline
+pub mod Answered
 pub mod Current
 pub mod Openings
 pub mod TwoOpenings

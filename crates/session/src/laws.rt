@@ -7,6 +7,7 @@ ghost use Rattle.chains.specs.Held.{Held};
 ghost use Rattle.chains.specs.Reachable.{IsReachable};
 ghost use Rattle.chains.specs.Folded.{IsReached};
 ghost use Rattle.desk.specs.Lawful.{unstopped};
+ghost use Rattle.session.specs.Answered.{BothHeadlinesAreOne, WhatIsAcceptedWasAnswered};
 ghost use Rattle.session.specs.Exchanges.{Exchange, ComeTo};
 ghost use Rattle.session.specs.declared.kind.Kind.TheVariants as kinds;
 ghost use Rattle.line_text.specs.Questions.{IsChosenText};
@@ -31,6 +32,13 @@ pub fn exchanges_keep_lists()
     ensures folded { (held after : Held) (exchanges : List Exchange) → IsReached held → ComeTo held exchanges after → IsReached after }
     ensures reachable { (held after : Held) (exchanges : List Exchange) → IsReachable (unstopped held) → ComeTo held exchanges after → IsReachable (unstopped after) }
     ensures front { (held after : Held) (exchanges : List Exchange) → ComeTo held exchanges after → held.front ≤ after.front }
+{}
+
+/// Among exchanges without a settlement, what is accepted is what was there before and the reports that were answered `OK`, in order; and each
+/// `LINE` is right over what is held exactly if it is right over that list.
+pub fn each_line_is_right_over_what_was_answered()
+    ensures accepted { WhatIsAcceptedWasAnswered }
+    ensures same { BothHeadlinesAreOne }
 {}
 
 /// Over processes that obey the rules, with settlements among the exchanges or without, each LINE is right for the current history; and none

@@ -20,7 +20,8 @@ mod turns;
 pub use handing::HandOn;
 pub use kind::{Kind, SessionEnd};
 pub use laws::{
-    a_question_has_one_text, each_line_is_right_for_the_current_history, exchanges_keep_lists,
+    a_question_has_one_text, each_line_is_right_for_the_current_history,
+    each_line_is_right_over_what_was_answered, exchanges_keep_lists,
     exchanges_tell_what_is_accepted, no_line_is_below_garbage_over_files, same_lines_have_one_text,
     served_without_a_device,
 };

@@ -478,7 +478,7 @@ fn with_version<'a>(program: Program<'a>) -> Program<'a>
     ensures { app_of result ≡ on_top (λ s. record s { has_version = true; subcommand_required = true }) (app_of program.entry) }
 {
     program
-        .version("0.1.0")
+        .version("0.1.0 (sources of 2026-11-29, record files of versions 1 and 2)")
         .about("Says where processes that failed have to recover from")
         .subcommand_required(true)
 }

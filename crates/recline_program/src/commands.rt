@@ -7,7 +7,7 @@ ghost use Rattle.recline.specs.Serving.{IsService};
 use crate::files::{bytes_of, explain_disk, open_file, records_of};
 use crate::nearing::Nearness;
 use crate::reporting::{ReportedDisk, ReportedListener, Reporter, tell_whys};
-use crate::telling::{Teller, Why};
+use crate::telling::{FAULT_LINE, Teller, Why};
 use client_link::{Link, Streams};
 use crossbeam_channel::{Receiver, Sender, bounded};
 use line_disk::{FileDisk, Modelled, NullDisk};
@@ -242,7 +242,7 @@ fn serve<T: Host, O: Link + Drop, F: Link + Drop>(
 {
     let rt = teller.rt;
     // Lines of clients that wait are told while others may be served, so they take a way of their own.
-    let Ok(errors) = BufWriter::with_capacity(rt.alloc(), 0, rt.stderr()) else {
+    let Ok(errors) = BufWriter::with_capacity(rt.alloc(), FAULT_LINE, rt.stderr()) else {
         return (teller.fault("memory"), output);
     };
     let warnings = Streams::new(io::empty(), errors);

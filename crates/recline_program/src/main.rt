@@ -22,7 +22,7 @@ use std::env;
 use std::io::{self, BufWriter, Read};
 use std::process::ExitCode;
 use streams::{Input, Kept, stand_ins};
-use telling::{Reason, Teller};
+use telling::{FAULT_LINE, Reason, Teller};
 
 /// The words of the command line.
 fn words_of(rt: &HostRuntime) -> io::Result<Vec<String>> {
@@ -125,7 +125,8 @@ fn explain_streams<R: Read + Drop, W: Drop>(
     }
 }
 
-/// Does the command over this input and standard output. Fault lines are written through at once.
+/// Does the command over this input and standard output. A fault line is handed on as soon as it is whole, by one write if it is not longer
+/// than the buffer, so that the lines of several programs on one standard error do not mix.
 fn act_over<T: Host, R: Read + Drop>(
     teller: Teller<'_>,
     threads: &T,
@@ -136,7 +137,7 @@ fn act_over<T: Host, R: Read + Drop>(
     let Ok(output) = BufWriter::new(rt.alloc(), Kept::new(rt.stdout())) else {
         return teller.fault("memory");
     };
-    let Ok(errors) = BufWriter::with_capacity(rt.alloc(), 0, rt.stderr()) else {
+    let Ok(errors) = BufWriter::with_capacity(rt.alloc(), FAULT_LINE, rt.stderr()) else {
         return teller.fault("memory");
     };
     let client = Streams::new(Kept::new(Heard::new(input)), output);

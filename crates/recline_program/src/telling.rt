@@ -6,6 +6,9 @@ use line_disk::{FileCall, FileTrouble};
 use std::fmt::{self, Display, Formatter, Write};
 use std::io;
 
+/// How many bytes of a fault line go out together.
+pub(crate) const FAULT_LINE: usize = 256;
+
 /// Where the program's own faults are told, and how much of them.
 #[derive(Clone, Copy)]
 pub(crate) struct Teller<'a> {
@@ -44,20 +47,42 @@ fn found_of(call: FileCall) -> &'static str {
 fn is_hidden(c: char) -> bool {
     c.is_control()
         || c == '\\'
-        || matches!(c, '\u{200b}'..='\u{200f}' | '\u{2028}'..='\u{202e}' | '\u{2060}'..='\u{206f}' | '\u{feff}')
+        || matches!(c, '\u{61c}' | '\u{200b}'..='\u{200f}' | '\u{2028}'..='\u{202e}' | '\u{2060}'..='\u{206f}' | '\u{feff}')
 }
 
-/// A name in a line, with JSON's `\u` and four digits for each character that would hide what the line is.
+/// Writes a character, or JSON's `\u` and four digits for one that is hidden.
+fn write_plain<W: Write>(f: &mut Formatter<W>, c: char) -> fmt::Result {
+    if is_hidden(c) {
+        write!(f, "\\u{:04x}", c as u32)
+    } else {
+        f.write_char(c)
+    }
+}
+
+/// A name in a line, without characters that would hide what the line is.
 #[derive(Clone, Copy)]
 struct Plain<'a>(&'a str);
 
 impl<'a> Display for Plain<'a> {
     fn fmt<W: Write>(&self, f: &mut Formatter<W>) -> fmt::Result {
         for c in self.0.chars() {
-            if is_hidden(c) {
-                write!(f, "\\u{:04x}", c as u32)?;
-            } else {
+            write_plain(f, c)?;
+        }
+        Ok(())
+    }
+}
+
+/// Lines of text, without characters that would hide what they are.
+#[derive(Clone, Copy)]
+struct PlainLines<'a>(&'a str);
+
+impl<'a> Display for PlainLines<'a> {
+    fn fmt<W: Write>(&self, f: &mut Formatter<W>) -> fmt::Result {
+        for c in self.0.chars() {
+            if c == '\n' {
                 f.write_char(c)?;
+            } else {
+                write_plain(f, c)?;
             }
         }
         Ok(())
@@ -213,8 +238,22 @@ impl<'a> Teller<'a> {
         if matches!(error.kind(), ErrorKind::OutOfMemory) {
             return self.fault("memory");
         }
+        if error.use_stderr() {
+            return self.refuse(error);
+        }
         match error.print(self.rt) {
-            Ok(()) => if error.use_stderr() { 2 } else { 0 },
+            Ok(()) => 0,
+            Err(_) => self.fault("device"),
+        }
+    }
+
+    /// Shows why the words are no command, with the characters in them that would hide it written by their numbers, and answers the status.
+    fn refuse(self, error: &Error) -> u8 {
+        let Ok(text) = format!(in self.rt.alloc(); "{error}") else {
+            return self.fault("memory");
+        };
+        match eprint!(self.rt; "{}", PlainLines(text.as_str())) {
+            Ok(()) => 2,
             Err(_) => self.fault("device"),
         }
     }

@@ -7,8 +7,6 @@ mod cutting;
 mod fault;
 mod found;
 mod splitting;
-#[cfg(test)]
-mod tests;
 mod walking;
 
 pub use cutting::first_records;

@@ -22,5 +22,3 @@ pub use fault::{TreeFault, Why, WrongWord};
 pub use stream::Explanations;
 pub use wanted::Wanted;
 
-#[cfg(test)]
-mod tests;

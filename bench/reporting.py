@@ -1,4 +1,6 @@
 """What the measures in Python share: the program, reports, and clients that report as fast as they are answered."""
+from __future__ import annotations
+
 import multiprocessing
 import os
 import subprocess
@@ -13,7 +15,7 @@ from plain_client import Connection, Process
 RECLINE = os.path.join(TOP, "crates", "recline_program", "out", "recline_program")
 
 
-def traffic(*words):
+def traffic(*words: str) -> list[str]:
     """The lines of a stream of tests/traffic. Ends with the cause, if the program is not built."""
     if not os.access(RECLINE, os.X_OK):
         print("bench: %s is not built; rt run in its crate or rt ci builds it" % RECLINE, file=sys.stderr)

@@ -1,6 +1,6 @@
 -- A number that is read is spelled in decimal, and what is spelled so is read.
 use Rattle.std.proofs.Common.{◌≡◌, ◌≢◌, ℕ, ◌+◌, ◌-◌, ◌*◌, ◌/◌, ◌%◌, ◌^◌, ◌<◌, ◌≤◌, Bool, true, false, cond, eqb, ltb, List, [], ◌∷◌, ◌++◌, length, get_or, Option, Some, None, refl, sym, ap, ◌∙◌, arith, rules, inl, inr}
-use Rattle.std.specs.Prelude.{◌&&◌}
+use Rattle.std.specs.Prelude.{◌&&◌, MatchOption}
 use Rattle.std.specs.Char.{is_ascii_digit}
 use Rattle.std.specs.Str.{all_ascii_digits}
 use Rattle.std.specs.List.{list_all}
@@ -127,3 +127,9 @@ pub count_is : (word : List ℕ) (n : ℕ) → number word ≡ Some n → n ≢ 
 count_is word n e other =
     let t = number_takes word n e in
     ((elim (cases_eq n 0) [ inl is ↦ absurd (other is) | inr is ↦ omega arith ], t.1), t.0)
+
+-- ---- what a number below 2 ^ 32 spells
+
+pub number_told : (r : Option ℕ) (word : List ℕ) → r ≡ number word → MatchOption r ((n : ℕ) → n < 2 ^ 32 → word ≢ decimal n) (λ n. (n < 2 ^ 32) × (word ≡ decimal n))
+number_told None word e = λ n small is. absurd (let f : None ≡ Some n = e ∙ ap number is ∙ number_again n small in cc)
+number_told (Some n) word e = let t = number_takes word n (sym e) in (t.1, t.0)

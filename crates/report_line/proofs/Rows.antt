@@ -1,13 +1,13 @@
 -- Names in a row, parted by commas.
-use Rattle.std.proofs.Common.{◌≡◌, ◌≢◌, ℕ, true, false, eqb, List, [], ◌∷◌, ◌++◌, length, refl, sym, ap, subst, ◌∙◌, IsTrue, arith, append_assoc}
-use Rattle.std.specs.Prelude.{◌&&◌, nat_le, codes, OnOk, OnErr, Result, Ok, Err, Bool, ◌↔◌, ◌+◌}
+use Rattle.std.proofs.Common.{◌≡◌, ◌≢◌, ℕ, true, false, eqb, List, [], ◌∷◌, ◌++◌, length, refl, sym, ap, subst, ◌∙◌, IsTrue, arith, append_assoc, inl, inr}
+use Rattle.std.specs.Prelude.{◌&&◌, nat_le, codes, OnOk, OnErr, Result, Ok, Err, Some, None, Bool, ◌↔◌, ◌+◌}
 use Rattle.std.specs.List.{list_all, join_with_byte, slice_split, count_by}
-use Rattle.std.proofs.lemmas.Bool.{true≢false}
+use Rattle.std.proofs.lemmas.Bool.{cases_Bool, true≢false}
 use Rattle.std.proofs.lemmas.List.Splits.{slice_split_none, slice_split_at, length-slice_split, join_with_byte-slice_split}
 use Rattle.std.proofs.lemmas.List.Elements.{All-from_recursion}
-use Rattle.report_line.specs.Names.{is_letter, is_name_byte, is_name}
+use Rattle.report_line.specs.Names.{is_letter, is_name_byte, is_name, parts_in, first_wrong, wrong_part}
 use Rattle.report_line.specs.Cuts.{Lacks}
-use Rattle.report_line.specs.working.Rows.{parts_in, named_in, appended}
+use Rattle.report_line.specs.working.Rows.{named_in, appended}
 use Rattle.report_line.specs.Spelling.{AreNames, names_text}
 use Rattle.report_line.proofs.Cutting.{and_both, cut_same, Lacks-uncut}
 use Rattle.report_line.proofs.Plain.{Lacks-name, byte_44, letter_44}
@@ -167,6 +167,50 @@ last_part rest lacks = slice_split_none (λ b. eqb b 44) rest (All-from_recursio
 pub first_part : (rest part behind : List ℕ) → Lacks 44 part → rest ≡ part ++ 44 ∷ behind → parts_in rest ≡ part ∷ parts_in behind
 unfolding parts_in
 first_part rest part behind lacks is = ap (slice_split (λ b. eqb b 44)) is ∙ slice_split_at (λ b. eqb b 44) part 44 behind (All-from_recursion (λ b. eqb b 44 ≡ false) part lacks) refl
+
+-- ---- the first part that is no name
+
+pub wrong_here : (word rest part behind : List ℕ) → wrong_part word ≡ wrong_part rest → Lacks 44 part → rest ≡ part ++ 44 ∷ behind → is_name part ≡ false → Some part ≡ wrong_part word
+wrong_here word rest part behind same lacks is other =
+    let here : first_wrong (part ∷ parts_in behind) ≡ Some part = rw other refl in
+    sym (same ∙ ap first_wrong (first_part rest part behind lacks is) ∙ here)
+
+pub wrong_behind : (word rest part behind : List ℕ) → wrong_part word ≡ wrong_part rest → Lacks 44 part → rest ≡ part ++ 44 ∷ behind → is_name part ≡ true → wrong_part word ≡ wrong_part behind
+wrong_behind word rest part behind same lacks is named =
+    let here : first_wrong (part ∷ parts_in behind) ≡ first_wrong (parts_in behind) = rw named refl in
+    same ∙ ap first_wrong (first_part rest part behind lacks is) ∙ here
+
+pub wrong_last : (word rest : List ℕ) → wrong_part word ≡ wrong_part rest → Lacks 44 rest → is_name rest ≡ false → Some rest ≡ wrong_part word
+wrong_last word rest same lacks other =
+    let here : first_wrong (rest ∷ []) ≡ Some rest = rw other refl in
+    sym (same ∙ ap first_wrong (last_part rest lacks) ∙ here)
+
+pub none_wrong : (word rest : List ℕ) → wrong_part word ≡ wrong_part rest → Lacks 44 rest → is_name rest ≡ true → None ≡ wrong_part word
+none_wrong word rest same lacks named =
+    let here : first_wrong (rest ∷ []) ≡ None = rw named refl in
+    sym (same ∙ ap first_wrong (last_part rest lacks) ∙ here)
+
+none_wrong_are : (ns : List (List ℕ)) → first_wrong ns ≡ None → AreNames ns
+none_wrong_are [] none = tt
+none_wrong_are (n ∷ ns) none = elim (cases_Bool (is_name n)) [
+  | inl named ↦ (named, none_wrong_are ns (rw named at none))
+  | inr other ↦ absurd (let f : Some n ≡ None = (rw other at none) in cc)
+]
+
+none_wrong_in : (ns : List (List ℕ)) → AreNames ns → first_wrong ns ≡ None
+none_wrong_in [] are = refl
+none_wrong_in (n ∷ ns) are = let named : is_name n ≡ true = are.0 in rw named (none_wrong_in ns are.1)
+
+-- a list without a wrong part is the text of names
+pub right_row : (word : List ℕ) → wrong_part word ≡ None → (ns : List (List ℕ)) × AreNames ns × (word ≡ names_text ns)
+right_row word none = (parts_in word, none_wrong_are (parts_in word) none, sym (told_as word (parts_in word) refl))
+
+-- one with a wrong part is the text of none, unless it is `-`
+pub wrong_row : (word part : List ℕ) → word ≢ codes "-" → wrong_part word ≡ Some part → NoRow word
+wrong_row word part other wrong [] row = other row.1
+wrong_row word part other wrong (n ∷ ns) row =
+    let none : wrong_part word ≡ None = ap wrong_part row.1 ∙ ap first_wrong (parts-join n ns row.0) ∙ none_wrong_in (n ∷ ns) row.0 in
+    cc
 
 -- they are names
 pub last_name : (rest : List ℕ) → Lacks 44 rest → AreNames (parts_in rest) → IsTrue (is_name rest)

@@ -1,6 +1,6 @@
 -- Names of processes.
-use Rattle.std.specs.Prelude.{ℕ, Bool, false, IsTrue, ◌&&◌, ◌||◌, ◌==◌, nat_le, List, [], ◌∷◌, length}
-use Rattle.std.specs.List.{list_all, AllByRecursion}
+use Rattle.std.specs.Prelude.{ℕ, Bool, false, IsTrue, ◌&&◌, ◌||◌, ◌==◌, nat_le, List, [], ◌∷◌, length, Option, Some, None, if◌then◌else◌}
+use Rattle.std.specs.List.{list_all, slice_split, AllByRecursion}
 
 -- `a` to `z`
 unfoldable pub is_letter : ℕ → Bool
@@ -18,3 +18,16 @@ is_name (b ∷ bs) = is_letter b && nat_le (length bs) 31 && list_all is_name_by
 -- each is a name
 abbrev pub AreNames : List (List ℕ) → Type 0
 AreNames ns = AllByRecursion (λ n. IsTrue (is_name n)) ns
+
+-- the parts of a list, which commas end
+unfoldable pub parts_in : List ℕ → List (List ℕ)
+parts_in list = slice_split (λ b. b == 44) list
+
+-- the first that is no name
+abbrev pub first_wrong : List (List ℕ) → Option (List ℕ)
+first_wrong [] = None
+first_wrong (n ∷ ns) = if is_name n then first_wrong ns else Some n
+
+-- the first part of a list that is no name
+abbrev pub wrong_part : List ℕ → Option (List ℕ)
+wrong_part list = first_wrong (parts_in list)

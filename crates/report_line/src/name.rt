@@ -32,8 +32,9 @@ fn are_name_bytes(bytes: &[u8]) -> bool
     bytes.iter().all(|b| is_name_byte(*b))
 }
 
+/// Whether the bytes are a name: 1 to 32 of `a` to `z`, `0` to `9`, `_` and `-`, the first a letter.
 #[tactic(auto, unfolding(crate::specs::Names::is_name))]
-fn is_name(bytes: &[u8]) -> bool
+pub fn is_name(bytes: &[u8]) -> bool
     ensures { result ≡ is_name bytes.now }
 {
     match bytes {
@@ -71,7 +72,7 @@ impl Model for Name {
 }
 
 impl Name {
-    /// The name of these bytes, where they are one: 1 to 32 of `a` to `z`, `0` to `9`, `_` and `-`, the first a letter.
+    /// The name of these bytes, if they are one.
     pub fn from_bytes(bytes: &[u8]) -> Option<Name>
         ensures { MatchOption result (is_name bytes.now ≡ false) (λ n. (n ≡ bytes.now) × IsTrue (is_name bytes.now)) }
     {

@@ -1,6 +1,6 @@
 //! Numbers in decimal.
 
-ghost use Rattle.std.specs.Prelude.{◌≡◌, ◌≢◌, ℕ, MatchOption};
+ghost use Rattle.std.specs.Prelude.{◌≡◌, ◌≢◌, ◌<◌, ◌^◌, ℕ, MatchOption};
 ghost use Rattle.std.specs.Fmt.{decimal};
 ghost use Rattle.report_line.specs.Spelling.{IsCount};
 ghost use Rattle.report_line.specs.Numbers.{number, digits_from};
@@ -22,9 +22,9 @@ fn digits_of(word: &[u8]) -> Option<u32>
     Some(n as u32)
 }
 
-// The number below 2^32 that a word says, in digits without leading zeros.
+// The number that a word says, in digits without leading zeros.
 #[tactic(auto, unfolding(crate::specs::Numbers::number))]
-fn number_in(word: &[u8]) -> Option<u32>
+fn said_by(word: &[u8]) -> Option<u32>
     ensures { result ≡ number word.now }
 {
     match word {
@@ -34,11 +34,18 @@ fn number_in(word: &[u8]) -> Option<u32>
     }
 }
 
-// The number from 1 to 2^32 - 1 that a word spells.
-pub(crate) fn number_of(word: &[u8]) -> Option<u32>
+/// The number below 2^32 that a word spells in decimal.
+pub fn number_in(word: &[u8]) -> Option<u32>
+    ensures { MatchOption result ((n : ℕ) → n < 2 ^ 32 → word.now ≢ decimal n) (λ n. (n < 2 ^ 32) × (word.now ≡ decimal n)) }
+{
+    said_by(word)
+}
+
+/// The number from 1 to 2^32 - 1 that a word spells in decimal.
+pub fn positive_in(word: &[u8]) -> Option<u32>
     ensures { MatchOption result ((n : ℕ) → IsCount n → word.now ≢ decimal n) (λ n. IsCount n × (word.now ≡ decimal n)) }
 {
-    match number_in(word) {
+    match said_by(word) {
         None => None,
         Some(0) => None,
         Some(n) => Some(n),

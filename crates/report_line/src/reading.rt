@@ -15,111 +15,21 @@ use crate::call::Call;
 use crate::fault::LineFault;
 use crate::marked::MarkedReport;
 use crate::name::Name;
-use crate::number::number_of;
+use crate::number::positive_in;
 use crate::packed::PackedReport;
+use crate::readers::{read_names, take_id, take_name, take_number, take_stamp};
 use crate::report::{Action, NumberedReport, Report};
-use crate::row::Names;
 use crate::shared::Shared;
 use crate::words::{Words, cut_once};
-use id_tree::{Id, IdFault};
-use stamp::{Stamp, StampTextFault};
 use std::alloc::Global;
-
-fn read_stamp(alloc: Global, word: &[u8]) -> Result<Stamp, LineFault>
-    ensures { Finds result (λ s. IsStamp s × (word.now ≡ stamp_text s)) }
-{
-    match Stamp::parse(alloc, word) {
-        Ok(stamp) => {
-            stamp.known();
-            Ok(stamp)
-        }
-        Err(StampTextFault::Memory) => Err(LineFault::Memory),
-        Err(_) => Err(LineFault::Grammar),
-    }
-}
-
-fn read_id(alloc: Global, word: &[u8]) -> Result<Id, LineFault>
-    ensures { Finds result (λ i. IsId i × (word.now ≡ ids.spelling i)) }
-{
-    match Id::parse(alloc, word) {
-        Ok(id) => {
-            id.known();
-            Ok(id)
-        }
-        Err(IdFault::Memory) => Err(LineFault::Memory),
-        Err(_) => Err(LineFault::Grammar),
-    }
-}
-
-fn read_names(alloc: Global, word: &[u8]) -> Result<Names, LineFault>
-    ensures { Finds result (λ ns. AreNames ns × (word.now ≡ names_text ns)) }
-{
-    if word == b"-".as_slice() {
-        return Ok(Names::new(alloc));
-    }
-    let mut names = Names::with_room(alloc, word.len())?;
-    let mut rest = word;
-    while let Some((part, behind)) = cut_once(b',', rest) {
-        let Some(name) = Name::from_bytes(part) else {
-            return Err(LineFault::Grammar);
-        };
-        names.push(name)?;
-        rest = behind;
-    }
-    let Some(last) = Name::from_bytes(rest) else {
-        return Err(LineFault::Grammar);
-    };
-    names.push(last)?;
-    Ok(names)
-}
-
-fn take_name(words: &mut Words<'_>) -> Result<Name, LineFault>
-    ensures { Takes result (λ p. IsTrue (is_name p)) (λ p. p) words.old words.new }
-{
-    let Some(word) = words.next() else {
-        return Err(LineFault::Grammar);
-    };
-    match Name::from_bytes(word) {
-        Some(name) => Ok(name),
-        None => Err(LineFault::Grammar),
-    }
-}
-
-fn take_number(words: &mut Words<'_>) -> Result<u32, LineFault>
-    ensures { Takes result IsCount decimal words.old words.new }
-{
-    let Some(word) = words.next() else {
-        return Err(LineFault::Grammar);
-    };
-    match number_of(word) {
-        Some(number) => Ok(number),
-        None => Err(LineFault::Grammar),
-    }
-}
-
-fn take_stamp(alloc: Global, words: &mut Words<'_>) -> Result<Stamp, LineFault>
-    ensures { Takes result IsStamp stamp_text words.old words.new }
-{
-    let Some(word) = words.next() else {
-        return Err(LineFault::Grammar);
-    };
-    read_stamp(alloc, word)
-}
-
-fn take_id(alloc: Global, words: &mut Words<'_>) -> Result<Id, LineFault>
-    ensures { Takes result IsId ids.spelling words.old words.new }
-{
-    let Some(word) = words.next() else {
-        return Err(LineFault::Grammar);
-    };
-    read_id(alloc, word)
-}
 
 // The name that is the only word left.
 fn last_name(words: &mut Words<'_>) -> Result<Name, LineFault>
     ensures { Finds result (λ p. IsTrue (is_name p) × (words.old ≡ p ∷ [])) }
 {
-    let name = take_name(words)?;
+    let Some(name) = take_name(words) else {
+        return Err(LineFault::Grammar);
+    };
     if words.is_empty() {
         Ok(name)
     } else {
@@ -131,7 +41,9 @@ fn read_fork(alloc: Global, words: &mut Words<'_>) -> Result<Action, LineFault>
     ensures { Finds result (IsActionOf (codes "FORK") words.old) }
 {
     let kept = take_id(alloc, words)?;
-    let child = take_name(words)?;
+    let Some(child) = take_name(words) else {
+        return Err(LineFault::Grammar);
+    };
     let given = take_id(alloc, words)?;
     if words.is_empty() {
         Ok(Action::fork(alloc, kept, child, given)?)
@@ -185,7 +97,7 @@ fn cut_mark(kind: &[u8]) -> Option<(&[u8], u32)>
     let Some((word, digits)) = cut_once(b'@', kind) else {
         return Some((kind, 0));
     };
-    match number_of(digits) {
+    match positive_in(digits) {
         Some(epoch) => Some((word, epoch)),
         None => None,
     }
@@ -200,7 +112,9 @@ fn read_fields(
 ) -> Result<NumberedReport, LineFault>
     ensures { Finds result (IsNumberedOf kind.now words.old) }
 {
-    let process = take_name(words)?;
+    let Some(process) = take_name(words) else {
+        return Err(LineFault::Grammar);
+    };
     let number = take_number(words)?;
     let stamp = take_stamp(alloc, words)?;
     let action = read_action(alloc, kind, words)?;

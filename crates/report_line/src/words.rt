@@ -36,9 +36,9 @@ fn first_of(byte: u8, bytes: &[u8]) -> Option<usize>
     }
 }
 
-// What stands in front of the first such byte, and what behind it.
+/// The bytes in front of the first such byte, and those after it; nothing if there is no such byte. It takes no memory.
 #[inline(always)]
-pub(crate) fn cut_once(byte: u8, bytes: &[u8]) -> Option<(&[u8], &[u8])>
+pub fn cut_once(byte: u8, bytes: &[u8]) -> Option<(&[u8], &[u8])>
     ensures { MatchOption result (Lacks byte bytes.now) (λ parts. Lacks byte parts.0.now × (bytes.now ≡ parts.0.now ++ byte ∷ parts.1.now)) }
 {
     let at = first_of(byte, bytes)?;

@@ -1,11 +1,7 @@
 -- Working definitions: names in a row, as the text in which a call has them.
-use Rattle.std.specs.Prelude.{ℕ, ◌==◌, List, [], ◌∷◌, ◌++◌, Option, Some, None}
-use Rattle.std.specs.List.{slice_split}
+use Rattle.std.specs.Prelude.{ℕ, List, [], ◌∷◌, ◌++◌, Option, Some, None}
 use Rattle.std.specs.Borrow.{Bor}
-
--- the parts between commas
-unfoldable pub parts_in : List ℕ → List (List ℕ)
-parts_in bytes = slice_split (λ b. b == 44) bytes
+use Rattle.report_line.specs.Names.{parts_in}
 
 -- the names that a text has, where an empty one has none
 abbrev pub named_in : List ℕ → List (List ℕ)

@@ -1,7 +1,6 @@
 use Rattle.std.proofs.Common.{◌≡◌, ◌++◌, ◌∷◌, rules}
 use Rattle.report_line.specs.Cuts.{Lacks}
-use Rattle.report_line.specs.Names.{AreNames}
-use Rattle.report_line.specs.working.Rows.{parts_in}
+use Rattle.report_line.specs.Names.{AreNames, parts_in}
 use Rattle.report_line.proofs.Rows.{last_name, first_name, last_part, first_part, first_taken_are}
 use Rattle.report_line.proofs.row.NamesLeft.next.Goals as goal
 

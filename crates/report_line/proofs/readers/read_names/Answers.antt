@@ -3,7 +3,7 @@ use Rattle.std.specs.Prelude.{codes}
 use Rattle.report_line.specs.Names.{is_name}
 use Rattle.report_line.specs.Cuts.{Lacks}
 use Rattle.report_line.proofs.Rows.{no_row, no_part, no_last, row_step, row_end}
-use Rattle.report_line.proofs.reading.read_names.Goals as goal
+use Rattle.report_line.proofs.readers.read_names.Goals as goal
 
 pub returns-in_default-from_bytes : goal.returns-in_default-from_bytes
 returns-in_default-from_bytes c =

@@ -1,7 +1,7 @@
 use Rattle.std.proofs.Common.{◌≡◌, Some, None}
 use Rattle.report_line.specs.Numbers.{number}
 use Rattle.report_line.proofs.Numerals.{no_number, no_count, count_is}
-use Rattle.report_line.proofs.number.number_of.Goals as goal
+use Rattle.report_line.proofs.number.positive_in.Goals as goal
 
 pub returns-in-None : goal.returns-in-None
 returns-in-None c = let e : number c.args.word.now ≡ None = cc in no_number c.args.word.now e

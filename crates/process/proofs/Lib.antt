@@ -1,6 +1,5 @@
 pub mod Pieces
 pub mod WordLists
-pub mod Numbers
 pub mod OneText
 pub mod LeafWays
 pub mod LeafParts

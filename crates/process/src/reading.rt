@@ -5,16 +5,14 @@ ghost use Rattle.std.specs.Fmt.{decimal};
 ghost use Rattle.event_tree.specs.NormalForm.{IsEvents};
 ghost use Rattle.event_tree.specs.Spelling as events;
 ghost use Rattle.stamp.specs.Stamps.{IsStamp, stamp_text};
-ghost use Rattle.report_line.specs.Names.{is_name};
 ghost use Rattle.report_line.specs.Reading.{Finds, Takes};
 ghost use Rattle.process.specs.Texts.{IsNumber, IsProcess, IsMessage, IsStart, IsRetirement, process_words, message_words, start_words, retirement_words};
 
 use crate::handed::{Message, Retirement, Start};
-use crate::number::number_of;
 use crate::process::Process;
 use event_tree::{Events, EventsFault};
-use report_line::{LineFault, Name, Words};
-use stamp::{Stamp, StampTextFault};
+use report_line::{LineFault, Words, number_in, read_stamp, take_name};
+use stamp::Stamp;
 use std::alloc::Global;
 
 // Takes the word that says what is spelled, if it is the one that is wanted.
@@ -28,40 +26,15 @@ fn take_kind(words: &mut Words<'_>, kind: &[u8]) -> bool
     }
 }
 
-fn take_name(words: &mut Words<'_>) -> Result<Name, LineFault>
-    ensures { Takes result (λ p. IsTrue (is_name p)) (λ p. p) words.old words.new }
-{
-    let Some(word) = words.next() else {
-        return Err(LineFault::Grammar);
-    };
-    match Name::from_bytes(word) {
-        Some(name) => Ok(name),
-        None => Err(LineFault::Grammar),
-    }
-}
-
 fn take_number(words: &mut Words<'_>) -> Result<u32, LineFault>
     ensures { Takes result IsNumber decimal words.old words.new }
 {
     let Some(word) = words.next() else {
         return Err(LineFault::Grammar);
     };
-    match number_of(word) {
+    match number_in(word) {
         Some(number) => Ok(number),
         None => Err(LineFault::Grammar),
-    }
-}
-
-fn read_stamp(alloc: Global, word: &[u8]) -> Result<Stamp, LineFault>
-    ensures { Finds result (λ s. IsStamp s × (word.now ≡ stamp_text s)) }
-{
-    match Stamp::parse(alloc, word) {
-        Ok(stamp) => {
-            stamp.known();
-            Ok(stamp)
-        }
-        Err(StampTextFault::Memory) => Err(LineFault::Memory),
-        Err(_) => Err(LineFault::Grammar),
     }
 }
 
@@ -110,7 +83,9 @@ pub(crate) fn read_process(alloc: Global, words: &mut Words<'_>) -> Result<Proce
     if !take_kind(words, b"process") {
         return Err(LineFault::Grammar);
     }
-    let name = take_name(words)?;
+    let Some(name) = take_name(words) else {
+        return Err(LineFault::Grammar);
+    };
     let epoch = take_number(words)?;
     let reports = take_number(words)?;
     let stamp = last_stamp(alloc, words)?;
@@ -139,7 +114,9 @@ pub(crate) fn read_start(alloc: Global, words: &mut Words<'_>) -> Result<Start, 
     if !take_kind(words, b"start") {
         return Err(LineFault::Grammar);
     }
-    let child = take_name(words)?;
+    let Some(child) = take_name(words) else {
+        return Err(LineFault::Grammar);
+    };
     let epoch = take_number(words)?;
     let stamp = last_stamp(alloc, words)?;
     Ok(Start {
@@ -155,9 +132,13 @@ pub(crate) fn read_retirement(alloc: Global, words: &mut Words<'_>) -> Result<Re
     if !take_kind(words, b"retirement") {
         return Err(LineFault::Grammar);
     }
-    let process = take_name(words)?;
+    let Some(process) = take_name(words) else {
+        return Err(LineFault::Grammar);
+    };
     let epoch = take_number(words)?;
-    let target = take_name(words)?;
+    let Some(target) = take_name(words) else {
+        return Err(LineFault::Grammar);
+    };
     let stamp = last_stamp(alloc, words)?;
     Ok(Retirement {
         process,

@@ -1,11 +1,9 @@
 -- First words with a mark, and words that are none for an `@` in them.
-use Rattle.std.proofs.Common.{◌≡◌, ◌≢◌, inr, ℕ, true, false, List, [], ◌∷◌, ◌++◌, Option, Some, None, refl, sym, subst, ◌∙◌, IsTrue}
+use Rattle.std.proofs.Common.{◌≡◌, inr, ℕ, true, false, List, [], ◌∷◌, ◌++◌, Option, Some, None, refl, sym, subst, ◌∙◌, IsTrue}
 use Rattle.std.specs.Prelude.{◌↔◌, MatchOption}
 use Rattle.report_line.specs.Cuts.{Lacks}
-use Rattle.report_line.specs.Numbers.{number}
 use Rattle.report_line.proofs.Cutting.{cut_same}
 use Rattle.report_line.proofs.Marks.{no_mark, some_mark, wrong_mark, one_word_and_epoch}
-use Rattle.report_line.proofs.Numerals.{no_number, no_count, count_is}
 use Rattle.line_fault.specs.declared.kind.Shape.{Shape}
 use Rattle.line_fault.specs.declared.wanted.Wanted.TheVariants as wanted
 use Rattle.line_fault.specs.Wanting.{Fits}
@@ -13,17 +11,6 @@ use Rattle.line_fault.specs.Reasons.{IsMarked}
 use Rattle.line_fault.specs.Shapes.{wanted_in, IsUnmarked, IsMarkable, IsMarkedKind, IsKindOf}
 use Rattle.line_fault.proofs.KindWords.{no_shape}
 use Rattle.line_fault.proofs.ShapedCalls.{begun, no_call_begins}
-
--- ---- numbers
-
-pub none_fits : (word : List ℕ) → number word ≡ None → IsTrue false ↔ Fits wanted.Number word
-none_fits word is = ((λ no. absurd cc), (λ fits. absurd (no_number word is fits.0 fits.1 fits.2)))
-
-pub zero_fits_not : (word : List ℕ) → number word ≡ Some 0 → IsTrue false ↔ Fits wanted.Number word
-zero_fits_not word is = ((λ no. absurd cc), (λ fits. absurd (no_count word is fits.0 fits.1 fits.2)))
-
-pub number_fits : (word : List ℕ) (n : ℕ) → number word ≡ Some n → n ≢ 0 → IsTrue true ↔ Fits wanted.Number word
-number_fits word n is other = let read = count_is word n is other in ((λ yes. (n, read.0, read.1)), (λ fits. refl))
 
 -- ---- the shapes of words with a mark
 

@@ -1,6 +1,5 @@
 -- Working definitions: the calls by what stands behind their first word.
-use Rattle.std.specs.Prelude.{◌≡◌, ◌⊎◌, ℕ, ◌+◌, ◌==◌, List, [], ◌∷◌, Option, Some, None, Result, Ok, Err, alloc_error, codes, ⊤}
-use Rattle.std.specs.List.{slice_split}
+use Rattle.std.specs.Prelude.{◌≡◌, ◌⊎◌, ℕ, ◌+◌, List, [], ◌∷◌, Option, Some, None, Result, Ok, Err, alloc_error, codes, ⊤}
 use Rattle.std.specs.declared.alloc.AllocError.{AllocError}
 use Rattle.id_tree.specs.declared.fault.IdFault.{IdFault}
 use Rattle.id_tree.specs.declared.fault.IdFault.TheVariants as id_fault
@@ -66,10 +65,6 @@ FitAll _ _ = ⊥
 abbrev pub told : List ℕ → Why → Why
 told [] reason = why.Empty
 told (b ∷ bs) reason = reason
-
--- the parts of a word between commas
-abbrev pub parts : List ℕ → List (List ℕ)
-parts word = slice_split (λ b. b == 44) word
 
 -- why a word is not what is wanted
 abbrev pub IsStampCause : List ℕ → Why → Type 0

@@ -1,43 +1,17 @@
 //! Whether a word is what is wanted, and why it is not.
 
 ghost use Rattle.std.specs.Prelude.{◌≡◌, ◌↔◌, IsTrue, IfOk, Some, None, if◌then◌else◌};
-ghost use Rattle.std.specs.List.{list_all};
-ghost use Rattle.report_line.specs.Names.{is_name};
 ghost use Rattle.line_fault.specs.Wanting.{Fits};
-ghost use Rattle.line_fault.specs.Shapes.{TellsFit, parts, stamp_answer, id_answer, told};
+ghost use Rattle.line_fault.specs.Shapes.{TellsFit, stamp_answer, id_answer, told};
 ghost use Rattle.line_fault.specs.declared.wanted.Wanted.TheVariants as wanted;
 
-use crate::cutting::cut_once;
 use crate::fault::{TreeFault, Why};
 use crate::number::is_number;
 use crate::wanted::Wanted;
 use id_tree::{Id, IdFault};
-use report_line::Name;
+use report_line::{is_name, wrong_part};
 use stamp::{Stamp, StampTextFault};
 use std::alloc::{AllocError, Global};
-
-fn is_name(word: &[u8]) -> bool
-    ensures { result ≡ is_name word.now }
-{
-    match Name::from_bytes(word) {
-        Some(_) => true,
-        None => false,
-    }
-}
-
-// Whether each part between commas is a name.
-fn are_parted_names(word: &[u8]) -> bool
-    ensures { result ≡ list_all is_name (parts word.now) }
-{
-    let mut rest = word;
-    while let Some((part, behind)) = cut_once(b',', rest) {
-        if !is_name(part) {
-            return false;
-        }
-        rest = behind;
-    }
-    is_name(rest)
-}
 
 // Whether the word is names parted by commas, or `-` for none.
 fn are_names(word: &[u8]) -> bool
@@ -46,7 +20,10 @@ fn are_names(word: &[u8]) -> bool
     if word == b"-".as_slice() {
         return true;
     }
-    are_parted_names(word)
+    match wrong_part(word) {
+        None => true,
+        Some(_) => false,
+    }
 }
 
 // What is told of a text that is no stamp.

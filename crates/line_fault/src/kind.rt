@@ -5,10 +5,10 @@ ghost use Rattle.line_fault.specs.Reasons.{IsMarked};
 ghost use Rattle.line_fault.specs.Shapes.{IsUnmarked, IsMarkable, IsKindOf, IsMarkedKind, IsNoKind};
 ghost use Rattle.line_fault.specs.declared.kind.Shape.{Shape as AnyShape};
 
-use crate::cutting::cut_once;
 use crate::fault::Why;
 use crate::fitting::told;
 use crate::number::is_number;
+use report_line::cut_once;
 
 /// The calls by what stands behind their first word.
 #[derive(Clone, Copy)]

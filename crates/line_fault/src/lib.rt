@@ -4,7 +4,6 @@
 //! is a call is told to be that.
 #![tactic(auto)]
 
-mod cutting;
 mod explained;
 mod explaining;
 mod fault;

@@ -7,17 +7,7 @@ ghost use Rattle.driver.specs.declared.step.Step.{Step as AnyStep};
 ghost use Rattle.script.specs.Spelling.{FindsOne, SpellsRoot, SpellsStep, SpellsSettle, IsActOf, IsRootOf, IsStepOf};
 
 use driver::{Act, Step};
-use report_line::{Name, Words};
-
-// The name that is the next word.
-fn take_name(words: &mut Words<'_>) -> Option<Name>
-    ensures { MatchOption result ((p : List ℕ) → IsTrue (is_name p) → (rest : List (List ℕ)) → words.old ≢ p ∷ rest) (λ p. IsTrue (is_name p) × (words.old ≡ p ∷ words.new)) }
-{
-    let Some(word) = words.next() else {
-        return None;
-    };
-    Name::from_bytes(word)
-}
+use report_line::{Name, Words, take_name};
 
 // The name that is the only word left.
 fn last_name(words: &mut Words<'_>) -> Option<Name>

@@ -1,7 +1,5 @@
 //! The command `draw`.
 
-ghost use Rattle.std.specs.Prelude.{◌<◌, IfSome, length};
-
 use crate::commented::ScriptForm;
 use crate::copied::desk_of;
 use crate::driving::{ReadScript, Unread, read_script};
@@ -10,9 +8,8 @@ use crate::telling::{tell, tell_all, tell_refusal, tell_unopened, write_all};
 use chains::Chains;
 use client_link::Link;
 use itoa::Buffer;
-use memchr::memchr;
 use picture::{Ending, draw, draw_accepted};
-use report_line::{Name, Names};
+use report_line::{Name, Names, read_names, wrong_part};
 use std::alloc::Global;
 
 /// Why a list of names is not taken.
@@ -22,38 +19,18 @@ enum Unnamed<'a> {
     Memory,
 }
 
-/// What stands in front of the first comma, and what behind it.
-fn cut_part(list: &[u8]) -> Option<(&[u8], &[u8])>
-    ensures { IfSome result (λ parts. length parts.1.now < length list.now) }
-{
-    let at = memchr(b',', list)?;
-    Some((&list[..at], &list[at + 1..]))
-}
-
-/// Adds the name that a part of a list is.
-fn add_name<'a>(names: &mut Names, part: &'a [u8]) -> Result<(), Unnamed<'a>> {
-    let Some(name) = Name::from_bytes(part) else {
+/// The names of a list, which have commas between them; `-` has none.
+fn names_of<'a>(alloc: Global, list: &'a [u8]) -> Result<Names, Unnamed<'a>> {
+    if list != b"-".as_slice()
+        && let Some(part) = wrong_part(list)
+    {
         return Err(Unnamed::Part(part));
-    };
-    match names.push(name) {
-        Ok(()) => Ok(()),
+    }
+    // A list whose parts are names is refused for memory alone.
+    match read_names(alloc, list) {
+        Ok(names) => Ok(names),
         Err(_) => Err(Unnamed::Memory),
     }
-}
-
-/// The names of a list, which are parted by commas; `-` has none.
-fn read_names<'a>(alloc: Global, list: &'a [u8]) -> Result<Names, Unnamed<'a>> {
-    let mut names = Names::new(alloc);
-    if list == b"-".as_slice() {
-        return Ok(names);
-    }
-    let mut rest = list;
-    while let Some((part, behind)) = cut_part(rest) {
-        add_name(&mut names, part)?;
-        rest = behind;
-    }
-    add_name(&mut names, rest)?;
-    Ok(names)
 }
 
 /// Tells that no process has the name that is written so, and answers the status.
@@ -193,7 +170,7 @@ pub fn draw_on<K: Link, F: Link>(
     form: ScriptForm,
     failed: Option<&str>,
 ) -> u8 {
-    match read_names(alloc, failed.unwrap_or("-").as_bytes()) {
+    match names_of(alloc, failed.unwrap_or("-").as_bytes()) {
         Ok(names) => draw_over(alloc, client, faults, form, &names),
         Err(Unnamed::Part(part)) => tell_no_name(alloc, faults, part),
         Err(Unnamed::Memory) => tell_failure(faults, b"recline: memory\n"),
@@ -211,7 +188,7 @@ pub fn draw_records_on<K: Link, F: Link>(
     failed: Option<&str>,
     why: Option<&str>,
 ) -> u8 {
-    let names = match read_names(alloc, failed.unwrap_or("-").as_bytes()) {
+    let names = match names_of(alloc, failed.unwrap_or("-").as_bytes()) {
         Ok(names) => names,
         Err(Unnamed::Part(part)) => return tell_no_name(alloc, faults, part),
         Err(Unnamed::Memory) => return tell_failure(faults, b"recline: memory\n"),

@@ -5,7 +5,7 @@ ghost use Rattle.std.specs.Option.{option_map};
 ghost use Rattle.report_line.specs.View.{action_of};
 ghost use Rattle.id_tree.specs.IdTree.{One};
 ghost use Rattle.event_tree.specs.EventTree.{Leaf};
-ghost use Rattle.chains.specs.Processes.{Name as AnyName, known, newborn, IsKnown, reports_of, last_report, last_epoch, birth_report, id_after, id_at_birth, events_after, registered_id, last_events, target_of, target_after, is_absorbed, reports_by};
+ghost use Rattle.chains.specs.Processes.{Name as AnyName, known, newborn, IsKnown, reports_of, last_report, last_epoch, birth_report, id_after, id_at_birth, events_after, registered_id, last_events, target_of, target_after, is_absorbed};
 ghost use Rattle.chains.specs.Elements.{name_of, element, elements, elements_of, lasting_of, lasting_made, makes_lasting, present_in, present_report, makers_of};
 ghost use Rattle.chains.specs.LastRun.{last_run, run_after};
 ghost use Rattle.chains.specs.Stamps.{stamp_of};
@@ -38,7 +38,7 @@ use crate::position::{Place, Position};
 use crate::prepared::{Prepared, Ready};
 use crate::process::Process;
 use crate::refusal::{Admitted, No};
-use crate::reports::{at_index, nth_by, number_at};
+use crate::reports::{at_index, number_at};
 use crate::state::State;
 use event_tree::Events;
 use id_tree::Id;
@@ -444,17 +444,6 @@ impl Chains {
             epoch: self.epochs[i as usize],
             report,
         })
-    }
-
-    /// Report k with a number of a process, counted from 0. It goes over the accepted reports, and takes no memory.
-    pub fn report_by(&self, process: u32, k: u32) -> Option<&PackedReport>
-        requires { process < length (known self.now.accepted) }
-        ensures { (p : AnyName) → name_of self.now.accepted process ≡ Some p → option_copied result ≡ slice_get (reports_by p self.now.accepted) k }
-    {
-        match nth_by(&self.reports, self.name_of(process), k) {
-            None => None,
-            Some(report) => Some(report),
-        }
     }
 
     /// The events of a place: those of its element, or of the retirement. It takes no memory.

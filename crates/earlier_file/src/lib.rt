@@ -6,7 +6,6 @@
 mod cutting;
 mod fault;
 mod found;
-mod splitting;
 mod walking;
 
 pub use cutting::first_records;

@@ -5,7 +5,7 @@ ghost use Rattle.record_file.specs.File.{header, IsForeign};
 ghost use Rattle.earlier_file.specs.Walks.{IsWalked, IsDamagedWithin, IsUnheaded, IsPlaced, IsUnplaced};
 
 use crate::fault::FileFault;
-use crate::splitting::split_record;
+use record_file::split_record;
 
 const MAGIC: [u8; 7] = *b"RECLINE";
 

@@ -19,4 +19,5 @@ pub use appended::Appended;
 pub use fault::OpenFault;
 pub use kinds::files_are_of_one_kind;
 pub use reach::RecordReach;
+pub use reading::split_record;
 pub use store::Store;

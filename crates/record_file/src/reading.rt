@@ -79,8 +79,10 @@ fn split_long(n: usize, bytes: &[u8]) -> Option<(u32, &[u8], &[u8])>
     Some((u32::from_be_bytes([*a, *b, *c, *d]), line, behind))
 }
 
-/// The epoch and the line of the record that the bytes begin with, and what stands behind it from its gate on.
-pub(crate) fn split_record(version: u8, bytes: &[u8]) -> Option<(u32, &[u8], &[u8])>
+/// The record that the bytes begin with, in a file with this version byte in its header: its epoch, its line, and the bytes after it,
+/// the first of which is its gate. `None` if they begin with no record: its first two bytes are missing or out of range, or the bytes
+/// end before that gate. The first version is the byte `1`, and each other byte is the second.
+pub fn split_record(version: u8, bytes: &[u8]) -> Option<(u32, &[u8], &[u8])>
     ensures none { IfNone result (IsNoRecord version bytes.now) }
     ensures some { IfSome result (λ r. IsSplit version r.0 r.1.now r.2.now bytes.now) }
 {

@@ -17,7 +17,7 @@ use Rattle.histories.specs.Example.{a, b, c, d, left, right, halves, every_step}
 use Rattle.histories.proofs.Example.{Has, leaf, has, apart, both, some_left, some_right, every_step_is_lawful, below}
 use Rattle.chains.specs.Processes.{IsKnown}
 use Rattle.chains.specs.Admission.{AreGrown}
-use Rattle.chains.specs.Folded.{IsFolded, nothing_folded, one_folded}
+use Rattle.chains.specs.Folded.{IsFit, IsFolded, nothing_folded, one_folded}
 use Rattle.chains.specs.Agrees.{BeginsWith, AreReportsOfSteps}
 use Rattle.history_law.specs.Places.{IsPremise}
 use Rattle.history_law.specs.Example.{told, forked, accepted_reports}
@@ -25,7 +25,7 @@ use Rattle.history_law.proofs.Listed.{in_cases, none_in}
 use Rattle.history_law.proofs.Agreeing.{step_of, begin_no_report}
 use Rattle.history_law.proofs.Agreement.{reports_of_steps_agree}
 
-filled : (x : Report) (xs : List Report) → x ∷ xs ≢ []
+pub filled : (x : Report) (xs : List Report) → x ∷ xs ≢ []
 filled x xs e = cc
 
 -- ---- values in the two halves
@@ -94,11 +94,11 @@ l7 = l6 ++ r6 ∷ []
 folded1 : IsFolded l1
 folded1 = one_folded [] (Begin a) nothing_folded refl
 
-unknown_b : ¬ IsKnown l1 b
+pub unknown_b : ¬ IsKnown l1 b
 unknown_b there = elim (in_cases a b [] there) [ inl same ↦ below 97 98 (omega arith) same | inr none ↦ none_in b none ]
 
-folded2 : IsFolded l2
-folded2 = one_folded l1 r1 folded1 (record {
+pub first_fork_fit : IsFit l1 r1
+first_fork_fit = record {
   begun = filled _ _;
   is_known = (0, omega arith, refl);
   living = refl;
@@ -106,7 +106,10 @@ folded2 = one_folded l1 r1 folded1 (record {
   id = refl;
   grown = more_left One (Leaf 0) (Leaf 1) 0 0 1 1 refl (leaf 0) (leaf 1) (omega arith) (omega arith);
   fit = (unknown_b, halved);
-})
+}
+
+folded2 : IsFolded l2
+folded2 = one_folded l1 r1 folded1 first_fork_fit
 
 folded3 : IsFolded l3
 folded3 = one_folded l2 r2 folded2 (record {

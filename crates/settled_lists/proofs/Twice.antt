@@ -1,5 +1,5 @@
 -- The run with two settlements is obeyed.
-use Rattle.std.proofs.Common.{◌≡◌, ◌≢◌, ℕ, zero, suc, ◌≤◌, ◌<◌, Bool, true, false, List, [], ◌∷◌, Some, length, refl, sym, ◌∙◌, ap, subst, inl, inr, arith}
+use Rattle.std.proofs.Common.{◌≡◌, ℕ, zero, suc, ◌≤◌, ◌<◌, Bool, true, false, List, [], ◌∷◌, Some, length, refl, sym, ◌∙◌, ap, subst, inl, inr, arith}
 use Rattle.std.specs.Prelude.{Contains, nat_le, ◌&&◌}
 use Rattle.std.specs.Str.{bytes_eq}
 use Rattle.std.proofs.lemmas.Option.{same_Some, slice_get_within}
@@ -9,6 +9,7 @@ use Rattle.event_tree.specs.EventTree.{EventTree, Leaf}
 use Rattle.event_tree.specs.Values.{value_at, ExceedsOn}
 use Rattle.event_tree.specs.Grown.{IsGrown}
 use Rattle.stamp.specs.declared.stamp.Stamp.{Stamp}
+use Rattle.report_line.specs.declared.report.Action.{Action}
 use Rattle.report_line.specs.declared.report.Action.TheVariants as reported
 use Rattle.report_line.specs.declared.report.NumberedReport.{NumberedReport}
 use Rattle.report_line.specs.declared.report.Report.{Report}
@@ -22,21 +23,20 @@ use Rattle.report_line.specs.histories.StepReports.{report_of}
 use Rattle.histories.specs.Example.{a, b, left, right, halves, act}
 use Rattle.histories.specs.Rules.{IsNewest, Obeys}
 use Rattle.histories.proofs.Bytes.{bytes_same, bytes_are}
-use Rattle.histories.proofs.Example.{Has, leaf, has, apart, both, some_left, some_right, above, below}
+use Rattle.histories.proofs.Example.{Has, leaf, has, apart, both, some_left, some_right, above}
 use Rattle.histories.proofs.Rules.{rules_are_the_law}
 use Rattle.chains.specs.declared.position.Position.{Position}
 use Rattle.chains.specs.declared.position.Position.TheVariants.{At, Retired}
-use Rattle.chains.specs.Processes.{known, IsKnown}
+use Rattle.chains.specs.Processes.{known, expected_id}
 use Rattle.chains.specs.Elements.{name_of, elements, lasting, element}
 use Rattle.chains.specs.Positions.{rank, position_in, is_retired, IsChosen, IsCut}
 use Rattle.chains.specs.Knowledge.{Knows, KnowsAfter}
-use Rattle.chains.specs.Folded.{IsFitReport}
+use Rattle.chains.specs.Folded.{IsFitAction, IsFitReport}
 use Rattle.chains.specs.Greatest.{IsConsistentCut, IsGreatestCut}
 use Rattle.settled_histories.specs.Kept.{Cut, kept}
 use Rattle.history_law.specs.Example.{told, forked}
 use Rattle.history_law.specs.Places.{IsPremise, IsEventAt, place, IsUpTo, IsInCut}
-use Rattle.history_law.proofs.Accepted.{more_left, more_right, halved}
-use Rattle.history_law.proofs.Listed.{in_cases, none_in}
+use Rattle.history_law.proofs.Accepted.{filled, more_left, more_right, halved, unknown_b}
 use Rattle.history_law.proofs.Ordered.{one_event}
 use Rattle.settled_lists.specs.Agreeing.{HasEventsOf}
 use Rattle.settled_lists.specs.Runs.{Run, Made, Accepts, Settles, epoch, current, accepted, IsMarkedReport, of_current, IsObeyed, nothing, made, left_behind, begins, reports, settles}
@@ -155,9 +155,6 @@ l3 = Begin a ∷ told a 1 One (Leaf 1) reported.Check ∷ told a 2 One (Leaf 2) 
 abbrev l4 : List Report
 l4 = Begin a ∷ told a 1 One (Leaf 1) reported.Check ∷ told a 2 One (Leaf 2) (forked b) ∷ told b 1 right (halves 2 0 1) reported.Check ∷ []
 
-filled : (x : Report) (xs : List Report) → x ∷ xs ≢ []
-filled x xs e = cc
-
 first_fit : IsFitReport (Begin a ∷ []) (record { process = a; number = 1; stamp = record { id = One; events = Leaf 1 }; action = reported.Check })
 first_fit = record {
   begun = filled _ _;
@@ -169,29 +166,19 @@ first_fit = record {
   fit = tt;
 }
 
-present_fit : IsFitReport l1 (record { process = a; number = 2; stamp = record { id = One; events = Leaf 2 }; action = reported.Present })
-present_fit = record {
+-- a's second report
+abbrev second_report : Action → NumberedReport
+second_report action = record { process = a; number = 2; stamp = record { id = One; events = Leaf 2 }; action = action }
+
+second_fit : (action : Action) → One ≡ expected_id l1 a action → IsFitAction l1 (second_report action) action → IsFitReport l1 (second_report action)
+second_fit action same tested = record {
   begun = filled _ _;
   is_known = (0, omega arith, refl);
   living = refl;
   number = refl;
-  id = refl;
+  id = same;
   grown = more_left One (Leaf 1) (Leaf 2) 1 1 2 2 refl (leaf 1) (leaf 2) (omega arith) (omega arith);
-  fit = tt;
-}
-
-unknown_b : ¬ IsKnown l1 b
-unknown_b there = elim (in_cases a b [] there) [ inl same ↦ below 97 98 (omega arith) same | inr none ↦ none_in b none ]
-
-fork_fit : IsFitReport l1 (record { process = a; number = 2; stamp = record { id = One; events = Leaf 2 }; action = forked b })
-fork_fit = record {
-  begun = filled _ _;
-  is_known = (0, omega arith, refl);
-  living = refl;
-  number = refl;
-  id = refl;
-  grown = more_left One (Leaf 1) (Leaf 2) 1 1 2 2 refl (leaf 1) (leaf 2) (omega arith) (omega arith);
-  fit = (unknown_b, halved);
+  fit = tested;
 }
 
 child_fit : IsFitReport l3 (record { process = b; number = 1; stamp = record { id = right; events = halves 2 0 1 }; action = reported.Check })
@@ -202,17 +189,6 @@ child_fit = record {
   number = refl;
   id = refl;
   grown = more_right right (Leaf 2) (halves 2 0 1) 2 2 2 3 refl (leaf 2) (has 2 0 1) (omega arith) (omega arith);
-  fit = tt;
-}
-
-check_fit : IsFitReport l1 (record { process = a; number = 2; stamp = record { id = One; events = Leaf 2 }; action = reported.Check })
-check_fit = record {
-  begun = filled _ _;
-  is_known = (0, omega arith, refl);
-  living = refl;
-  number = refl;
-  id = refl;
-  grown = more_left One (Leaf 1) (Leaf 2) 1 1 2 2 refl (leaf 1) (leaf 2) (omega arith) (omega arith);
   fit = tt;
 }
 
@@ -377,7 +353,7 @@ shown_run = stepped_on a after_check 0 checked (act a Present One (Leaf 2)) _ re
 
 begun_run : IsObeyed a begun
 unfolding epoch current accepted status
-begun_run = accepted_on a after_check 0 checked l1 (act a Present One (Leaf 2)) _ refl refl refl shown_run refl present_fit
+begun_run = accepted_on a after_check 0 checked l1 (act a Present One (Leaf 2)) _ refl refl refl shown_run refl (second_fit reported.Present refl tt)
 
 begun_premise : IsPremise a shown l2
 unfolding epoch current accepted
@@ -415,7 +391,7 @@ forked_one = Accepts 1 (told a 2 One (Leaf 2) (forked b)) ∷ Made 1 (act a (For
 
 forked_run : IsObeyed a forked_one
 unfolding epoch current accepted status kept
-forked_run = accepted_on a works_on 1 checked l1 (act a (Fork b right) left (Leaf 2)) _ refl refl refl forks_run refl fork_fit
+forked_run = accepted_on a works_on 1 checked l1 (act a (Fork b right) left (Leaf 2)) _ refl refl refl forks_run refl (second_fit (forked b) refl (unknown_b, halved))
 
 born_run : IsObeyed a (Made 1 (act b Check right (halves 2 0 1)) ∷ forked_one)
 unfolding epoch current status kept
@@ -451,7 +427,7 @@ last_run = stepped_on a settled_twice 2 checked (act a Check One (Leaf 2)) _ ref
 
 pub twice_settled_is_obeyed : TwiceSettledIsObeyed
 unfolding epoch current accepted status kept
-twice_settled_is_obeyed = accepted_on a settled_twice 2 checked l1 (act a Check One (Leaf 2)) _ refl refl refl last_run refl check_fit
+twice_settled_is_obeyed = accepted_on a settled_twice 2 checked l1 (act a Check One (Leaf 2)) _ refl refl refl last_run refl (second_fit reported.Check refl tt)
 
 pub checkpoints_are_current : CheckpointsAreCurrent
 unfolding epoch current kept

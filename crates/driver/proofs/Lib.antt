@@ -18,5 +18,4 @@ pub mod Born
 pub mod InLine
 pub mod Unknown
 pub mod Settlement
-pub mod KeptReports
 pub mod Recovery

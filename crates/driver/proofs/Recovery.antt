@@ -30,8 +30,8 @@ use Rattle.driver.specs.Settling.{HasUnknownName, IsClosedLine, Settles, Refuses
 use Rattle.driver.proofs.Born.{known_is_born}
 use Rattle.driver.proofs.ElementEvents.{reported_of}
 use Rattle.driver.proofs.InLine.{position_at}
-use Rattle.driver.proofs.KeptReports.{kept_hands_over}
 use Rattle.history_law.specs.Places.{IsPremise, IsClosedCut}
+use Rattle.settled_lists.proofs.KeptReports.{kept_hands_over}
 
 -- ---- the greatest cut is a line to return to
 
@@ -125,7 +125,7 @@ pub settlement_keeps_reports : SettlementKeepsReports
 settlement_keeps_reports old new failed line premise is_line settles =
     ap (λ (r : Name). reported_of r new.history) settles.root
     ∙ (ap (reported_of old.root) settles.history
-    ∙ kept_hands_over old.root old.history is_line.numbers (positions_by line (reported old)) settles.cut premise (consistent_line old failed line premise is_line) settles.has_events)
+    ∙ kept_hands_over old.root old.history (reported old) is_line.numbers (positions_by line (reported old)) settles.cut premise (consistent_line old failed line premise is_line) settles.has_events)
 
 -- and the history stays lawful
 pub settled_is_lawful : (old new : Chronicle) (failed : List Name) (line : List NamedPosition) → IsPremise old.root old.history (reported old) → IsClosedLine old failed line

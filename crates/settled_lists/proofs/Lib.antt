@@ -3,6 +3,7 @@ pub mod Folding
 pub mod Limits
 pub mod Agreeing
 pub mod Numbered
+pub mod KeptReports
 pub mod Born
 pub mod Made
 pub mod Reports

@@ -1,5 +1,5 @@
 -- The run that a trace makes: that there is one, that each is obeyed, and that there is one only.
-use Rattle.std.proofs.Common.{◌≡◌, ℕ, Bool, true, false, List, [], ◌∷◌, refl, sym, ◌∙◌, ap, subst}
+use Rattle.std.proofs.Common.{◌≡◌, ℕ, List, [], ◌∷◌, refl, sym, ◌∙◌, ap, subst}
 use Rattle.std.proofs.Math.Path.{fun_ext}
 use Rattle.report_line.specs.declared.call.Call.{Call}
 use Rattle.report_line.specs.declared.call.Call.TheVariants as calls
@@ -16,6 +16,7 @@ use Rattle.propagate.proofs.Outcomes.{one_cut, one_failed_set}
 use Rattle.settled_histories.specs.Kept.{Cut}
 use Rattle.settled_lists.specs.Agreeing.{HasEventsOf}
 use Rattle.settled_lists.specs.Runs.{Run, Made, Settles, epoch, current, accepted, IsObeyed, nothing}
+use Rattle.settled_lists.proofs.KeptReports.{same_test}
 use Rattle.settled_lists.proofs.Runs.{agrees_now, headline_holds}
 use Rattle.settled_turns.specs.Traces.{Trace, Stepped, Turned, AreTurns, IsSettledBy, Adds, Extends, ProcessesObey}
 use Rattle.settled_turns.specs.Obeyed.{IsHeldAfter, TurnsMakeARun, TheRunIsObeyed, TheRunIsOne, FromNothing, HeadlineOfTurns}
@@ -78,11 +79,6 @@ headline_of_turns root run later held after trace obeyed holds turns processes e
     )
 
 -- ---- there is one only
-
-pub same_test : (x y : Bool) → (x ≡ true → y ≡ true) → (y ≡ true → x ≡ true) → x ≡ y
-same_test true y there back = sym (there refl)
-same_test false true there back = back refl
-same_test false false there back = refl
 
 -- cuts with the events of one line are one
 one_test : (root : Name) (run : Run) (line : List Position) (a b : Cut) → HasEventsOf root (current run) (accepted run) line a → HasEventsOf root (current run) (accepted run) line b → a ≡ b

@@ -1,11 +1,12 @@
--- A report of a world is at or before a line just where its event is, so what a settlement keeps hands over the settled list.
-use Rattle.std.proofs.Common.{◌≡◌, ℕ, zero, suc, ◌+◌, ◌≤◌, ◌<◌, Bool, true, false, List, [], ◌∷◌, ◌++◌, Option, Some, None, inl, inr, refl, sym, ◌∙◌, ap, subst, append-nil, arith}
+-- A report is at or before a line just where its event is, so what a settlement keeps of a history hands over the settled reports.
+use Rattle.std.proofs.Common.{◌≡◌, ◌⊎◌, ℕ, zero, suc, ◌+◌, ◌≤◌, ◌<◌, Bool, true, false, List, [], ◌∷◌, ◌++◌, Option, Some, None, length, inl, inr, refl, sym, ◌∙◌, ap, subst, append-nil, arith}
 use Rattle.std.specs.Prelude.{Contains, slice_get, filter}
 use Rattle.std.specs.List.{cons_option, filter_map}
 use Rattle.std.specs.Option.{option_map, option_map_or, is_some}
 use Rattle.std.specs.Str.{bytes_eq}
 use Rattle.std.proofs.lemmas.Bool.{cases_Bool, cases_lt, cond-true, cond-false}
 use Rattle.std.proofs.lemmas.List.Elements.{filter-append}
+use Rattle.std.proofs.lemmas.List.Sums.{length-filter}
 use Rattle.std.proofs.lemmas.Option.{cond_some}
 use Rattle.id_tree.specs.IdTree.{One}
 use Rattle.event_tree.specs.EventTree.{Leaf}
@@ -23,34 +24,36 @@ use Rattle.report_line.specs.histories.History.{Name, History, Birth, Does, Even
 use Rattle.report_line.specs.histories.Lawful.{IsLawful, start, next}
 use Rattle.report_line.specs.histories.Events.{Occurs, to_next}
 use Rattle.report_line.specs.histories.StepReports.{reporting_steps, report_by, report_of, reports, IsReportOf, newest, earlier as before_step}
-use Rattle.histories.proofs.Bytes.{bytes_are}
+use Rattle.histories.proofs.Bytes.{bytes_same, bytes_are}
 use Rattle.histories.proofs.Later.{birth_first}
 use Rattle.histories.proofs.Reported.{IsEventAs, event_of_report, birth_of_report, says, own_step, no_begin, number_up_to, report_entry, of_step, of_earlier}
 use Rattle.histories.proofs.Retiring.{none_after}
 use Rattle.chains.specs.declared.position.Position.{Position}
 use Rattle.chains.specs.declared.position.Position.TheVariants.{At, Retired}
 use Rattle.chains.specs.Agrees.{Agrees}
-use Rattle.chains.specs.Elements.{elements_of, name_of}
+use Rattle.chains.specs.Elements.{elements_of, makers_of, name_of}
+use Rattle.chains.specs.Folded.{IsFolded}
 use Rattle.chains.specs.Greatest.{IsConsistentCut}
 use Rattle.chains.specs.Positions.{position_in}
-use Rattle.chains.specs.Processes.{is_numbered_of, reports_of, target_of}
+use Rattle.chains.specs.Processes.{known, is_numbered_of, reports_by, reports_of, target_of}
 use Rattle.chains.proofs.Counting.{elements_is}
 use Rattle.chains.proofs.Numbering.{last_number}
 use Rattle.history_law.specs.Places.{IsPremise, IsEventAt, place, IsUpTo, IsInCut}
-use Rattle.history_law.proofs.Agreeing.{in_reports, begin_no_report, number_order, agreed}
-use Rattle.history_law.proofs.Listed.{later_in, at_in, made_in, last_in}
+use Rattle.history_law.proofs.Agreeing.{in_reports, begin_no_report, number_at, number_order, agreed}
+use Rattle.history_law.proofs.Listed.{at_in, in_at, at_append, in_filter, filter_in, made_in, last_in}
 use Rattle.history_law.proofs.Ordered.{one_event, retired_by_report, same_name}
 use Rattle.history_law.proofs.Placed.{root_occurs}
 use Rattle.settled_histories.specs.Kept.{Cut, IsClosed, kept}
 use Rattle.settled_histories.proofs.Carried.{each_report_is_kept, steps_kept}
 use Rattle.settled_histories.proofs.Follows.{kept_taken, kept_left, closed_before}
 use Rattle.settled_lists.specs.Agreeing.{HasEventsOf}
-use Rattle.settled_lists.specs.Settled.{limits_of, is_settled, settled}
+use Rattle.settled_lists.specs.Settled.{position_for, number_for, limit, limits_of, is_settled, settled_by}
 use Rattle.settled_lists.proofs.Agreeing.{closed, report_in_cut}
-use Rattle.settled_lists.proofs.Closing.{limits_of_cut}
+use Rattle.settled_lists.proofs.Closing.{limits_of_cut, maker_number}
 use Rattle.settled_lists.proofs.Folding.{within, is_within}
+use Rattle.settled_lists.proofs.Limits.{maker_makes}
+use Rattle.settled_lists.proofs.Made.{has_made}
 use Rattle.settled_lists.proofs.Numbered.{told, numbered_by, numbered_made, IsMadeBy, IsLimit}
-use Rattle.driver.proofs.ElementEvents.{reported_of}
 
 -- ---- the event of an element, by the number of the report that made it
 
@@ -163,28 +166,67 @@ module _ (root : Name) (h : History) (accepted : List Report) (premise : IsPremi
       up_to_element k n is.0 up.0 is.1 up.1 up.2 (made_at root h accepted premise.agrees r.process n is.0 is.2)
   up_to_limit Retired n up is = up_to_retirement n is.0 is.1
 
+-- ---- a report that is not accepted is past the limit of its process
+
+-- no limit is past what is accepted
+pub limit_within : (accepted : List Report) (p : Name) → IsFolded accepted → (k : Position) → limit accepted p k ≤ reports_of p accepted
+limit_within accepted p folded (At zero) = omega arith
+limit_within accepted p folded Retired = omega arith
+limit_within accepted p folded (At (suc k)) = by (slice_get (makers_of p accepted) k) refl
+  where
+    by : (o : Option Report) → slice_get (makers_of p accepted) k ≡ o → option_map_or (number_for p) o 0 ≤ reports_of p accepted
+    by None is = omega arith
+    by (Some m) is =
+        let makes = maker_makes p accepted k m is in
+        (has_made folded p (number_for p m) makes.0 (maker_number accepted folded p k m makes.0 is makes.2)).few
+
+pub counted : (p : Name) (list : List Report) → length (reports_by p list) ≡ reports_of p list
+counted p list = length-filter (is_numbered_of p) list
+
+-- of the reports of the process that are made, one is accepted or has a greater number than those that are
+accepted_or_past : (root : Name) (h : History) (accepted : List Report) (r : NumberedReport) (e : Event) → Agrees root h accepted → IsReportOf root h (Numbered r) e
+    → Contains accepted (Numbered r) ⊎ (reports_of r.process accepted < r.number)
+accepted_or_past root h accepted r e agrees of =
+    let p = r.process in
+    let first = agrees.first_reports p in
+    let at = at_in (reports_by p (reports root h)) (Numbered r) (filter_in (is_numbered_of p) (reports root h) (Numbered r) (in_reports root h (Numbered r) e of) (bytes_same p p refl)) in
+    let number : r.number ≡ at.0 + 1 = number_at root p h at.0 r at.2 in
+    let count : length (reports_by p accepted) ≡ reports_of p accepted = counted p accepted in
+    elim (at_append (reports_by p accepted) first.0 at.0 (Numbered r) (ap (λ (l : List Report). slice_get l at.0) (sym first.1) ∙ at.2)) [
+      | inl there ↦ inl (in_filter (is_numbered_of p) accepted (Numbered r) (in_at (reports_by p accepted) at.0 (Numbered r) there)).0
+      | inr back ↦ (let past : at.0 ≡ length (reports_by p accepted) + back.0 = back.1 in inr (omega arith))
+    ]
+
 -- ---- a report is settled just where its event is in the cut
 
-same_test : (x y : Bool) → (x ≡ true → y ≡ true) → (y ≡ true → x ≡ true) → x ≡ y
+pub same_test : (x y : Bool) → (x ≡ true → y ≡ true) → (y ≡ true → x ≡ true) → x ≡ y
 same_test true y there back = sym (there refl)
 same_test false true there back = back refl
 same_test false false there back = refl
 
-module _ (root : Name) (h : History) (failed : List ℕ) (line : List Position) (cut : Cut) (premise : IsPremise root h (reported_of root h))
-    (is_one : IsConsistentCut (reported_of root h) failed line) (has : HasEventsOf root h (reported_of root h) line cut) where
-  in_cut_settled : (r : NumberedReport) (e : Event) → IsReportOf root h (Numbered r) e → IsInCut root h (reported_of root h) line e → is_settled (limits_of (reported_of root h) line) (Numbered r) ≡ true
+module _ (root : Name) (h : History) (accepted : List Report) (failed : List ℕ) (line : List Position) (cut : Cut) (premise : IsPremise root h accepted)
+    (is_one : IsConsistentCut accepted failed line) (has : HasEventsOf root h accepted line cut) where
+  in_cut_settled : (r : NumberedReport) (e : Event) → IsReportOf root h (Numbered r) e → IsInCut root h accepted line e → is_settled (limits_of accepted line) (Numbered r) ≡ true
   in_cut_settled r e of inside =
-      let named : name_of (reported_of root h) inside.process ≡ Some r.process = inside.of_process ∙ ap Some (event_of_report root h e r of).process in
-      let bound = limits_of_cut (reported_of root h) failed line premise.folded is_one.is_cut inside.process r.process named in
-      is_within r.number (limits_of (reported_of root h) line r.process)
-      (up_to_limit root h (reported_of root h) premise inside.process r e named of (position_in line inside.process) (limits_of (reported_of root h) line r.process) inside.up_to bound)
+      let named : name_of accepted inside.process ≡ Some r.process = inside.of_process ∙ ap Some (event_of_report root h e r of).process in
+      let bound = limits_of_cut accepted failed line premise.folded is_one.is_cut inside.process r.process named in
+      is_within r.number (limits_of accepted line r.process)
+      (up_to_limit root h accepted premise inside.process r e named of (position_in line inside.process) (limits_of accepted line r.process) inside.up_to bound)
 
-  settled_as_cut : (r : Report) (e : Event) → IsReportOf root h r e → cut e ≡ is_settled (limits_of (reported_of root h) line) r
+  settled_in_cut : (r : NumberedReport) (e : Event) → IsReportOf root h (Numbered r) e → r.number ≤ limits_of accepted line r.process → IsInCut root h accepted line e
+  settled_in_cut r e of less =
+      elim (accepted_or_past root h accepted r e premise.agrees of) [
+        | inl at ↦ report_in_cut root h accepted failed line premise r e at less of
+        | inr past ↦
+            (let bound = limit_within accepted r.process premise.folded (position_for (known accepted) line r.process) in
+            absurd (omega arith))
+      ]
+
+  settled_as_cut : (r : Report) (e : Event) → IsReportOf root h r e → cut e ≡ is_settled (limits_of accepted line) r
   settled_as_cut (Begin q) e of = absurd (begin_no_report root h q e of)
   settled_as_cut (Numbered r) e of =
-      let at : Contains (reported_of root h) (Numbered r) = later_in (Begin root) (Numbered r) (reports root h) (in_reports root h (Numbered r) e of) in
-      same_test (cut e) (is_settled (limits_of (reported_of root h) line) (Numbered r)) (λ is. in_cut_settled r e of ((has e).0 is))
-      (λ is. (has e).1 (report_in_cut root h (reported_of root h) failed line premise r e at (within r.number (limits_of (reported_of root h) line r.process) is) of))
+      same_test (cut e) (is_settled (limits_of accepted line) (Numbered r)) (λ is. in_cut_settled r e of ((has e).0 is))
+      (λ is. (has e).1 (settled_in_cut r e of (within r.number (limits_of accepted line r.process) is)))
 
 -- ---- what is kept makes the same reports, in order
 
@@ -247,8 +289,10 @@ kept_reports {root} (next {h = h} {s = s} {before = b} lawful living allowed) cu
           ∙ sym (filter-append test (reports root h) new))))
     ]
 
-pub kept_hands_over : (root : Name) (h : History) (failed : List ℕ) (line : List Position) (cut : Cut) → IsPremise root h (reported_of root h)
-    → IsConsistentCut (reported_of root h) failed line → HasEventsOf root h (reported_of root h) line cut → reported_of root (kept cut h) ≡ settled (reported_of root h) line
-kept_hands_over root h failed line cut premise is_one has =
+-- What is kept of a history hands over just those of its reports that are at or before the line, in the same order.
+pub kept_hands_over : (root : Name) (h : History) (accepted : List Report) (failed : List ℕ) (line : List Position) (cut : Cut) → IsPremise root h accepted
+    → IsConsistentCut accepted failed line → HasEventsOf root h accepted line cut
+    → Begin root ∷ reports root (kept cut h) ≡ settled_by (limits_of accepted line) (Begin root ∷ reports root h)
+kept_hands_over root h accepted failed line cut premise is_one has =
     ap (λ (l : List Report). Begin root ∷ l)
-    (kept_reports premise.lawful cut (is_settled (limits_of (reported_of root h) line)) (closed root h (reported_of root h) failed line premise cut is_one has) (settled_as_cut root h failed line cut premise is_one has))
+    (kept_reports premise.lawful cut (is_settled (limits_of accepted line)) (closed root h accepted failed line premise cut is_one has) (settled_as_cut root h accepted failed line cut premise is_one has))

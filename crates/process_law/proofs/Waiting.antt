@@ -1,5 +1,5 @@
 -- The account with a retirement and a message that a settlement keeps, step by step.
-use Rattle.std.proofs.Common.{◌≡◌, ◌≢◌, ◌⊎◌, ℕ, zero, suc, ◌+◌, ◌≤◌, ◌<◌, Bool, true, false, Some, List, [], ◌∷◌, length, inl, inr, refl, sym, ◌∙◌, ap, subst, arith}
+use Rattle.std.proofs.Common.{◌≡◌, ◌⊎◌, ℕ, zero, suc, ◌≤◌, ◌<◌, Bool, true, false, Some, List, [], ◌∷◌, inl, inr, refl, sym, ◌∙◌, ap, subst, arith}
 use Rattle.std.specs.Prelude.{Contains, IsTrue, nat_le, ◌||◌, ◌&&◌, drop}
 use Rattle.std.specs.Str.{bytes_eq}
 use Rattle.std.proofs.lemmas.List.Elements.{All-from_recursion}
@@ -12,7 +12,6 @@ use Rattle.event_tree.specs.Join.{IsJoin}
 use Rattle.event_tree.specs.Values.{IsAtOrBelow, value_at, ExceedsOn}
 use Rattle.stamp.specs.declared.stamp.Stamp.{Stamp}
 use Rattle.report_line.specs.declared.call.Call.TheVariants as calls
-use Rattle.report_line.specs.declared.reply.Reply.{Reply}
 use Rattle.report_line.specs.declared.reply.Reply.TheVariants.{Accepted, Settled}
 use Rattle.report_line.specs.declared.report.Action.TheVariants as reported
 use Rattle.report_line.specs.declared.report.NumberedReport.{NumberedReport}
@@ -32,12 +31,11 @@ use Rattle.histories.proofs.Rules.{living_is_newest, waiting}
 use Rattle.histories.proofs.Status.{root_holds}
 use Rattle.chains.specs.declared.position.Position.{Position}
 use Rattle.chains.specs.declared.position.Position.TheVariants as positions
-use Rattle.chains.specs.Processes.{known, IsKnown, target_of}
+use Rattle.chains.specs.Processes.{known, IsKnown}
 use Rattle.chains.specs.Elements.{name_of, element}
 use Rattle.chains.specs.Positions.{rank, position_in, IsChosen, IsCut}
 use Rattle.chains.specs.Knowledge.{Knows, KnowsAfter}
-use Rattle.chains.specs.Held.{Held, counting, with_report, with_settlement}
-use Rattle.chains.specs.Admission.{report_limit, process_limit, FitsOrNot, IsRepeated, IsActionReply, IsStampReply, IsWaitingReply, IsStandingReply, IsReportReply}
+use Rattle.chains.specs.Held.{Held, with_report, with_settlement}
 use Rattle.chains.specs.Failures.{IsFailedSet}
 use Rattle.chains.specs.Folded.{IsFitReport, IsFolded, nothing_folded, one_folded, IsReached}
 use Rattle.chains.specs.Greatest.{IsGreatestCut}
@@ -45,8 +43,8 @@ use Rattle.chains.specs.Settled.{kept_at, IsSettled}
 use Rattle.chains.specs.Turns.{fine, IsTurn}
 use Rattle.history_law.specs.Example.{told, forked}
 use Rattle.history_law.specs.Places.{IsEventAt, place, IsUpTo, IsInCut}
-use Rattle.history_law.proofs.Accepted.{more_left, more_right, halved as parts_of_one}
-use Rattle.history_law.proofs.Listed.{first_in, later_in, in_cases, none_in}
+use Rattle.history_law.proofs.Accepted.{filled, more_left, more_right, first_fork_fit}
+use Rattle.history_law.proofs.Listed.{first_in, later_in, none_in}
 use Rattle.history_law.proofs.Ordered.{one_event}
 use Rattle.settled_histories.specs.Kept.{Cut, kept as kept_of}
 use Rattle.settled_lists.specs.Agreeing.{HasEventsOf}
@@ -55,6 +53,7 @@ use Rattle.settled_lists.proofs.Folding.{within, is_within}
 use Rattle.settled_turns.specs.Traces.{IsSettledBy}
 use Rattle.settled_turns.specs.Example.{marked}
 use Rattle.settled_turns.proofs.Following.{one_settlement}
+use Rattle.settled_turns.proofs.Written.{h1, begins_turn, room, stamp_passes, report_passes, number_same}
 use Rattle.process.specs.declared.handed.Retirement.{Retirement}
 use Rattle.process.specs.Steps.{Sends, HandsOver, Tells, Receives, Retires, Absorbs}
 use Rattle.process_law.specs.Accounts.{Send, Again, Check, Fork, Begin as Begins, Retire, Absorb, Return, Doing, Account, made}
@@ -176,22 +175,8 @@ l3 = Begin a ∷ Numbered fork_report ∷ Numbered check_report ∷ []
 abbrev l4 : List Report
 l4 = Begin a ∷ Numbered fork_report ∷ Numbered check_report ∷ Numbered end_report ∷ []
 
-filled : (x : Report) (xs : List Report) → x ∷ xs ≢ []
-filled x xs e = cc
-
-unknown_b : ¬ IsKnown l1 b
-unknown_b there = elim (in_cases a b [] there) [ inl same ↦ below 97 98 (omega arith) same | inr none ↦ none_in b none ]
-
 fork_fit : IsFitReport l1 fork_report
-fork_fit = record {
-  begun = filled _ _;
-  is_known = (0, omega arith, refl);
-  living = refl;
-  number = refl;
-  id = refl;
-  grown = more_left One (Leaf 0) (Leaf 1) 0 0 1 1 refl (leaf 0) (leaf 1) (omega arith) (omega arith);
-  fit = (unknown_b, parts_of_one);
-}
+fork_fit = first_fork_fit
 
 check_fit : IsFitReport l2 check_report
 check_fit = record {
@@ -482,29 +467,6 @@ settles_8 = record {
 
 -- ---- the turns: the tests let each report pass
 
-room : (held : Held) (r : Report) → held.front < report_limit → length (known held.accepted) < process_limit → FitsOrNot held r (Accepted (held.front + 1))
-room held r few less = inr (λ full. omega arith, inr (λ full. (let over = full.1 in omega arith), refl))
-
-stamp_passes : (held : Held) (r : NumberedReport) (answer : Reply) → IsFitReport held.accepted r → IsActionReply held r r.action answer → IsStampReply held r r.action answer
-stamp_passes held r answer fit later = inr (λ other. other fit.id, inr (λ low. low fit.grown, later))
-
-report_passes : (held : Held) (mark : ℕ) (r : NumberedReport) (answer : Reply) → IsFitReport held.accepted r → mark ≡ held.epoch → ¬ IsRepeated held mark r
-    → IsWaitingReply held r r.action answer → IsReportReply held mark (Numbered r) answer
-report_passes held mark r answer fit same fresh later =
-    inr (fit.begun, inr (λ unknown. unknown fit.is_known, inr (fresh, inr (λ other. other same, standing))))
-  where
-    standing : IsStandingReply (target_of r.process held.accepted) held r answer
-    standing = subst (λ o. IsStandingReply o held r answer) (sym fit.living) (inr (λ other. other fit.number, later))
-
-number_same : (x y : NumberedReport) → Some (Numbered x) ≡ Some (Numbered y) → x.number ≡ y.number
-number_same x y is = cc
-
-abbrev h0 : Held
-h0 = counting []
-
-abbrev h1 : Held
-h1 = with_report h0 (record { epoch = 0; report = Begin a })
-
 abbrev h2 : Held
 h2 = with_report h1 (record { epoch = 0; report = Numbered fork_report })
 
@@ -519,9 +481,6 @@ h5 = with_settlement (kept_at h4 the_line)
 
 abbrev h6 : Held
 h6 = with_report h5 (record { epoch = 1; report = Numbered absorb_report })
-
-begins_turn : IsTurn h0 (marked 0 (Begin a)) (Accepted 1) h1
-begins_turn = (fine, (inr (λ other. other refl, room h0 (Begin a) (omega arith) (omega arith)), refl))
 
 fork_turn : IsTurn h1 (marked 0 (Numbered fork_report)) (Accepted 2) h2
 fork_turn = (

@@ -142,13 +142,13 @@ w2 = made_parts w3.0
 
 -- ---- the tests let a report pass
 
-room : (held : Held) (r : Report) → held.front < report_limit → length (known held.accepted) < process_limit → FitsOrNot held r (Accepted (held.front + 1))
+pub room : (held : Held) (r : Report) → held.front < report_limit → length (known held.accepted) < process_limit → FitsOrNot held r (Accepted (held.front + 1))
 room held r few less = inr (λ full. omega arith, inr (λ full. (let over = full.1 in omega arith), refl))
 
-stamp_passes : (held : Held) (r : NumberedReport) (answer : Reply) → IsFitReport held.accepted r → IsActionReply held r r.action answer → IsStampReply held r r.action answer
+pub stamp_passes : (held : Held) (r : NumberedReport) (answer : Reply) → IsFitReport held.accepted r → IsActionReply held r r.action answer → IsStampReply held r r.action answer
 stamp_passes held r answer fit later = inr (λ other. other fit.id, inr (λ low. low fit.grown, later))
 
-report_passes : (held : Held) (mark : ℕ) (r : NumberedReport) (answer : Reply) → IsFitReport held.accepted r → mark ≡ held.epoch → ¬ IsRepeated held mark r
+pub report_passes : (held : Held) (mark : ℕ) (r : NumberedReport) (answer : Reply) → IsFitReport held.accepted r → mark ≡ held.epoch → ¬ IsRepeated held mark r
     → IsWaitingReply held r r.action answer → IsReportReply held mark (Numbered r) answer
 report_passes held mark r answer fit same fresh later =
     inr (fit.begun, inr (λ unknown. unknown fit.is_known, inr (fresh, inr (λ other. other same, standing))))
@@ -158,10 +158,10 @@ report_passes held mark r answer fit same fresh later =
 
 -- ---- what is held, turn by turn
 
-abbrev h0 : Held
+abbrev pub h0 : Held
 h0 = counting []
 
-abbrev h1 : Held
+abbrev pub h1 : Held
 h1 = with_report h0 (record { epoch = 0; report = Begin a })
 
 abbrev h2 : Held
@@ -179,10 +179,10 @@ h5 = with_report h4 (record { epoch = 1; report = Numbered fork })
 abbrev h6 : Held
 h6 = with_report h5 (record { epoch = 1; report = Numbered child_check })
 
-begins_turn : IsTurn h0 (marked 0 (Begin a)) (Accepted 1) h1
+pub begins_turn : IsTurn h0 (marked 0 (Begin a)) (Accepted 1) h1
 begins_turn = (fine, (inr (λ other. other refl, room h0 (Begin a) (omega arith) (omega arith)), refl))
 
-number_same : (x y : NumberedReport) → Some (Numbered x) ≡ Some (Numbered y) → x.number ≡ y.number
+pub number_same : (x y : NumberedReport) → Some (Numbered x) ≡ Some (Numbered y) → x.number ≡ y.number
 number_same x y is = cc
 
 check_turn : IsTurn h1 (marked 0 (Numbered check)) (Accepted 2) h2

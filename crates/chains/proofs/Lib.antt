@@ -31,6 +31,7 @@ pub mod Copying
 pub mod Putting
 pub mod Refusing
 pub mod FirstUnknown
+pub mod OneAnswer
 pub mod LineLimits
 pub mod LineReports
 pub mod LineElements

@@ -1,5 +1,4 @@
 pub mod Numbers
-pub mod OneAnswer
 pub mod Running
 pub mod Writing
 pub mod Recording

@@ -12,6 +12,7 @@ use Rattle.report_line.specs.declared.reply.Reply.TheVariants.{Accepted, Old, No
 use Rattle.chains.specs.Held.{Held}
 use Rattle.chains.specs.Admission.{Passes}
 use Rattle.chains.specs.Turns.{PassesSettle}
+use Rattle.chains.proofs.OneAnswer.{one_answer, one_settling}
 use Rattle.chains.proofs.Passed.{present_epoch}
 use Rattle.desk.specs.Records.{marked, AdmitsCall, Admits, Opens, no_records, one_more}
 use Rattle.desk.specs.Files.{MayStandFor, IsPending}
@@ -19,7 +20,6 @@ use Rattle.desk.specs.Openings.{Reaches, IsLineOfNone, IsReportRefusedBy, IsSett
 use Rattle.desk.specs.declared.fault.DeskFault.{DeskFault}
 use Rattle.desk.specs.declared.fault.DeskFault.TheVariants.{Foreign, Damaged, Line, Refused, Device, Memory}
 use Rattle.desk.specs.declared.turn.Turn.{Turn}
-use Rattle.desk.proofs.OneAnswer.{one_answer, one_settling}
 use Rattle.desk.proofs.OneOpening.{first_same, rest_same, both_same, same_call, one_opening}
 
 -- ---- each record is admitted over what those before it come to

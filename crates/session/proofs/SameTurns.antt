@@ -14,8 +14,8 @@ use Rattle.chains.specs.Processes.{Name, known, IsKnown}
 use Rattle.chains.specs.Held.{Held}
 use Rattle.chains.specs.Failures.{IsFirstUnknown}
 use Rattle.chains.specs.Turns.{Fate, fine, memory, before, unknown, no_memory, IsLineReply, IsGarbageReply, IsStateReply, IsQuestionTurn, IsReported, IsSettleAnswered, IsTurn}
-use Rattle.desk.proofs.OneAnswer.{one, one_answer, one_settling}
 use Rattle.chains.proofs.FirstUnknown.{one_first, none_first}
+use Rattle.chains.proofs.OneAnswer.{one, one_answer, one_settling}
 use Rattle.reasons.specs.Shown.{IsLineShown, IsShown}
 use Rattle.line_text.specs.Questions.{IsChosenFor}
 use Rattle.session.proofs.ChosenTexts.{one_for}

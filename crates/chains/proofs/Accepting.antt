@@ -4,8 +4,8 @@ use Rattle.std.specs.Prelude.{◌||◌}
 use Rattle.std.specs.Option.{is_some, unwrap_or}
 use Rattle.std.specs.Str.{bytes_eq}
 use Rattle.std.proofs.lemmas.List.Sums.{sum_by-append}
-use Rattle.report_line.specs.declared.report.Action.{Action}
-use Rattle.report_line.specs.declared.report.Action.TheVariants.{Check, Fork}
+use Rattle.report_line.specs.declared.report.ReportKind.{ReportKind}
+use Rattle.report_line.specs.declared.report.ReportKind.TheVariants.{Check, Fork}
 use Rattle.report_line.specs.declared.report.NumberedReport.{NumberedReport}
 use Rattle.report_line.specs.declared.report.Report.{Report}
 use Rattle.report_line.specs.declared.report.Report.TheVariants.{Numbered}
@@ -91,16 +91,16 @@ some_if true x = refl
 some_if false x = refl
 
 -- no process is born by it but a new one
-pub no_birth : (q : Name) (r : NumberedReport) (a : Action) → ((child : Name) → child_of a ≡ Some child → q ≢ child) → is_birth_of q (Numbered (doing r a)) ≡ false
+pub no_birth : (q : Name) (r : NumberedReport) (a : ReportKind) → ((child : Name) → child_of a ≡ Some child → q ≢ child) → is_birth_of q (Numbered (doing r a)) ≡ false
 no_birth q r (Fork forked) f = other_bytes q forked.child (f forked.child refl)
 no_birth q r _ f = refl
 
-pub own_lasts : (r : NumberedReport) (a : Action) → ((child : Name) → child_of a ≡ Some child → r.process ≢ child) → is_some (lasting_by r.process r a) ≡ is_check a
+pub own_lasts : (r : NumberedReport) (a : ReportKind) → ((child : Name) → child_of a ≡ Some child → r.process ≢ child) → is_some (lasting_by r.process r a) ≡ is_check a
 own_lasts r Check f = some_if (bytes_eq r.process r.process) r.stamp ∙ same_bytes r.process
 own_lasts r (Fork forked) f = some_if (bytes_eq r.process forked.child) (record { id = forked.given; events = r.stamp.events }) ∙ other_bytes r.process forked.child (f forked.child refl)
 own_lasts r _ f = refl
 
-pub other_lasts : (q : Name) (r : NumberedReport) (a : Action) → q ≢ r.process → ((child : Name) → child_of a ≡ Some child → q ≢ child) → is_some (lasting_by q r a) ≡ false
+pub other_lasts : (q : Name) (r : NumberedReport) (a : ReportKind) → q ≢ r.process → ((child : Name) → child_of a ≡ Some child → q ≢ child) → is_some (lasting_by q r a) ≡ false
 other_lasts q r Check d f = some_if (bytes_eq q r.process) r.stamp ∙ other_bytes q r.process d
 other_lasts q r (Fork forked) d f = some_if (bytes_eq q forked.child) (record { id = forked.given; events = r.stamp.events }) ∙ other_bytes q forked.child (f forked.child refl)
 other_lasts q r _ d f = refl

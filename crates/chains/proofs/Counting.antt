@@ -8,8 +8,8 @@ use Rattle.std.specs.Cmp.Lexicographic.{nat_list_eq_equiv}
 use Rattle.std.proofs.lemmas.Bool.{true≢false}
 use Rattle.std.proofs.lemmas.Map.Views.{list_any-from_Contains}
 use Rattle.stamp.specs.declared.stamp.Stamp.{Stamp}
-use Rattle.report_line.specs.declared.report.Action.{Action}
-use Rattle.report_line.specs.declared.report.Action.TheVariants.{Present, Fork}
+use Rattle.report_line.specs.declared.report.ReportKind.{ReportKind}
+use Rattle.report_line.specs.declared.report.ReportKind.TheVariants.{Present, Fork}
 use Rattle.report_line.specs.declared.report.NumberedReport.{NumberedReport}
 use Rattle.report_line.specs.declared.report.Report.{Report}
 use Rattle.report_line.specs.declared.report.Report.TheVariants.{Begin, Numbered}
@@ -50,7 +50,7 @@ pub lasting_there : (accepted : List Report) (processes : List Process) (i : ℕ
 lasting_there accepted processes i p k h is there =
     ap (λ (v : KeptProcess). length v.lasting) (looked_up accepted processes i p k h is there) ∙ indexes-length (lasting_made p) 0 accepted
 
-one_present_by : (s : Stamp) (a : Action) → length (present_by s a) ≤ 1
+one_present_by : (s : Stamp) (a : ReportKind) → length (present_by s a) ≤ 1
 one_present_by s Present = omega arith
 one_present_by s _ = omega arith
 
@@ -70,7 +70,7 @@ counted accepted p m n o lasts last stands =
 some_only : {X : Type 0} (b : Bool) (x : X) → b ≡ true → is_some (only_if b x) ≡ true
 some_only b x e = ap (λ (c : Bool). is_some (only_if c x)) e
 
-child_lasts : (p : Name) (r : NumberedReport) (a : Action) → is_birth_of p (Numbered (doing r a)) ≡ true → is_some (lasting_by p r a) ≡ true
+child_lasts : (p : Name) (r : NumberedReport) (a : ReportKind) → is_birth_of p (Numbered (doing r a)) ≡ true → is_some (lasting_by p r a) ≡ true
 child_lasts p r (Fork f) e = some_only (bytes_eq p f.child) _ e
 child_lasts p r _ e = absurd (true≢false (sym e))
 

@@ -5,8 +5,8 @@ use Rattle.std.specs.List.{cons_option}
 use Rattle.std.proofs.lemmas.Bool.{cases_lt}
 use Rattle.std.proofs.lemmas.List.{get_or_append_left, get_or_default}
 use Rattle.std.proofs.Math.Seq.{get_or-append_seam}
-use Rattle.report_line.specs.declared.report.Action.{Action}
-use Rattle.report_line.specs.declared.report.Action.TheVariants.{Fork}
+use Rattle.report_line.specs.declared.report.ReportKind.{ReportKind}
+use Rattle.report_line.specs.declared.report.ReportKind.TheVariants.{Fork}
 use Rattle.report_line.specs.declared.report.NumberedReport.{NumberedReport}
 use Rattle.report_line.specs.declared.report.Report.{Report}
 use Rattle.report_line.specs.declared.report.Report.TheVariants.{Begin, Numbered}
@@ -42,7 +42,7 @@ distinct_with ks (Some q) d n = distinct_push ks q d (n q refl)
 -- ---- names of processes
 
 -- the child that an accepted report makes was not known
-pub unknown_child : (accepted : List Report) (r : NumberedReport) (a : Action) → IsFitAction accepted r a → (q : Name) → child_of a ≡ Some q → ¬ IsKnown accepted q
+pub unknown_child : (accepted : List Report) (r : NumberedReport) (a : ReportKind) → IsFitAction accepted r a → (q : Name) → child_of a ≡ Some q → ¬ IsKnown accepted q
 unknown_child accepted r (Fork f) fit q e = λ is_known. fit.0 (subst (IsKnown accepted) (sym (some_name f.child q e)) is_known)
 unknown_child accepted r _ fit q e = absurd (none_some q e)
 

@@ -12,8 +12,8 @@ use Rattle.std.proofs.lemmas.Option.{slice_get_within, get_or_from_slice_get}
 use Rattle.std.proofs.lemmas.Map.Views.{Contains-from_any, list_any-from_Contains}
 use Rattle.std.proofs.lemmas.Slice.Eq.{bytes_eq-Decides}
 use Rattle.indexmap.specs.IndexSet.{insert_key}
-use Rattle.report_line.specs.declared.report.Action.{Action}
-use Rattle.report_line.specs.declared.report.Action.TheVariants.{Check, Fork, Absorb}
+use Rattle.report_line.specs.declared.report.ReportKind.{ReportKind}
+use Rattle.report_line.specs.declared.report.ReportKind.TheVariants.{Check, Fork, Absorb}
 use Rattle.report_line.specs.declared.report.NumberedReport.{NumberedReport}
 use Rattle.report_line.specs.declared.report.Report.{Report}
 use Rattle.report_line.specs.declared.report.Report.TheVariants.{Begin, Numbered}
@@ -132,7 +132,7 @@ none_index : {X : Type 0} (test : X → Bool) (xs : List X) → list_any test xs
 none_index test [] e = refl
 none_index test (x ∷ xs) e = let both = or_parts (test x) (list_any test xs) e in rw (both.0, none_index test xs both.1) refl
 
-nothing_by : (q : Name) (r : NumberedReport) (a : Action) → is_birth_of q (Numbered (doing r a)) ≡ false → bytes_eq q r.process ≡ false → is_some (lasting_by q r a) ≡ false
+nothing_by : (q : Name) (r : NumberedReport) (a : ReportKind) → is_birth_of q (Numbered (doing r a)) ≡ false → bytes_eq q r.process ≡ false → is_some (lasting_by q r a) ≡ false
 nothing_by q r Check b e = some_if (bytes_eq q r.process) r.stamp ∙ e
 nothing_by q r (Fork f) b e = some_if (bytes_eq q f.child) _ ∙ b
 nothing_by q r _ b e = refl
@@ -248,7 +248,7 @@ plain accepted r after none is =
     let same : known (accepted ++ Numbered r ∷ []) ≡ known accepted = known-push accepted (Numbered r) ∙ ap (λ (o : Option Name). known accepted ++ cons_option o []) none ∙ append-nil (known accepted) in
     (ap (names_with (known accepted)) none ∙ sym same, is ∙ sym (ap (map (kept_of (accepted ++ Numbered r ∷ []))) same))
 
-pub in_order_numbered : (accepted : List Report) (r : NumberedReport) (a : Action) (i run : ℕ) (after : List KeptProcess) → run ≡ run_by (lasting_of r.process accepted) r.stamp a → IsFolded accepted → AreDistinctNames (known accepted) → name_of accepted i ≡ Some r.process
+pub in_order_numbered : (accepted : List Report) (r : NumberedReport) (a : ReportKind) (i run : ℕ) (after : List KeptProcess) → run ≡ run_by (lasting_of r.process accepted) r.stamp a → IsFolded accepted → AreDistinctNames (known accepted) → name_of accepted i ≡ Some r.process
     → IsFitReport accepted (doing r a) → IsKeptByAction (known accepted) (changed_at (noted (length accepted) run (is_check a)) i (map (kept_of accepted) (known accepted))) a (length accepted) after
     → (names_with (known accepted) (child_of a) ≡ known (accepted ++ Numbered (doing r a) ∷ [])) × (after ≡ map (kept_of (accepted ++ Numbered (doing r a) ∷ [])) (known (accepted ++ Numbered (doing r a) ∷ [])))
 in_order_numbered accepted r (Absorb retired) i run after is_run folded distinct at fit is =

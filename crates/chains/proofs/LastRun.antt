@@ -8,8 +8,8 @@ use Rattle.std.proofs.lemmas.List.Elements.{filter_map-append}
 use Rattle.std.proofs.lemmas.List.Folds.{list_all-append}
 use Rattle.id_tree.specs.IdTree.{IdTree, Zero, One, Pair}
 use Rattle.stamp.specs.declared.stamp.Stamp.{Stamp}
-use Rattle.report_line.specs.declared.report.Action.{Action}
-use Rattle.report_line.specs.declared.report.Action.TheVariants.{Check, Fork}
+use Rattle.report_line.specs.declared.report.ReportKind.{ReportKind}
+use Rattle.report_line.specs.declared.report.ReportKind.TheVariants.{Check, Fork}
 use Rattle.report_line.specs.declared.report.NumberedReport.{NumberedReport}
 use Rattle.report_line.specs.declared.report.Report.{Report}
 use Rattle.report_line.specs.declared.report.Report.TheVariants.{Numbered}
@@ -200,11 +200,11 @@ few_run accepted few p = omega (arith, few, run_few p accepted, made_within (las
 
 -- ---- after a report
 
-run_of_check : (ss : List Stamp) (s : Stamp) (a : Action) → is_check a ≡ true → run_by ss s a ≡ last_run (ss ++ s ∷ [])
+run_of_check : (ss : List Stamp) (s : Stamp) (a : ReportKind) → is_check a ≡ true → run_by ss s a ≡ last_run (ss ++ s ∷ [])
 run_of_check ss s Check e = refl
 run_of_check ss s _ e = absurd (true≢false (sym e))
 
-run_of_others : (ss : List Stamp) (s : Stamp) (a : Action) → is_check a ≡ false → run_by ss s a ≡ last_run ss
+run_of_others : (ss : List Stamp) (s : Stamp) (a : ReportKind) → is_check a ≡ false → run_by ss s a ≡ last_run ss
 run_of_others ss s Check e = absurd (true≢false e)
 run_of_others ss s _ e = refl
 
@@ -218,13 +218,13 @@ lasting-push : (p : Name) (accepted : List Report) (r : Report) → lasting_of p
 lasting-push p accepted r = filter_map-append (lasting_made p) accepted (r ∷ [])
 
 -- of the process that reports
-run_own : (ss : List Stamp) (r : NumberedReport) (a : Action) → ((child : Name) → child_of a ≡ Some child → r.process ≢ child) → last_run (ss ++ cons_option (lasting_by r.process r a) []) ≡ run_by ss r.stamp a
+run_own : (ss : List Stamp) (r : NumberedReport) (a : ReportKind) → ((child : Name) → child_of a ≡ Some child → r.process ≢ child) → last_run (ss ++ cons_option (lasting_by r.process r a) []) ≡ run_by ss r.stamp a
 run_own ss r Check f = rw (same_bytes r.process) refl
 run_own ss r (Fork forked) f = rw (other_bytes r.process forked.child (f forked.child refl)) (ap last_run (append-nil ss))
 run_own ss r _ f = ap last_run (append-nil ss)
 
 -- of another one, which is not born
-run_other : (q : Name) (ss : List Stamp) (r : NumberedReport) (a : Action) → q ≢ r.process → ((child : Name) → child_of a ≡ Some child → q ≢ child) → last_run (ss ++ cons_option (lasting_by q r a) []) ≡ last_run ss
+run_other : (q : Name) (ss : List Stamp) (r : NumberedReport) (a : ReportKind) → q ≢ r.process → ((child : Name) → child_of a ≡ Some child → q ≢ child) → last_run (ss ++ cons_option (lasting_by q r a) []) ≡ last_run ss
 run_other q ss r Check d f = rw (other_bytes q r.process d) (ap last_run (append-nil ss))
 run_other q ss r (Fork forked) d f = rw (other_bytes q forked.child (f forked.child refl)) (ap last_run (append-nil ss))
 run_other q ss r _ d f = ap last_run (append-nil ss)

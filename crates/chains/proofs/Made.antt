@@ -8,8 +8,8 @@ use Rattle.id_tree.specs.IdTree.{IdTree, One}
 use Rattle.id_tree.specs.Points.{owns, OwnsSome}
 use Rattle.id_tree.specs.Split.{IsSplit}
 use Rattle.id_tree.proofs.Sums.{sum_together}
-use Rattle.report_line.specs.declared.report.Action.{Action}
-use Rattle.report_line.specs.declared.report.Action.TheVariants.{Fork, Absorb}
+use Rattle.report_line.specs.declared.report.ReportKind.{ReportKind}
+use Rattle.report_line.specs.declared.report.ReportKind.TheVariants.{Fork, Absorb}
 use Rattle.report_line.specs.declared.report.Forked.{Forked}
 use Rattle.report_line.specs.declared.report.NumberedReport.{NumberedReport}
 use Rattle.report_line.specs.declared.report.Report.{Report}
@@ -61,7 +61,7 @@ unreported_after accepted q r made h unknown =
     let before = λ (k : IsKnown accepted q). unknown (still_known accepted (Numbered r) q k) in
     other_report accepted q r (λ e. before (subst (IsKnown accepted) (sym e) h.is_known)) ∙ made.unreported q before
 
-absorbed_from : (accepted : List Report) (r : NumberedReport) (q : Name) (a : Action) → IsFitAction accepted r a → absorbs q a ≡ true → target_of q accepted ≡ Some r.process
+absorbed_from : (accepted : List Report) (r : NumberedReport) (q : Name) (a : ReportKind) → IsFitAction accepted r a → absorbs q a ≡ true → target_of q accepted ≡ Some r.process
 absorbed_from accepted r q (Absorb retired) fit e = ap (λ (m : Name). target_of m accepted) ((bytes_eq-Decides q retired).0 e) ∙ fit.0.0
 absorbed_from accepted r q _ fit e = absurd (true≢false (sym e))
 
@@ -144,7 +144,7 @@ absorb_step accepted r retired made h =
       others = λ q k m. other_id accepted q (doing r (Absorb retired)) m refl;
     }
 
-parts_after : (accepted : List Report) (r : NumberedReport) (a : Action) → IsWellMade accepted → IsFitReport accepted (doing r a) → HoldParts (accepted ++ Numbered (doing r a) ∷ [])
+parts_after : (accepted : List Report) (r : NumberedReport) (a : ReportKind) → IsWellMade accepted → IsFitReport accepted (doing r a) → HoldParts (accepted ++ Numbered (doing r a) ∷ [])
 parts_after accepted r (Fork f) made h = parts_fork (made.parts h.begun) (fork_step accepted r f made h)
 parts_after accepted r (Absorb retired) made h = parts_absorb (made.parts h.begun) (absorb_step accepted r retired made h)
 parts_after accepted r a made h = after_same accepted (doing r a) refl (λ q. refl) h.id (made.parts h.begun)

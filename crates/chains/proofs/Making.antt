@@ -6,8 +6,8 @@ use Rattle.std.specs.List.{cons_option, filter_map}
 use Rattle.std.proofs.lemmas.List.{map-append}
 use Rattle.std.proofs.lemmas.Option.{slice_get_within, slice_get_past}
 use Rattle.stamp.specs.declared.stamp.Stamp.{Stamp}
-use Rattle.report_line.specs.declared.report.Action.{Action}
-use Rattle.report_line.specs.declared.report.Action.TheVariants.{Present}
+use Rattle.report_line.specs.declared.report.ReportKind.{ReportKind}
+use Rattle.report_line.specs.declared.report.ReportKind.TheVariants.{Present}
 use Rattle.report_line.specs.declared.report.NumberedReport.{NumberedReport}
 use Rattle.report_line.specs.declared.report.Report.{Report}
 use Rattle.report_line.specs.declared.report.Report.TheVariants.{Begin, Numbered}
@@ -40,7 +40,7 @@ all_made made also (x ∷ xs) = made_step made also x (filter (λ y. is_some (ma
 
 -- ---- the present state
 
-present_by_action : (p : Name) (r : NumberedReport) (a : Action) → map (element_made p) (present_report (Some (Numbered (doing r a)))) ≡ map (λ s. Some s) (present_in (Some (Numbered (doing r a))))
+present_by_action : (p : Name) (r : NumberedReport) (a : ReportKind) → map (element_made p) (present_report (Some (Numbered (doing r a)))) ≡ map (λ s. Some s) (present_in (Some (Numbered (doing r a))))
 present_by_action p r Present = refl
 present_by_action p r _ = refl
 
@@ -49,7 +49,7 @@ present_made p None = refl
 present_made p (Some (Begin q)) = refl
 present_made p (Some (Numbered r)) = present_by_action p r r.action
 
-one_by_action : (r : NumberedReport) (a : Action) → length (present_report (Some (Numbered (doing r a)))) < 2
+one_by_action : (r : NumberedReport) (a : ReportKind) → length (present_report (Some (Numbered (doing r a)))) < 2
 one_by_action r Present = omega arith
 one_by_action r _ = omega arith
 

@@ -3,8 +3,8 @@ use Rattle.std.proofs.Common.{◌≡◌, ◌≢◌, ◌≤◌, ◌+◌, inl, inr
 use Rattle.std.specs.Prelude.{◌⊎◌, slice_get}
 use Rattle.std.specs.Fmt.{decimal}
 use Rattle.report_line.specs.declared.code.Code.TheVariants.{UnknownProcess, OtherFront, Full}
-use Rattle.report_line.specs.declared.report.Action.{Action}
-use Rattle.report_line.specs.declared.report.Action.TheVariants.{Check, Present, Fork, Retire, Absorb}
+use Rattle.report_line.specs.declared.report.ReportKind.{ReportKind}
+use Rattle.report_line.specs.declared.report.ReportKind.TheVariants.{Check, Present, Fork, Retire, Absorb}
 use Rattle.report_line.specs.declared.report.NumberedReport.{NumberedReport}
 use Rattle.report_line.specs.declared.report.Report.{Report}
 use Rattle.report_line.specs.declared.report.Report.TheVariants.{Begin, Numbered}
@@ -39,17 +39,17 @@ module _ (held : Held) (x y : Reply) where
   fits : (r : Report) → FitsOrNot held r x → FitsOrNot held r y → x ≡ y
   fits r = one _ _ x y _ _ (one _ _ x y _ _ (λ e f. e ∙ sym f))
 
-  acted : (r : NumberedReport) (a : Action) → IsActionReply held r a x → IsActionReply held r a y → x ≡ y
+  acted : (r : NumberedReport) (a : ReportKind) → IsActionReply held r a x → IsActionReply held r a y → x ≡ y
   acted r Check = fits (Numbered r)
   acted r Present = fits (Numbered r)
   acted r (Fork f) = one _ _ x y _ _ (one _ _ x y _ _ (fits (Numbered r)))
   acted r (Retire target) = one _ _ x y _ _ (fits (Numbered r))
   acted r (Absorb retired) = one _ _ x y _ _ (fits (Numbered r))
 
-  stamped : (r : NumberedReport) (a : Action) → IsStampReply held r a x → IsStampReply held r a y → x ≡ y
+  stamped : (r : NumberedReport) (a : ReportKind) → IsStampReply held r a x → IsStampReply held r a y → x ≡ y
   stamped r a = one _ _ x y _ _ (one _ _ x y _ _ (acted r a))
 
-  waiting : (r : NumberedReport) (a : Action) → IsWaitingReply held r a x → IsWaitingReply held r a y → x ≡ y
+  waiting : (r : NumberedReport) (a : ReportKind) → IsWaitingReply held r a x → IsWaitingReply held r a y → x ≡ y
   waiting r Check = stamped r Check
   waiting r Present = stamped r Present
   waiting r (Fork f) = stamped r (Fork f)

@@ -2,8 +2,8 @@
 use Rattle.std.proofs.Common.{◌≡◌, inl, inr, ℕ, List, [], ◌∷◌, Option, Some, None, refl}
 use Rattle.std.specs.Prelude.{slice_get}
 use Rattle.report_line.specs.declared.code.Code.{Code}
-use Rattle.report_line.specs.declared.report.Action.{Action}
-use Rattle.report_line.specs.declared.report.Action.TheVariants.{Fork, Retire, Absorb}
+use Rattle.report_line.specs.declared.report.ReportKind.{ReportKind}
+use Rattle.report_line.specs.declared.report.ReportKind.TheVariants.{Fork, Retire, Absorb}
 use Rattle.report_line.specs.declared.report.NumberedReport.{NumberedReport}
 use Rattle.report_line.specs.declared.report.Report.{Report}
 use Rattle.report_line.specs.declared.report.Report.TheVariants.{Begin, Numbered}
@@ -25,18 +25,18 @@ passed_old (inr h) = h
 
 -- ---- from test to test
 
-pub stamped : (held : Held) (r : NumberedReport) (a : Action) (front : ℕ) → IsStampReply held r a (Accepted front)
+pub stamped : (held : Held) (r : NumberedReport) (a : ReportKind) (front : ℕ) → IsStampReply held r a (Accepted front)
     → (r.stamp.id ≡ expected_id held.accepted r.process a) × AreGrown (last_events r.process held.accepted) (registered_id r.process held.accepted) r.stamp.events × IsActionReply held r a (Accepted front)
 stamped held r a front h =
     let f = passed h in
     let g = passed f.1 in
     (sure_id r.stamp.id (expected_id held.accepted r.process a) f.0, sure_grown (last_events r.process held.accepted) (registered_id r.process held.accepted) r.stamp.events g.0, g.1)
 
-pub unwaited : (held : Held) (r : NumberedReport) (a : Action) (front : ℕ) → IsWaitingReply held r a (Accepted front) → IsStampReply held r a (Accepted front)
+pub unwaited : (held : Held) (r : NumberedReport) (a : ReportKind) (front : ℕ) → IsWaitingReply held r a (Accepted front) → IsStampReply held r a (Accepted front)
 unwaited held r (Absorb retired) front h = (passed h).1
 unwaited held r _ front h = h
 
-fits : (held : Held) (r : NumberedReport) (a : Action) (front : ℕ) → IsWaitingReply held r a (Accepted front) → IsFitAction held.accepted r a
+fits : (held : Held) (r : NumberedReport) (a : ReportKind) (front : ℕ) → IsWaitingReply held r a (Accepted front) → IsFitAction held.accepted r a
 fits held r (Fork forked) front h =
     let f = passed (stamped held r (Fork forked) front h).2 in
     let g = passed f.1 in
@@ -87,7 +87,7 @@ present_epoch held epoch (Numbered r) front h = sure_number epoch held.epoch (pa
 
 -- ---- the last tests
 
-room_of_action : (held : Held) (r : NumberedReport) (a : Action) (front : ℕ) → IsActionReply held r a (Accepted front) → FitsOrNot held (Numbered r) (Accepted front)
+room_of_action : (held : Held) (r : NumberedReport) (a : ReportKind) (front : ℕ) → IsActionReply held r a (Accepted front) → FitsOrNot held (Numbered r) (Accepted front)
 room_of_action held r (Fork f) front h = (passed (passed h).1).1
 room_of_action held r (Retire target) front h = (passed h).1
 room_of_action held r (Absorb retired) front h = (passed h).1

@@ -8,8 +8,8 @@ use Rattle.std.proofs.lemmas.Bool.{cases_Bool, true≢false, false_from_ne_true}
 use Rattle.std.proofs.lemmas.List.Elements.{filter_map-append, Contains-append_left, Contains-push, Contains-push_cases}
 use Rattle.std.proofs.lemmas.List.Folds.{list_any-append}
 use Rattle.std.proofs.lemmas.Slice.Eq.{bytes_eq-Decides}
-use Rattle.report_line.specs.declared.report.Action.{Action}
-use Rattle.report_line.specs.declared.report.Action.TheVariants.{Fork}
+use Rattle.report_line.specs.declared.report.ReportKind.{ReportKind}
+use Rattle.report_line.specs.declared.report.ReportKind.TheVariants.{Fork}
 use Rattle.report_line.specs.declared.report.Forked.{Forked}
 use Rattle.report_line.specs.declared.report.NumberedReport.{NumberedReport}
 use Rattle.report_line.specs.declared.report.Report.{Report}
@@ -79,7 +79,7 @@ pub absorbed-push : (q : Name) (accepted : List Report) (r : Report) → is_abso
 absorbed-push q accepted r = list_any-append (is_absorb_of q) accepted (r ∷ []) ∙ ap (λ b. is_absorbed q accepted || b) (or-false (is_absorb_of q r))
 
 -- the report with this action; with its own it is the report itself
-abbrev pub doing : NumberedReport → Action → NumberedReport
+abbrev pub doing : NumberedReport → ReportKind → NumberedReport
 doing r a = record r { action = a }
 
 pub own_report : (accepted : List Report) (r : NumberedReport) → last_report r.process (accepted ++ Numbered r ∷ []) ≡ Some (Numbered r)

@@ -11,15 +11,15 @@ use Rattle.id_tree.proofs.Points.{equal_points}
 use Rattle.id_tree.proofs.Sums as sums
 use Rattle.report_line.specs.declared.code.Code.{Code}
 use Rattle.report_line.specs.declared.code.Code.TheVariants.{OutOfMemory, Full, Ended, NothingBegun}
-use Rattle.report_line.specs.declared.report.Action.{Action}
-use Rattle.report_line.specs.declared.report.Action.TheVariants.{Absorb}
+use Rattle.report_line.specs.declared.report.ReportKind.{ReportKind}
+use Rattle.report_line.specs.declared.report.ReportKind.TheVariants.{Absorb}
 use Rattle.report_line.specs.declared.report.NumberedReport.{NumberedReport}
 use Rattle.report_line.specs.declared.report.Report.{Report}
 use Rattle.report_line.specs.declared.report.Report.TheVariants.{Numbered}
 use Rattle.report_line.specs.declared.reply.Reply.{Reply}
 use Rattle.report_line.specs.declared.reply.Reply.TheVariants as replies
-use Rattle.chains.specs.declared.admission.Verdict.{Verdict}
-use Rattle.chains.specs.declared.admission.Verdict.TheVariants.{Old, Fits}
+use Rattle.chains.specs.declared.admission.AdmissionResult.{AdmissionResult}
+use Rattle.chains.specs.declared.admission.AdmissionResult.TheVariants.{Old, Fits}
 use Rattle.chains.specs.declared.refusal.No.{No}
 use Rattle.chains.specs.Processes.{Name, last_report, last_epoch, registered_id, expected_id}
 use Rattle.chains.specs.Held.{Held}
@@ -28,7 +28,7 @@ use Rattle.chains.specs.working.Keeping.{Tests}
 use Rattle.chains.specs.working.Testing.{RefusesWith, IsFull, IsNoAbsorb}
 
 -- the test does not apply, and the later ones decide
-pub passed_on : (F : Type 0) (reply : Reply) (P : Reply → Type 0) (front : ℕ) (r : Result Verdict No)
+pub passed_on : (F : Type 0) (reply : Reply) (P : Reply → Type 0) (front : ℕ) (r : Result AdmissionResult No)
     → ¬ F → Tests P front r → Tests (λ a. Decides F reply a (P a)) front r
 passed_on F reply P front (Ok Old) n h = inr (n, h)
 passed_on F reply P front (Ok Fits) n h = inr (n, h)
@@ -63,7 +63,7 @@ pub refuses_first : (held : Held) (epoch : ℕ) (report : Report) (r : NumberedR
 refuses_first held epoch report r is none = rw is (inl (inl (none, refl)))
 
 -- a report that is not the last one of its process is left to the tests behind
-pub not_last : (held : Held) (epoch : ℕ) (report : Report) (r : NumberedReport) (result : Result Verdict No) (b : Bool) → b ≡ false
+pub not_last : (held : Held) (epoch : ℕ) (report : Report) (r : NumberedReport) (result : Result AdmissionResult No) (b : Bool) → b ≡ false
     → (IsTrue b ↔ ((last_report r.process held.accepted ≡ Some report) × (last_epoch r.process held.accepted held.epochs ≡ Some epoch))) → report ≡ Numbered r
     → Tests (IsEpochReply held epoch r) held.front result → Tests (IsNumberedReply held epoch r) held.front result
 not_last held epoch report r result b other last is later =
@@ -77,11 +77,11 @@ refuses_ended target held r refusal (Ok t) e is = inl (rw (e, is) refl)
 refuses_ended target held r refusal (Err x) e is = lacking (IsStandingReply (Some target) held r) held.front refusal (replies.No Ended (Some r.process) (Some target)) e refl tt
 
 -- an action that is no absorb asks for no retirement
-pub as_own : (held : Held) (r : NumberedReport) (a : Action) (result : Result Verdict No) → IsNoAbsorb a → Tests (IsStampReply held r a) held.front result → Tests (IsWaitingReply held r a) held.front result
+pub as_own : (held : Held) (r : NumberedReport) (a : ReportKind) (result : Result AdmissionResult No) → IsNoAbsorb a → Tests (IsStampReply held r a) held.front result → Tests (IsWaitingReply held r a) held.front result
 as_own held r (Absorb retired) result own h = absurd own
 as_own held r _ result own h = h
 
-pub own_id : (accepted : List Report) (p : Name) (a : Action) → IsNoAbsorb a → expected_id accepted p a ≡ registered_id p accepted
+pub own_id : (accepted : List Report) (p : Name) (a : ReportKind) → IsNoAbsorb a → expected_id accepted p a ≡ registered_id p accepted
 own_id accepted p (Absorb retired) own = absurd own
 own_id accepted p _ own = refl
 

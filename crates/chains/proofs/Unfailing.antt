@@ -3,8 +3,8 @@ use Rattle.std.proofs.Common.{◌≡◌, ◌≢◌, ℕ, Bool, true, false, List
 use Rattle.std.specs.Prelude.{slice_get}
 use Rattle.std.proofs.lemmas.Bool.{true≢false}
 use Rattle.report_line.specs.declared.code.Code.{Code}
-use Rattle.report_line.specs.declared.report.Action.{Action}
-use Rattle.report_line.specs.declared.report.Action.TheVariants.{Fork, Retire, Absorb}
+use Rattle.report_line.specs.declared.report.ReportKind.{ReportKind}
+use Rattle.report_line.specs.declared.report.ReportKind.TheVariants.{Fork, Retire, Absorb}
 use Rattle.report_line.specs.declared.report.NumberedReport.{NumberedReport}
 use Rattle.report_line.specs.declared.report.Report.{Report}
 use Rattle.report_line.specs.declared.report.Report.TheVariants.{Begin, Numbered}
@@ -46,16 +46,16 @@ module _ (answer : Reply) (other : IsOther answer) where
   of_room : (held : Held) (r : Report) → ¬ FitsOrNot held r answer
   of_room held r h = other.no_accepted _ (behind (behind h (other.no_refusal _ _ _)) (other.no_refusal _ _ _))
 
-  of_action : (held : Held) (r : NumberedReport) (a : Action) → ¬ IsActionReply held r a answer
+  of_action : (held : Held) (r : NumberedReport) (a : ReportKind) → ¬ IsActionReply held r a answer
   of_action held r (Fork f) h = of_room held (Numbered r) (behind (behind h (other.no_refusal _ _ _)) (other.no_refusal _ _ _))
   of_action held r (Retire target) h = of_room held (Numbered r) (behind h (other.no_refusal _ _ _))
   of_action held r (Absorb retired) h = of_room held (Numbered r) (behind h (other.no_refusal _ _ _))
   of_action held r _ h = of_room held (Numbered r) h
 
-  of_stamp : (held : Held) (r : NumberedReport) (a : Action) → ¬ IsStampReply held r a answer
+  of_stamp : (held : Held) (r : NumberedReport) (a : ReportKind) → ¬ IsStampReply held r a answer
   of_stamp held r a h = of_action held r a (behind (behind h (other.no_refusal _ _ _)) (other.no_refusal _ _ _))
 
-  of_waiting : (held : Held) (r : NumberedReport) (a : Action) → ¬ IsWaitingReply held r a answer
+  of_waiting : (held : Held) (r : NumberedReport) (a : ReportKind) → ¬ IsWaitingReply held r a answer
   of_waiting held r (Absorb retired) h = of_stamp held r (Absorb retired) (behind h (other.no_refusal _ _ _))
   of_waiting held r a h = of_stamp held r a h
 

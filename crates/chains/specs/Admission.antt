@@ -7,8 +7,8 @@ use Rattle.id_tree.specs.Spelling.{spelling}
 use Rattle.event_tree.specs.EventTree.{EventTree}
 use Rattle.event_tree.specs.Values.{IsAtOrBelow, ExceedsOn}
 use Rattle.report_line.specs.declared.code.Code.TheVariants.{NothingBegun, OtherRoot, UnknownProcess, Ended, WrongNumber, NotWaiting, WrongId, NotGrown, NameTaken, WrongParts, WrongTarget, NotJoined, Full, OtherEpoch}
-use Rattle.report_line.specs.declared.report.Action.{Action}
-use Rattle.report_line.specs.declared.report.Action.TheVariants.{Fork, Retire, Absorb}
+use Rattle.report_line.specs.declared.report.ReportKind.{ReportKind}
+use Rattle.report_line.specs.declared.report.ReportKind.TheVariants.{Fork, Retire, Absorb}
 use Rattle.report_line.specs.declared.report.NumberedReport.{NumberedReport}
 use Rattle.report_line.specs.declared.report.Report.{Report}
 use Rattle.report_line.specs.declared.report.Report.TheVariants.{Begin, Numbered}
@@ -52,7 +52,7 @@ IsBeginReply (Some root) held epoch p answer =
 -- the tests of the report's action, which stands beside the report for the cases: a child's name is new, and the two ids are
 -- parts of the registered one; the target of a retirement is another known process; an absorb has the events of the
 -- retirement
-abbrev pub IsActionReply : Held → NumberedReport → Action → Reply → Type 0
+abbrev pub IsActionReply : Held → NumberedReport → ReportKind → Reply → Type 0
 IsActionReply held r (Fork f) answer =
     Decides (IsKnown held.accepted f.child) (No NameTaken (Some f.child) None) answer
     (Decides (¬ IsSplit (registered_id r.process held.accepted) f.kept f.given) (No WrongParts (Some r.process) (Some (spelling (registered_id r.process held.accepted)))) answer
@@ -66,14 +66,14 @@ IsActionReply held r (Absorb retired) answer =
 IsActionReply held r _ answer = FitsOrNot held (Numbered r) answer
 
 -- the tests of the stamp, and then those of the action
-abbrev pub IsStampReply : Held → NumberedReport → Action → Reply → Type 0
+abbrev pub IsStampReply : Held → NumberedReport → ReportKind → Reply → Type 0
 IsStampReply held r a answer =
     Decides (r.stamp.id ≢ expected_id held.accepted r.process a) (No WrongId (Some r.process) (Some (spelling (expected_id held.accepted r.process a)))) answer
     (Decides (¬ AreGrown (last_events r.process held.accepted) (registered_id r.process held.accepted) r.stamp.events) (No NotGrown (Some r.process) None) answer
     (IsActionReply held r a answer))
 
 -- whether the retirement waits that an absorb is for, and then the later tests
-abbrev pub IsWaitingReply : Held → NumberedReport → Action → Reply → Type 0
+abbrev pub IsWaitingReply : Held → NumberedReport → ReportKind → Reply → Type 0
 IsWaitingReply held r (Absorb retired) answer =
     Decides (¬ Waits held.accepted retired r.process) (No NotWaiting (Some retired) None) answer
     (IsStampReply held r (Absorb retired) answer)

@@ -6,8 +6,8 @@ use Rattle.std.specs.Str.{bytes_eq}
 use Rattle.id_tree.specs.IdTree.{One}
 use Rattle.event_tree.specs.EventTree.{Leaf}
 use Rattle.stamp.specs.declared.stamp.Stamp.{Stamp}
-use Rattle.report_line.specs.declared.report.Action.{Action}
-use Rattle.report_line.specs.declared.report.Action.TheVariants.{Check, Present, Fork}
+use Rattle.report_line.specs.declared.report.ReportKind.{ReportKind}
+use Rattle.report_line.specs.declared.report.ReportKind.TheVariants.{Check, Present, Fork}
 use Rattle.report_line.specs.declared.report.NumberedReport.{NumberedReport}
 use Rattle.report_line.specs.declared.report.Report.{Report}
 use Rattle.report_line.specs.declared.report.Report.TheVariants.{Begin, Numbered}
@@ -19,7 +19,7 @@ only_if b x = if b then Some x else None
 
 -- the lasting element of p that a report makes by its action, which stands beside it, if it makes one: a checkpoint its own
 -- stamp, a child's birth its part of the id with the events of the fork
-abbrev pub lasting_by : Name → NumberedReport → Action → Option Stamp
+abbrev pub lasting_by : Name → NumberedReport → ReportKind → Option Stamp
 lasting_by p r Check = only_if (bytes_eq p r.process) r.stamp
 lasting_by p r (Fork f) = only_if (bytes_eq p f.child) (record { id = f.given; events = r.stamp.events })
 lasting_by p r _ = None
@@ -34,7 +34,7 @@ abbrev pub lasting_of : Name → List Report → List Stamp
 lasting_of p accepted = filter_map (lasting_made p) accepted
 
 -- the element of this stamp, if the action is a present state
-abbrev pub present_by : Stamp → Action → List Stamp
+abbrev pub present_by : Stamp → ReportKind → List Stamp
 present_by s Present = s ∷ []
 present_by s _ = []
 
@@ -54,7 +54,7 @@ abbrev pub makes_lasting : Name → Report → Bool
 makes_lasting p r = is_some (lasting_made p r)
 
 -- the report, by its action, if that is a present state
-abbrev pub present_report_by : NumberedReport → Action → List Report
+abbrev pub present_report_by : NumberedReport → ReportKind → List Report
 present_report_by r Present = Numbered r ∷ []
 present_report_by r _ = []
 

@@ -3,8 +3,8 @@
 use Rattle.std.specs.Prelude.{◌≡◌, ◌≢◌, ◌+◌, ◌≤◌, List, [], ◌∷◌, ◌++◌, length, All, None, ⊤}
 use Rattle.id_tree.specs.Split.{IsSplit}
 use Rattle.event_tree.specs.Values.{IsAtOrBelow}
-use Rattle.report_line.specs.declared.report.Action.{Action}
-use Rattle.report_line.specs.declared.report.Action.TheVariants.{Fork, Absorb}
+use Rattle.report_line.specs.declared.report.ReportKind.{ReportKind}
+use Rattle.report_line.specs.declared.report.ReportKind.TheVariants.{Fork, Absorb}
 use Rattle.report_line.specs.declared.report.NumberedReport.{NumberedReport}
 use Rattle.report_line.specs.declared.report.Report.{Report}
 use Rattle.report_line.specs.declared.report.Report.TheVariants.{Begin, Numbered}
@@ -15,7 +15,7 @@ use Rattle.chains.specs.Admission.{AreGrown}
 -- What the tests of the action ask for, which stands beside the report for the cases: the name of a fork's child is new, and
 -- the two ids are parts of the registered one; the retirement waits that an absorb is for, and its events are at or below
 -- those of the absorb.
-abbrev pub IsFitAction : List Report → NumberedReport → Action → Type 0
+abbrev pub IsFitAction : List Report → NumberedReport → ReportKind → Type 0
 IsFitAction accepted r (Fork f) = (¬ IsKnown accepted f.child) × IsSplit (registered_id r.process accepted) f.kept f.given
 IsFitAction accepted r (Absorb retired) = Waits accepted retired r.process × IsAtOrBelow (last_events retired accepted) r.stamp.events
 IsFitAction accepted r _ = ⊤

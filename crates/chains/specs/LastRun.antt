@@ -3,8 +3,8 @@ use Rattle.std.specs.Prelude.{ℕ, suc, Bool, true, false, ◌&&◌, List, [], �
 use Rattle.std.specs.List.{list_all}
 use Rattle.id_tree.specs.IdTree.{IdTree, Zero, One, Pair}
 use Rattle.stamp.specs.declared.stamp.Stamp.{Stamp}
-use Rattle.report_line.specs.declared.report.Action.{Action}
-use Rattle.report_line.specs.declared.report.Action.TheVariants.{Check}
+use Rattle.report_line.specs.declared.report.ReportKind.{ReportKind}
+use Rattle.report_line.specs.declared.report.ReportKind.TheVariants.{Check}
 use Rattle.report_line.specs.declared.report.Report.{Report}
 use Rattle.report_line.specs.declared.report.Report.TheVariants.{Begin, Numbered}
 
@@ -23,7 +23,7 @@ last_run (s ∷ ss) = if list_all (λ t. same_id s.id t.id) ss then 0 else suc (
 -- Working definitions.
 
 -- the last run of a process that reports this behind these lasting elements
-abbrev pub run_by : List Stamp → Stamp → Action → ℕ
+abbrev pub run_by : List Stamp → Stamp → ReportKind → ℕ
 run_by ss s Check = last_run (ss ++ s ∷ [])
 run_by ss s _ = last_run ss
 

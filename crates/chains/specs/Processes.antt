@@ -9,15 +9,15 @@ use Rattle.id_tree.specs.IdTree.{IdTree, Zero, One}
 use Rattle.id_tree.specs.Sum.{sum_of}
 use Rattle.event_tree.specs.EventTree.{EventTree, Leaf}
 use Rattle.stamp.specs.declared.stamp.Stamp.{Stamp}
-use Rattle.report_line.specs.declared.report.Action.{Action}
-use Rattle.report_line.specs.declared.report.Action.TheVariants.{Fork, Retire, Absorb}
+use Rattle.report_line.specs.declared.report.ReportKind.{ReportKind}
+use Rattle.report_line.specs.declared.report.ReportKind.TheVariants.{Fork, Retire, Absorb}
 use Rattle.report_line.specs.declared.report.Report.{Report}
 use Rattle.report_line.specs.declared.report.Report.TheVariants.{Begin, Numbered}
 -- a name, as its bytes
 pub use Rattle.report_line.specs.histories.History.{Name}
 
 -- the child that the action makes, if it makes one
-abbrev pub child_of : Action → Option Name
+abbrev pub child_of : ReportKind → Option Name
 child_of (Fork f) = Some f.child
 child_of _ = None
 
@@ -92,12 +92,12 @@ last_events p accepted = events_after (first_of (last_report p accepted) (birth_
 
 -- The id that a process has after its action under this stamp: a fork keeps one part, and else it is the stamp's. (The tests
 -- see to it that this is the one registered before, or for an absorb the sum.)
-abbrev pub id_kept : Stamp → Action → IdTree
+abbrev pub id_kept : Stamp → ReportKind → IdTree
 id_kept s (Fork f) = f.kept
 id_kept s _ = s.id
 
 -- the id that a child begins with
-abbrev pub id_given : Action → IdTree
+abbrev pub id_given : ReportKind → IdTree
 id_given (Fork f) = f.given
 id_given _ = Zero
 
@@ -120,7 +120,7 @@ registered_id p accepted = id_after (last_report p accepted) (birth_report p acc
 -- ---- retirements
 
 -- the target, if the action is a retirement
-abbrev pub target_in : Action → Option Name
+abbrev pub target_in : ReportKind → Option Name
 target_in (Retire target) = Some target
 target_in _ = None
 
@@ -135,7 +135,7 @@ abbrev pub target_of : Name → List Report → Option Name
 target_of p accepted = target_after (last_report p accepted)
 
 -- whether the action absorbs the retirement of p
-abbrev pub absorbs : Name → Action → Bool
+abbrev pub absorbs : Name → ReportKind → Bool
 absorbs p (Absorb retired) = bytes_eq p retired
 absorbs p _ = false
 
@@ -152,6 +152,6 @@ abbrev pub Waits : List Report → Name → Name → Type 0
 Waits accepted r q = (target_of r accepted ≡ Some q) × (is_absorbed r accepted ≡ false)
 
 -- the id that the stamp of a report has to have: the registered one, for an absorb with that of the retirement
-abbrev pub expected_id : List Report → Name → Action → IdTree
+abbrev pub expected_id : List Report → Name → ReportKind → IdTree
 expected_id accepted p (Absorb retired) = sum_of (registered_id p accepted) (registered_id retired accepted)
 expected_id accepted p _ = registered_id p accepted

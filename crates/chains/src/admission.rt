@@ -8,7 +8,7 @@ ghost use Rattle.id_tree.specs.Split.{IsSplit};
 ghost use Rattle.id_tree.specs.Sum.{sum_of};
 ghost use Rattle.report_line.specs.declared.report.Report.TheVariants as reports;
 ghost use Rattle.report_line.specs.View.{action_of, numbered_of};
-ghost use Rattle.report_line.specs.declared.report.Action.TheVariants as actions;
+ghost use Rattle.report_line.specs.declared.report.ReportKind.TheVariants as actions;
 ghost use Rattle.chains.specs.Processes.{Name as AnyName, known, newborn, IsKnown, last_report, last_epoch, last_events, registered_id, target_of, Waits};
 ghost use Rattle.chains.specs.Elements.{name_of};
 ghost use Rattle.chains.specs.Held.{held_of};
@@ -19,7 +19,9 @@ ghost use Rattle.chains.specs.working.Testing.{IsNumberIn, IsNoAbsorb, RefusesWi
 use crate::chains::Chains;
 use crate::refusal::{No, Refusal};
 use id_tree::{Id, SumFault};
-use report_line::{ActionView, Code, Forked, Name, NumberedView, PackedReport, ReportView, Text};
+use report_line::{
+    Code, Forked, Name, NumberedView, PackedReport, ReportKindView, ReportView, Text,
+};
 use stamp::Stamp;
 use std::alloc::{AllocError, Global};
 
@@ -31,7 +33,7 @@ pub const PROCESS_LIMIT: u32 = 1_024;
 
 /// What the tests of a report find where none refuses it.
 #[derive(Clone, Copy)]
-pub enum Verdict {
+pub enum AdmissionResult {
     /// It was accepted before.
     Old,
     /// It may be accepted.
@@ -137,7 +139,7 @@ impl Chains {
         report: &PackedReport,
         epoch: u32,
         number: Option<u32>,
-    ) -> Result<Verdict, No>
+    ) -> Result<AdmissionResult, No>
         requires { IsNumberIn self.now.accepted report.now number }
         ensures { Tests (IsReportReply (held_of self.now) epoch report.now) self.now.front result }
     {
@@ -153,7 +155,7 @@ impl Chains {
         report: &'a PackedReport,
         epoch: u32,
         number: Option<u32>,
-    ) -> Result<Verdict, Refusal<'a>>
+    ) -> Result<AdmissionResult, Refusal<'a>>
         requires { IsNumberIn self.now.accepted report.now number }
         ensures { Tests (IsReportReply (held_of self.now) epoch report.now) self.now.front result }
     {
@@ -181,7 +183,7 @@ impl Chains {
         report: &PackedReport,
         epoch: u32,
         name: &'a Name,
-    ) -> Result<Verdict, Refusal<'a>>
+    ) -> Result<AdmissionResult, Refusal<'a>>
         requires { report.now ≡ reports.Begin name.now }
         ensures { Tests (IsBeginReply (slice_get (known self.now.accepted) 0) (held_of self.now) epoch name.now) self.now.front result }
     {
@@ -189,7 +191,7 @@ impl Chains {
             None => self.test_first(report, epoch, name),
             Some(root) => {
                 if root.as_bytes() == name.as_bytes() {
-                    Ok(Verdict::Old)
+                    Ok(AdmissionResult::Old)
                 } else {
                     Err(refusal(Code::OtherRoot, root))
                 }
@@ -203,7 +205,7 @@ impl Chains {
         report: &PackedReport,
         epoch: u32,
         name: &'a Name,
-    ) -> Result<Verdict, Refusal<'a>>
+    ) -> Result<AdmissionResult, Refusal<'a>>
         requires { report.now ≡ reports.Begin name.now }
         ensures { Tests (IsBeginReply None (held_of self.now) epoch name.now) self.now.front result }
     {
@@ -224,13 +226,13 @@ impl Chains {
         report: &PackedReport,
         epoch: u32,
         fields: NumberedView<'a>,
-    ) -> Result<Verdict, Refusal<'a>>
+    ) -> Result<AdmissionResult, Refusal<'a>>
         requires place { name_of self.now.accepted place ≡ Some fields.process.now }
         requires fields { report.now ≡ reports.Numbered (numbered_of fields) }
         ensures { Tests (IsNumberedReply (held_of self.now) epoch (numbered_of fields.entry)) self.now.front result }
     {
         if self.is_last(place, report, epoch) {
-            return Ok(Verdict::Old);
+            return Ok(AdmissionResult::Old);
         }
         if epoch != self.epoch() {
             return Err(refusal_with(
@@ -249,7 +251,7 @@ impl Chains {
         place: u32,
         report: &PackedReport,
         fields: NumberedView<'a>,
-    ) -> Result<Verdict, Refusal<'a>>
+    ) -> Result<AdmissionResult, Refusal<'a>>
         requires place { name_of self.now.accepted place ≡ Some fields.process.now }
         requires fields { report.now ≡ reports.Numbered (numbered_of fields) }
         ensures { Tests (IsStandingReply (target_of fields.entry.process.now self.now.accepted) (held_of self.now) (numbered_of fields.entry)) self.now.front result }
@@ -286,7 +288,7 @@ impl Chains {
         place: u32,
         report: &PackedReport,
         fields: NumberedView<'a>,
-    ) -> Result<Verdict, Refusal<'a>>
+    ) -> Result<AdmissionResult, Refusal<'a>>
         requires place { name_of self.now.accepted place ≡ Some fields.process.now }
         requires fields { report.now ≡ reports.Numbered (numbered_of fields) }
         requires lives { target_of fields.process.now self.now.accepted ≡ None }
@@ -344,7 +346,7 @@ impl Chains {
         place: u32,
         report: &PackedReport,
         fields: NumberedView<'a>,
-    ) -> Result<Verdict, Refusal<'a>>
+    ) -> Result<AdmissionResult, Refusal<'a>>
         requires place { name_of self.now.accepted place ≡ Some fields.process.now }
         requires fields { report.now ≡ reports.Numbered (numbered_of fields) }
         requires own { IsNoAbsorb (action_of fields.action) }
@@ -370,18 +372,18 @@ impl Chains {
         report: &PackedReport,
         fields: NumberedView<'a>,
         registered: &Id,
-    ) -> Result<Verdict, Refusal<'a>>
+    ) -> Result<AdmissionResult, Refusal<'a>>
         requires registered { registered.now ≡ registered_id fields.process.now self.now.accepted }
         requires fields { report.now ≡ reports.Numbered (numbered_of fields) }
         requires own { IsNoAbsorb (action_of fields.action) }
         ensures { Tests (IsActionReply (held_of self.now) (numbered_of fields.entry) (action_of fields.entry.action)) self.now.front result }
     {
         match fields.action {
-            ActionView::Fork(forked) => self.test_fork(report, fields, registered, forked),
-            ActionView::Retire { target } => self.test_retire(report, fields, target),
-            ActionView::Check => self.test_room(report),
-            ActionView::Present => self.test_room(report),
-            ActionView::Absorb { .. } => unreachable!(),
+            ReportKindView::Fork(forked) => self.test_fork(report, fields, registered, forked),
+            ReportKindView::Retire { target } => self.test_retire(report, fields, target),
+            ReportKindView::Check => self.test_room(report),
+            ReportKindView::Present => self.test_room(report),
+            ReportKindView::Absorb { .. } => unreachable!(),
         }
     }
 
@@ -392,7 +394,7 @@ impl Chains {
         fields: NumberedView<'a>,
         registered: &Id,
         forked: &'a Forked,
-    ) -> Result<Verdict, Refusal<'a>>
+    ) -> Result<AdmissionResult, Refusal<'a>>
         requires registered { registered.now ≡ registered_id fields.process.now self.now.accepted }
         requires fields { report.now ≡ reports.Numbered (numbered_of fields) }
         ensures { Tests (IsActionReply (held_of self.now) (numbered_of fields.entry) (actions.Fork forked.now)) self.now.front result }
@@ -417,7 +419,7 @@ impl Chains {
         report: &PackedReport,
         fields: NumberedView<'a>,
         target: &'a Name,
-    ) -> Result<Verdict, Refusal<'a>>
+    ) -> Result<AdmissionResult, Refusal<'a>>
         requires { report.now ≡ reports.Numbered (numbered_of fields) }
         ensures { Tests (IsActionReply (held_of self.now) (numbered_of fields.entry) (actions.Retire target.now)) self.now.front result }
     {
@@ -438,7 +440,7 @@ impl Chains {
         report: &PackedReport,
         fields: NumberedView<'a>,
         retired: &'a Name,
-    ) -> Result<Verdict, Refusal<'a>>
+    ) -> Result<AdmissionResult, Refusal<'a>>
         requires place { name_of self.now.accepted place ≡ Some fields.process.now }
         requires partner { name_of self.now.accepted partner ≡ Some retired.now }
         requires waits { Waits self.now.accepted retired.now fields.process.now }
@@ -476,7 +478,7 @@ impl Chains {
 
     /// Whether one more report fits, and one more process where one is born by it.
     #[inline(always)]
-    fn test_room<'a>(&'a self, report: &PackedReport) -> Result<Verdict, Refusal<'a>>
+    fn test_room<'a>(&'a self, report: &PackedReport) -> Result<AdmissionResult, Refusal<'a>>
         ensures { Tests (FitsOrNot (held_of self.now) report.now) self.now.front result }
     {
         if self.front() >= REPORT_LIMIT {
@@ -485,20 +487,20 @@ impl Chains {
         if is_birth(report) && self.count() >= PROCESS_LIMIT {
             return Err(full(self.alloc(), PROCESS_LIMIT));
         }
-        Ok(Verdict::Fits)
+        Ok(AdmissionResult::Fits)
     }
 }
 
 /// The process whose retirement is absorbed, if the action is an absorb.
-fn retired_in(action: ActionView<'_>) -> Option<&Name>
+fn retired_in(action: ReportKindView<'_>) -> Option<&Name>
     ensures { MatchOption result (IsNoAbsorb (action_of action.entry)) (λ retired. (action_of action.entry) ≡ actions.Absorb retired.now) }
 {
     match action {
-        ActionView::Absorb { retired } => Some(retired),
-        ActionView::Check => None,
-        ActionView::Present => None,
-        ActionView::Fork(_) => None,
-        ActionView::Retire { .. } => None,
+        ReportKindView::Absorb { retired } => Some(retired),
+        ReportKindView::Check => None,
+        ReportKindView::Present => None,
+        ReportKindView::Fork(_) => None,
+        ReportKindView::Retire { .. } => None,
     }
 }
 
@@ -509,7 +511,7 @@ pub(crate) fn is_birth(report: &PackedReport) -> bool
     match report.view() {
         ReportView::Begin { .. } => true,
         ReportView::Numbered(fields) => match fields.action {
-            ActionView::Fork(_) => true,
+            ReportKindView::Fork(_) => true,
             _ => false,
         },
     }

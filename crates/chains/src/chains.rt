@@ -30,7 +30,7 @@ ghost use Rattle.chains.specs.declared.process.Process.{Process as AnyProcess};
 ghost use Rattle.indexmap.specs.IndexSet.{spare, insert_key};
 ghost use Rattle.std.specs.Cmp.Lexicographic.{pointwise};
 
-use crate::admission::{Verdict, is_birth, out_of_memory};
+use crate::admission::{AdmissionResult, is_birth, out_of_memory};
 use crate::copies::{copy_names, copy_processes, share_all};
 use crate::elements::{Element, Elements};
 use crate::failed::Failed;
@@ -43,7 +43,7 @@ use crate::state::State;
 use event_tree::Events;
 use id_tree::Id;
 use indexmap::IndexSet;
-use report_line::{ActionView, MarkedReport, Name, PackedReport, ReportView, Shared};
+use report_line::{MarkedReport, Name, PackedReport, ReportKindView, ReportView, Shared};
 use stamp::Stamp;
 use std::alloc::{AllocError, Global};
 use std::marker::Model;
@@ -575,8 +575,8 @@ impl Chains {
     {
         let number = self.number_in(report);
         match self.tested(report, epoch, number)? {
-            Verdict::Old => Ok(Prepared::Old(self.front())),
-            Verdict::Fits => {
+            AdmissionResult::Old => Ok(Prepared::Old(self.front())),
+            AdmissionResult::Fits => {
                 let Ok(report) = shared_copy(self.alloc, report) else {
                     return Err(out_of_memory());
                 };
@@ -597,8 +597,8 @@ impl Chains {
         let number = self.number_in(&report.report);
         match self.tested(&report.report, report.epoch, number) {
             Err(refused) => Err(refused),
-            Ok(Verdict::Old) => Ok(Prepared::Old(self.front())),
-            Ok(Verdict::Fits) => match self.ready(report, number) {
+            Ok(AdmissionResult::Old) => Ok(Prepared::Old(self.front())),
+            Ok(AdmissionResult::Fits) => match self.ready(report, number) {
                 Ok(ready) => Ok(Prepared::Ready(ready)),
                 Err(_) => Err(out_of_memory()),
             },
@@ -722,32 +722,32 @@ fn keep(
         ReportView::Numbered(fields) => {
             note(processes, place, index, last_run, is_check(fields.action));
             match fields.action {
-                ActionView::Fork(forked) => add(
+                ReportKindView::Fork(forked) => add(
                     names,
                     processes,
                     forked.child.copy(),
                     index,
                     lasting,
                 ),
-                ActionView::Absorb { retired } => note_absorbed(names, processes, retired),
-                ActionView::Check => {}
-                ActionView::Present => {}
-                ActionView::Retire { .. } => {}
+                ReportKindView::Absorb { retired } => note_absorbed(names, processes, retired),
+                ReportKindView::Check => {}
+                ReportKindView::Present => {}
+                ReportKindView::Retire { .. } => {}
             }
         }
     }
 }
 
 /// Whether the action is a checkpoint.
-fn is_check(action: ActionView<'_>) -> bool
+fn is_check(action: ReportKindView<'_>) -> bool
     ensures { result ≡ is_check (action_of action.entry) }
 {
     match action {
-        ActionView::Check => true,
-        ActionView::Present => false,
-        ActionView::Fork(_) => false,
-        ActionView::Retire { .. } => false,
-        ActionView::Absorb { .. } => false,
+        ReportKindView::Check => true,
+        ReportKindView::Present => false,
+        ReportKindView::Fork(_) => false,
+        ReportKindView::Retire { .. } => false,
+        ReportKindView::Absorb { .. } => false,
     }
 }
 
@@ -816,7 +816,7 @@ fn target_in(report: &PackedReport) -> Option<&Name>
     match report.view() {
         ReportView::Begin { .. } => None,
         ReportView::Numbered(fields) => match fields.action {
-            ActionView::Retire { target } => Some(target),
+            ReportKindView::Retire { target } => Some(target),
             _ => None,
         },
     }
@@ -831,7 +831,7 @@ fn present_count(last: Option<&PackedReport>) -> u32
         Some(last) => match last.view() {
             ReportView::Begin { .. } => 0,
             ReportView::Numbered(fields) => match fields.action {
-                ActionView::Present => 1,
+                ReportKindView::Present => 1,
                 _ => 0,
             },
         },
@@ -849,7 +849,7 @@ fn element_made<'a>(report: &'a PackedReport, first: &'a Stamp) -> Element<'a>
             events: &first.events,
         },
         ReportView::Numbered(fields) => match fields.action {
-            ActionView::Fork(forked) => Element {
+            ReportKindView::Fork(forked) => Element {
                 id: &forked.given,
                 events: &fields.stamp.events,
             },
@@ -870,7 +870,7 @@ fn element_present<'a>(last: Option<&'a PackedReport>) -> Option<Element<'a>>
         Some(last) => match last.view() {
             ReportView::Begin { .. } => None,
             ReportView::Numbered(fields) => match fields.action {
-                ActionView::Present => Some(Element {
+                ReportKindView::Present => Some(Element {
                     id: &fields.stamp.id,
                     events: &fields.stamp.events,
                 }),
@@ -889,7 +889,7 @@ fn if_present(last: Option<&PackedReport>) -> Option<&PackedReport>
         Some(last) => match last.view() {
             ReportView::Begin { .. } => None,
             ReportView::Numbered(fields) => match fields.action {
-                ActionView::Present => Some(last),
+                ReportKindView::Present => Some(last),
                 _ => None,
             },
         },
@@ -904,7 +904,7 @@ fn id_kept<'a>(report: &'a PackedReport, first: &'a Id) -> &'a Id
     match report.view() {
         ReportView::Begin { .. } => first,
         ReportView::Numbered(fields) => match fields.action {
-            ActionView::Fork(forked) => &forked.kept,
+            ReportKindView::Fork(forked) => &forked.kept,
             _ => &fields.stamp.id,
         },
     }
@@ -919,7 +919,7 @@ fn id_at_birth<'a>(report: &'a PackedReport, first: &'a Id) -> &'a Id
     match report.view() {
         ReportView::Begin { .. } => first,
         ReportView::Numbered(fields) => match fields.action {
-            ActionView::Fork(forked) => &forked.given,
+            ReportKindView::Fork(forked) => &forked.given,
             _ => first,
         },
     }

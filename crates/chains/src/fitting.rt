@@ -2,7 +2,7 @@
 
 ghost use Rattle.std.specs.Prelude.{◌≡◌, ◌↔◌, ◌≤◌, ◌<◌, ◌++◌, ◌∷◌, [], length, IsTrue, IfErr, OnOk, OnErr, Err, Some, None};
 ghost use Rattle.id_tree.specs.Points.{AreDisjoint};
-ghost use Rattle.report_line.specs.declared.report.Action.TheVariants as actions;
+ghost use Rattle.report_line.specs.declared.report.ReportKind.TheVariants as actions;
 ghost use Rattle.chains.specs.Processes.{known, registered_id, target_of, Waits};
 ghost use Rattle.chains.specs.Held.{held_of, with_report};
 ghost use Rattle.chains.specs.Admission.{report_limit, process_limit};
@@ -15,7 +15,9 @@ ghost use Rattle.chains.specs.working.Testing.{IsNumberIn, IsNoAbsorb};
 use crate::admission::is_split;
 use crate::chains::Chains;
 use crate::keeping::KeepFault;
-use report_line::{ActionView, Forked, MarkedReport, Name, NumberedView, PackedReport, ReportView};
+use report_line::{
+    Forked, MarkedReport, Name, NumberedView, PackedReport, ReportKindView, ReportView,
+};
 use std::alloc::AllocError;
 
 impl Chains {
@@ -102,8 +104,8 @@ impl Chains {
         ensures { IsTrue result ↔ HasFitStamp self.now.accepted (numbered_of fields.entry) (action_of fields.entry.action) }
     {
         match fields.action {
-            ActionView::Absorb { retired } => self.fits_absorption(place, fields, retired),
-            ActionView::Fork(forked) => self.fits_fork(place, fields, forked),
+            ReportKindView::Absorb { retired } => self.fits_absorption(place, fields, retired),
+            ReportKindView::Fork(forked) => self.fits_fork(place, fields, forked),
             _ => self.fits_own(place, fields),
         }
     }

@@ -1,8 +1,8 @@
 -- What a turn's reply tells of what is held then, and what is shown for it.
 use Rattle.std.proofs.Common.{◌≡◌, inl, inr, ℕ, ◌+◌, ◌≤◌, List, Option, Some, None, Bool, true, false, refl, sym, ap, subst, ◌∙◌, arith}
 use Rattle.std.specs.Prelude.{◌⊎◌, ⊤, slice_get}
-use Rattle.report_line.specs.declared.report.Action.{Action}
-use Rattle.report_line.specs.declared.report.Action.TheVariants.{Check, Present, Fork, Retire, Absorb}
+use Rattle.report_line.specs.declared.report.ReportKind.{ReportKind}
+use Rattle.report_line.specs.declared.report.ReportKind.TheVariants.{Check, Present, Fork, Retire, Absorb}
 use Rattle.report_line.specs.declared.report.NumberedReport.{NumberedReport}
 use Rattle.report_line.specs.declared.report.Report.{Report}
 use Rattle.report_line.specs.declared.report.Report.TheVariants.{Begin, Numbered}
@@ -42,17 +42,17 @@ module _ (held : Held) (x : Reply) where
   fits : (r : Report) → FitsOrNot held r x → Kinds held x
   fits r = decided held _ _ x _ (inl tt) (decided held _ _ x _ (inl tt) (λ e. inr (inr e)))
 
-  action : (r : NumberedReport) (act : Action) → IsActionReply held r act x → Kinds held x
+  action : (r : NumberedReport) (act : ReportKind) → IsActionReply held r act x → Kinds held x
   action r Check = fits (Numbered r)
   action r Present = fits (Numbered r)
   action r (Fork f) = decided held _ _ x _ (inl tt) (decided held _ _ x _ (inl tt) (fits (Numbered r)))
   action r (Retire target) = decided held _ _ x _ (inl tt) (fits (Numbered r))
   action r (Absorb retired) = decided held _ _ x _ (inl tt) (fits (Numbered r))
 
-  stamped : (r : NumberedReport) (act : Action) → IsStampReply held r act x → Kinds held x
+  stamped : (r : NumberedReport) (act : ReportKind) → IsStampReply held r act x → Kinds held x
   stamped r act = decided held _ _ x _ (inl tt) (decided held _ _ x _ (inl tt) (action r act))
 
-  waiting : (r : NumberedReport) (act : Action) → IsWaitingReply held r act x → Kinds held x
+  waiting : (r : NumberedReport) (act : ReportKind) → IsWaitingReply held r act x → Kinds held x
   waiting r Check = stamped r Check
   waiting r Present = stamped r Present
   waiting r (Fork f) = stamped r (Fork f)

@@ -11,16 +11,18 @@ ghost use Rattle.desk.specs.Files.{IsShort, MayWantMemory, UsesDevice};
 ghost use Rattle.desk.specs.working.Parts.{WritesBy, IsFollowed};
 
 use crate::placing::report_placed;
+use crate::reply_pair::{
+    ReplyPair, bad, bye, failed, garbage_taken, line_taken, refused, state_told,
+};
 use crate::returning::settlement_placed;
 use crate::turn::TurnFault;
-use crate::twice::{Twice, bad, bye, failed, garbage_taken, line_taken, refused, state_told};
 use chains::Chains;
 use line_disk::Disk;
 use record_file::Store;
 use report_line::{Call, Code, Name, Names, Outcome};
 
 /// The turn of a question for a line.
-fn line_asked(chains: &Chains, stopped: bool, names: &Names) -> Twice
+fn line_asked(chains: &Chains, stopped: bool, names: &Names) -> ReplyPair
     ensures { IsQuestionTurn stopped fine (held_with chains.now stopped) (IsLineReply (held_with chains.now stopped) names.now) result (held_with chains.now stopped) }
 {
     if stopped {
@@ -30,7 +32,7 @@ fn line_asked(chains: &Chains, stopped: bool, names: &Names) -> Twice
 }
 
 /// The turn of the question for the line with every process failed.
-fn garbage_asked(chains: &Chains, stopped: bool) -> Twice
+fn garbage_asked(chains: &Chains, stopped: bool) -> ReplyPair
     ensures { IsQuestionTurn stopped fine (held_with chains.now stopped) (IsGarbageReply (held_with chains.now stopped)) result (held_with chains.now stopped) }
 {
     if stopped {
@@ -40,7 +42,7 @@ fn garbage_asked(chains: &Chains, stopped: bool) -> Twice
 }
 
 /// The turn of a question for the state of a process, if memory suffices for it.
-fn state_asked(chains: &Chains, stopped: bool, name: &Name) -> Result<Twice, TurnFault>
+fn state_asked(chains: &Chains, stopped: bool, name: &Name) -> Result<ReplyPair, TurnFault>
     ensures given { IfOk result (λ twice. IsQuestionTurn stopped fine (held_with chains.now stopped) (IsStateReply chains.now.accepted name.now) twice (held_with chains.now stopped)) }
     ensures err { IfErr result (λ fault. (fault ≡ TurnFault.Memory) × (stopped ≡ false) × IsKnown chains.now.accepted name.now) }
 {
@@ -59,7 +61,7 @@ pub(crate) fn answered<D: Disk>(
     store: &mut Store<D>,
     call: &Call,
     line: Option<&[u8]>,
-) -> Result<Twice, TurnFault>
+) -> Result<ReplyPair, TurnFault>
     requires read { IfSome line (λ l. IsReadOff l.now call.now) }
     requires short { IsShort call.now }
     ensures turn { IfOk result (λ reply. IsTurn (held_with chains.old (is_stopped store.old)) call.now reply (held_with chains.new (is_stopped store.new))) }

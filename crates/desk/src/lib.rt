@@ -10,9 +10,9 @@ mod fault;
 mod laws;
 mod opening;
 mod placing;
+mod reply_pair;
 mod returning;
 mod turn;
-mod twice;
 
 pub use desk::Desk;
 pub use fault::DeskFault;

@@ -13,14 +13,19 @@ ghost use Rattle.desk.specs.Files.{UsesDevice};
 ghost use Rattle.desk.specs.working.Parts.{Writes};
 ghost use Rattle.record_file.specs.File.{line_limit};
 
-use crate::twice::{Twice, accepted, failed, old, refused, refused_by};
+use crate::reply_pair::{ReplyPair, accepted, failed, old, refused, refused_by};
 use chains::{Chains, No, Prepared, Ready};
 use line_disk::Disk;
 use record_file::{Appended, Store};
 use report_line::{Code, MarkedReport, Outcome, write_line};
 
 /// Accepts a report that was prepared: only where its record, of this line, is in the file.
-fn append<D: Disk>(chains: &mut Chains, store: &mut Store<D>, ready: Ready, line: &[u8]) -> Twice
+fn append<D: Disk>(
+    chains: &mut Chains,
+    store: &mut Store<D>,
+    ready: Ready,
+    line: &[u8],
+) -> ReplyPair
     requires ready { MayBeAccepted chains.old ready }
     requires line { line.now ≡ line_of ready.report.report }
     requires short { length (line_of ready.report.report) ≤ line_limit }
@@ -47,7 +52,7 @@ fn record<D: Disk>(
     store: &mut Store<D>,
     ready: Ready,
     line: Option<&[u8]>,
-) -> Twice
+) -> ReplyPair
     requires ready { MayBeAccepted chains.old ready }
     requires read { IfSome line (λ l. IsUnmarkedLine l.now ready.report) }
     requires short { length (line_of ready.report.report) ≤ line_limit }
@@ -74,7 +79,7 @@ fn place<D: Disk>(
     report: &MarkedReport,
     prepared: Prepared,
     line: Option<&[u8]>,
-) -> Twice
+) -> ReplyPair
     requires ready { IsReady prepared chains.old }
     requires answer { Prepares (held_of chains.old) report.now (Ok prepared) }
     requires read { IfSome line (λ l. IsUnmarkedLine l.now report.now) }
@@ -108,7 +113,7 @@ fn reported<D: Disk>(
     store: &mut Store<D>,
     report: &MarkedReport,
     line: Option<&[u8]>,
-) -> Twice
+) -> ReplyPair
     requires read { IfSome line (λ l. IsUnmarkedLine l.now report.now) }
     requires short { length (line_of report.now.report) ≤ line_limit }
     requires running { is_stopped store.old ≡ false }
@@ -128,7 +133,7 @@ pub(crate) fn report_placed<D: Disk>(
     store: &mut Store<D>,
     report: &MarkedReport,
     line: Option<&[u8]>,
-) -> Twice
+) -> ReplyPair
     requires read { IfSome line (λ l. IsUnmarkedLine l.now report.now) }
     requires short { length (line_of report.now.report) ≤ line_limit }
     ensures turn { (fate : Fate) × IsReported (is_stopped store.old) fate (held_with chains.old (is_stopped store.old)) report.now result (held_with chains.new (is_stopped store.new)) }

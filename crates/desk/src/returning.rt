@@ -11,7 +11,7 @@ ghost use Rattle.desk.specs.Files.{UsesDevice};
 ghost use Rattle.desk.specs.working.Parts.{Writes, IsFollowed};
 ghost use Rattle.record_file.specs.File.{line_limit};
 
-use crate::twice::{Twice, failed, refused, refused_by, settled};
+use crate::reply_pair::{ReplyPair, failed, refused, refused_by, settled};
 use chains::Chains;
 use line_disk::Disk;
 use propagate::settle_named;
@@ -25,7 +25,7 @@ fn return_all<D: Disk>(
     store: &mut Store<D>,
     front: u32,
     names: &Names,
-) -> Twice
+) -> ReplyPair
     requires passes { PassesSettle (held_of chains.old) front names.now }
     requires short { length (settle_line front names.now) ≤ line_limit }
     requires running { is_stopped store.old ≡ false }
@@ -59,7 +59,7 @@ pub(crate) fn settlement_placed<D: Disk>(
     store: &mut Store<D>,
     front: u32,
     names: &Names,
-) -> Twice
+) -> ReplyPair
     requires short { length (settle_line front names.now) ≤ line_limit }
     ensures turn { (fate : Fate) × IsSettleAnswered (is_stopped store.old) fate (held_with chains.old (is_stopped store.old)) front names.now result (held_with chains.new (is_stopped store.new)) }
     ensures spelled { UsesDevice result → HasSpelling (calls.Settle front names.now) }

@@ -5,8 +5,8 @@ use Rattle.std.specs.Str.{bytes_eq}
 use Rattle.std.proofs.lemmas.Bool.{cond-false}
 use Rattle.std.proofs.lemmas.List.Elements.{Contains-append_cases, Contains-append_left, Contains-append_right}
 use Rattle.id_tree.specs.IdTree.{IdTree}
-use Rattle.report_line.specs.declared.step.Deed.{Deed}
-use Rattle.report_line.specs.declared.step.Deed.TheVariants.{Work, Check, Present, Send, Receive, Fork, Retire, Absorb}
+use Rattle.report_line.specs.declared.step.StepKind.{StepKind}
+use Rattle.report_line.specs.declared.step.StepKind.TheVariants.{Work, Check, Present, Send, Receive, Fork, Retire, Absorb}
 use Rattle.report_line.specs.declared.step.Step.{Step}
 use Rattle.report_line.specs.histories.History.{Name, History, Event, Status, Unborn, Living, Retired, status_of_other, status}
 use Rattle.report_line.specs.histories.Lawful.{IsAllowed, IsLawfulAbsorption, IsLawful, start, next}
@@ -19,11 +19,11 @@ use Rattle.history_law.proofs.Listed.{first_in, in_cases, none_in}
 use Rattle.driver.proofs.ElementEvents.{list_of, reported_of}
 
 -- who is born by a deed
-child_by : Deed → List Name
+child_by : StepKind → List Name
 child_by (Fork c i) = c ∷ []
 child_by _ = []
 
-known_by : (root : Name) (h : History) (s : Step) (d : Deed) → known (list_of (report_by root h s d)) ≡ child_by d
+known_by : (root : Name) (h : History) (s : Step) (d : StepKind) → known (list_of (report_by root h s d)) ≡ child_by d
 unfolding child_by
 known_by root h s Work = refl
 known_by root h s Check = refl
@@ -39,7 +39,7 @@ known_next root h s =
     filter_map-append newborn (reported_of root h) (list_of (report_by root h s s.deed))
     ∙ ap (λ (l : List Name). known (reported_of root h) ++ l) (known_by root h s s.deed)
 
-forked_by : (d : Deed) (p : Name) → Contains (child_by d) p → (i : IdTree) × (d ≡ Fork p i)
+forked_by : (d : StepKind) (p : Name) → Contains (child_by d) p → (i : IdTree) × (d ≡ Fork p i)
 unfolding child_by
 forked_by (Fork c i) p at =
     elim (in_cases c p [] at) [
@@ -54,9 +54,9 @@ forked_by (Receive m) p at = absurd (none_in p at)
 forked_by (Retire q) p at = absurd (none_in p at)
 forked_by (Absorb r) p at = absurd (none_in p at)
 
-forks_it : (d : Deed) (p : Name) (i : IdTree) → d ≡ Fork p i → Contains (child_by d) p
+forks_it : (d : StepKind) (p : Name) (i : IdTree) → d ≡ Fork p i → Contains (child_by d) p
 unfolding child_by
-forks_it d p i is = subst (λ (a : Deed). Contains (child_by a) p) (sym is) (first_in p [])
+forks_it d p i is = subst (λ (a : StepKind). Contains (child_by a) p) (sym is) (first_in p [])
 
 pub known_is_born : (root : Name) (h : History) (p : Name) → IsKnown (reported_of root h) p → status root h p ≢ Unborn
 known_is_born root [] p at unborn =
@@ -86,7 +86,7 @@ unborn_retired : (x : Event) (q : Name) → (let now : Status = Unborn in now �
 unborn_retired x q is = cc
 
 -- who is not born stays so, where the step neither makes nor absorbs it
-stays_unborn : (h : History) (s : Step) (p : Name) (d : Deed) → ((i : IdTree) → d ≢ Fork p i) → d ≢ Absorb p → status_of_other h s d p Unborn ≡ Unborn
+stays_unborn : (h : History) (s : Step) (p : Name) (d : StepKind) → ((i : IdTree) → d ≢ Fork p i) → d ≢ Absorb p → status_of_other h s d p Unborn ≡ Unborn
 stays_unborn h s p (Fork c i) no_fork no_absorb = cond-false (bytes_eq p c) _ _ (bytes_other p c (λ same. no_fork i (ap (λ (n : Name). Fork n i) (sym same))))
 stays_unborn h s p (Absorb r) no_fork no_absorb = cond-false (bytes_eq p r) _ _ (bytes_other p r (λ same. no_absorb (ap Absorb (sym same))))
 stays_unborn h s p Work no_fork no_absorb = refl
@@ -97,7 +97,7 @@ stays_unborn h s p (Receive m) no_fork no_absorb = refl
 stays_unborn h s p (Retire q) no_fork no_absorb = refl
 
 pub absorption_of : (root : Name) (h : History) (b : Event) (s : Step) (r : Name) → IsAllowed root h b s s.deed → s.deed ≡ Absorb r → IsLawfulAbsorption root h b s r
-absorption_of root h b s r w is = subst (λ (a : Deed). IsAllowed root h b s a) is w
+absorption_of root h b s r w is = subst (λ (a : StepKind). IsAllowed root h b s a) is w
 
 pub born_is_known : {root : Name} {h : History} → IsLawful root h → (p : Name) → (¬ IsKnown (reported_of root h) p) → status root h p ≡ Unborn
 unfolding status

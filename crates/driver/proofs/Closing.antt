@@ -4,8 +4,8 @@ use Rattle.std.specs.Option.{is_some}
 use Rattle.std.specs.Str.{bytes_eq}
 use Rattle.std.proofs.lemmas.Bool.{true≢false, cond-true, cond-false, cases_Bool}
 use Rattle.id_tree.specs.IdTree.{IdTree}
-use Rattle.report_line.specs.declared.step.Deed.{Deed}
-use Rattle.report_line.specs.declared.step.Deed.TheVariants.{Send, Receive, Fork, Absorb}
+use Rattle.report_line.specs.declared.step.StepKind.{StepKind}
+use Rattle.report_line.specs.declared.step.StepKind.TheVariants.{Send, Receive, Fork, Absorb}
 use Rattle.report_line.specs.declared.step.Step.{Step}
 use Rattle.report_line.specs.histories.History.{Name, Message, History, Event, event_of, birth_by, Status, Unborn, Living, Retired, Absorbed, status_of_other, last_of, status, sends, sending}
 use Rattle.report_line.specs.histories.Lawful.{IsAllowed, IsLawful, start, next}
@@ -64,7 +64,7 @@ closed_at root h cut s closed = record {
 -- ---- what was sent is kept just where its event is
 
 -- a send of the message is lawful only as the first one
-first_sent : (root : Name) (h : History) (b : Event) (s : Step) (m : Message) (d : Deed) → IsAllowed root h b s d → sends d m ≡ true → sending h m ≡ None
+first_sent : (root : Name) (h : History) (b : Event) (s : Step) (m : Message) (d : StepKind) → IsAllowed root h b s d → sends d m ≡ true → sending h m ≡ None
 first_sent root h b s m (Send n) allowed is = ap (sending h) (sym (bytes_are n m is)) ∙ allowed.1
 first_sent root h b s m _ allowed is = absurd (true≢false (sym is))
 
@@ -112,7 +112,7 @@ unborn_absorbed : Unborn ≡ Absorbed → ⊥
 unborn_absorbed is = cc
 
 -- how another one stands after a step, which is not born by it
-other_stands : (h : History) (s : Step) (r : Name) (d : Deed) (now : Status) → ((i : IdTree) → d ≢ Fork r i) → (status_of_other h s d r now ≡ now) ⊎ (status_of_other h s d r now ≡ Absorbed)
+other_stands : (h : History) (s : Step) (r : Name) (d : StepKind) (now : Status) → ((i : IdTree) → d ≢ Fork r i) → (status_of_other h s d r now ≡ now) ⊎ (status_of_other h s d r now ≡ Absorbed)
 other_stands h s r (Fork c i) now not_born =
     elim (cases_name r c) [
       | inl same ↦ absurd (not_born i (ap (λ (n : Name). Fork n i) (sym same)))

@@ -9,8 +9,8 @@ use Rattle.std.proofs.lemmas.List.{map-append, append-nil}
 use Rattle.std.proofs.lemmas.List.Elements.{filter_map-append}
 use Rattle.report_line.specs.declared.report.Report.{Report}
 use Rattle.report_line.specs.declared.report.Report.TheVariants.{Begin}
-use Rattle.report_line.specs.declared.step.Deed.{Deed}
-use Rattle.report_line.specs.declared.step.Deed.TheVariants.{Work, Check, Present, Send, Receive, Fork, Retire, Absorb}
+use Rattle.report_line.specs.declared.step.StepKind.{StepKind}
+use Rattle.report_line.specs.declared.step.StepKind.TheVariants.{Work, Check, Present, Send, Receive, Fork, Retire, Absorb}
 use Rattle.report_line.specs.declared.step.Step.{Step}
 use Rattle.report_line.specs.histories.History.{Name, History, Event, birth_of_root, event_of, birth_by}
 use Rattle.report_line.specs.histories.StepReports.{report_by, reports}
@@ -28,7 +28,7 @@ list_of o = cons_option o []
 
 -- ---- the elements that last
 
-abbrev pub lasting_by : History → Step → Name → Deed → List Event
+abbrev pub lasting_by : History → Step → Name → StepKind → List Event
 lasting_by h s p Check = if bytes_eq p s.process then event_of h s ∷ [] else []
 lasting_by h s p (Fork c i) = if bytes_eq p c then birth_by h s c i ∷ [] else []
 lasting_by h s p _ = []
@@ -41,7 +41,7 @@ one_if : (b : Bool) (e : Event) → list_of (only_if b (stamp_of e)) ≡ map sta
 one_if true e = refl
 one_if false e = refl
 
-lasting_here : (root : Name) (h : History) (s : Step) (p : Name) (d : Deed) → filter_map (lasting_made p) (list_of (report_by root h s d)) ≡ map stamp_of (lasting_by h s p d)
+lasting_here : (root : Name) (h : History) (s : Step) (p : Name) (d : StepKind) → filter_map (lasting_made p) (list_of (report_by root h s d)) ≡ map stamp_of (lasting_by h s p d)
 lasting_here root h s p Work = refl
 lasting_here root h s p Check = one_if (bytes_eq p s.process) (event_of h s)
 lasting_here root h s p Present = refl
@@ -61,7 +61,7 @@ lasting_is root (s ∷ h) p =
 
 -- ---- the last report: a present state, or a retirement
 
-abbrev pub present_by : Deed → Event → Option Event → Option Event
+abbrev pub present_by : StepKind → Event → Option Event → Option Event
 present_by Work e before = before
 present_by Check e before = None
 present_by Present e before = Some e
@@ -75,7 +75,7 @@ abbrev pub present_event : History → Name → Option Event
 present_event [] p = None
 present_event (s ∷ h) p = if bytes_eq p s.process then present_by s.deed (event_of h s) (present_event h p) else present_event h p
 
-abbrev pub retired_by : Deed → Bool → Bool
+abbrev pub retired_by : StepKind → Bool → Bool
 retired_by Work before = before
 retired_by Check before = false
 retired_by Present before = false
@@ -95,10 +95,10 @@ record Tells (o : Option Report) (e : Option Event) (b : Bool) : Type 0 where
   pub retired : is_some (target_after o) ≡ b
 
 -- the last report with those of a step
-abbrev with_step : Name → Name → History → Step → Deed → Option Report
+abbrev with_step : Name → Name → History → Step → StepKind → Option Report
 with_step p root h s d = last_report p (reported_of root h ++ list_of (report_by root h s d))
 
-told_by : (root : Name) (h : History) (s : Step) (p : Name) (d : Deed) (e : Option Event) (b : Bool) → Tells (last_report p (reported_of root h)) e b → bytes_eq p s.process ≡ true
+told_by : (root : Name) (h : History) (s : Step) (p : Name) (d : StepKind) (e : Option Event) (b : Bool) → Tells (last_report p (reported_of root h)) e b → bytes_eq p s.process ≡ true
     → Tells (with_step p root h s d) (present_by d (event_of h s) e) (retired_by d b)
 told_by root h s p Work e b before is = subst (λ l. Tells (last_report p l) e b) (sym (append-nil (reported_of root h))) before
 told_by root h s p (Send m) e b before is = subst (λ l. Tells (last_report p l) e b) (sym (append-nil (reported_of root h))) before
@@ -109,7 +109,7 @@ told_by root h s p (Fork c i) e b before is = subst (λ o. Tells o None false) (
 told_by root h s p (Retire q) e b before is = subst (λ o. Tells o None true) (sym (passing (is_numbered_of p) (reported_of root h) _ is)) (record { present = refl; retired = refl })
 told_by root h s p (Absorb r) e b before is = subst (λ o. Tells o None false) (sym (passing (is_numbered_of p) (reported_of root h) _ is)) (record { present = refl; retired = refl })
 
-not_told_by : (root : Name) (h : History) (s : Step) (p : Name) (d : Deed) → bytes_eq p s.process ≡ false → with_step p root h s d ≡ last_report p (reported_of root h)
+not_told_by : (root : Name) (h : History) (s : Step) (p : Name) (d : StepKind) → bytes_eq p s.process ≡ false → with_step p root h s d ≡ last_report p (reported_of root h)
 not_told_by root h s p Work is = ap (last_report p) (append-nil (reported_of root h))
 not_told_by root h s p (Send m) is = ap (last_report p) (append-nil (reported_of root h))
 not_told_by root h s p (Receive m) is = ap (last_report p) (append-nil (reported_of root h))

@@ -12,13 +12,13 @@ use Rattle.id_tree.proofs.Sums as sums
 use Rattle.event_tree.specs.EventTree.{EventTree}
 use Rattle.event_tree.specs.Join.{IsJoin}
 use Rattle.event_tree.specs.Values.{value_at, IsAtOrBelow}
-use Rattle.report_line.specs.declared.report.Action.{Action}
-use Rattle.report_line.specs.declared.report.Action.TheVariants as acts
+use Rattle.report_line.specs.declared.report.ReportKind.{ReportKind}
+use Rattle.report_line.specs.declared.report.ReportKind.TheVariants as acts
 use Rattle.report_line.specs.declared.report.NumberedReport.{NumberedReport}
 use Rattle.report_line.specs.declared.report.Report.{Report}
 use Rattle.report_line.specs.declared.report.Report.TheVariants.{Begin, Numbered}
-use Rattle.report_line.specs.declared.step.Deed.{Deed}
-use Rattle.report_line.specs.declared.step.Deed.TheVariants.{Work, Check, Present, Send, Receive, Fork, Retire, Absorb}
+use Rattle.report_line.specs.declared.step.StepKind.{StepKind}
+use Rattle.report_line.specs.declared.step.StepKind.TheVariants.{Work, Check, Present, Send, Receive, Fork, Retire, Absorb}
 use Rattle.report_line.specs.declared.step.Step.{Step}
 use Rattle.report_line.specs.histories.History.{Name, History, Event, Unborn, Living, Retired, status, last_of}
 use Rattle.report_line.specs.histories.Lawful.{IsSameId, IsAllowed, IsLawful}
@@ -79,7 +79,7 @@ module _ (accepted : List Report) (root : Name) (h : History) (b : Event) (s : S
   split_of : (l r : IdTree) → IsSplit b.id l r → IsSplit (registered_id s.process accepted) l r
   split_of l r w = record { left = w.left; right = w.right; disjoint = w.disjoint; together = λ point. sym (own.same point) ∙ w.together point }
 
-  fit_with : (id : IdTree) (a : Action) → id ≡ expected_id accepted s.process a → IsFitAction accepted (report_with h s id a) a → IsFitReport accepted (report_with h s id a)
+  fit_with : (id : IdTree) (a : ReportKind) → id ≡ expected_id accepted s.process a → IsFitAction accepted (report_with h s id a) a → IsFitReport accepted (report_with h s id a)
   fit_with id a expected fit = record {
     begun = tied.begun;
     is_known = tied.known s.process (λ unborn. living_not_unborn b (sym lives ∙ unborn));
@@ -90,7 +90,7 @@ module _ (accepted : List Report) (root : Name) (h : History) (b : Event) (s : S
     fit = fit;
   }
 
-  pub fit_by : (d : Deed) → (r : Report) → report_by root h s d ≡ Some r → IsAllowed root h b s d → HasLine r → IsFit accepted r
+  pub fit_by : (d : StepKind) → (r : Report) → report_by root h s d ≡ Some r → IsAllowed root h b s d → HasLine r → IsFit accepted r
   fit_by Work r is w = absurd (none_report r is)
   fit_by (Send m) r is w = absurd (none_report r is)
   fit_by (Receive m) r is w = absurd (none_report r is)

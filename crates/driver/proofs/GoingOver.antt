@@ -7,8 +7,8 @@ use Rattle.std.proofs.lemmas.Bool.{cases_Bool, true≢false, and_from}
 use Rattle.std.proofs.lemmas.List.{reverse-append, take-append-drop}
 use Rattle.indexmap.specs.IndexMap.{get}
 use Rattle.event_tree.specs.EventTree.{EventTree}
-use Rattle.report_line.specs.declared.step.Deed.{Deed}
-use Rattle.report_line.specs.declared.step.Deed.TheVariants.{Work, Check, Present, Send, Receive, Fork, Retire, Absorb}
+use Rattle.report_line.specs.declared.step.StepKind.{StepKind}
+use Rattle.report_line.specs.declared.step.StepKind.TheVariants.{Work, Check, Present, Send, Receive, Fork, Retire, Absorb}
 use Rattle.report_line.specs.declared.step.Step.{Step as Taken}
 use Rattle.report_line.specs.histories.History.{Name, Message, History, Event, event_of, Status, Unborn, Living, Retired, Absorbed, status, sending}
 use Rattle.report_line.specs.histories.Lawful.{IsAllowed, IsLawfulReceive, IsLawful, start, next}
@@ -150,7 +150,7 @@ retired_absorbed : (d : Event) (p : Name) → Retired d p ≡ Absorbed → ⊥
 retired_absorbed d p is = cc
 
 receive_of : (root : Name) (h : History) (b : Event) (s : Taken) (m : Message) → IsAllowed root h b s s.deed → s.deed ≡ Receive m → IsLawfulReceive h b s m
-receive_of root h b s m w is = subst (λ (a : Deed). IsAllowed root h b s a) is w
+receive_of root h b s m w is = subst (λ (a : StepKind). IsAllowed root h b s a) is w
 
 module _ (root : Name) (epoch : ℕ) (marks : Marks) (h : History) (s : Taken) (t : Tables) (so_far : AreKept root epoch (cut_by marks) h t) (lawful : IsLawful root (s ∷ h)) where
   before : IsNext root h s
@@ -190,14 +190,14 @@ module _ (root : Name) (epoch : ℕ) (marks : Marks) (h : History) (s : Taken) (
 
   -- the step is not in the cut
 
-  left_closed : (d : Deed) → s.deed ≡ d → bears marks d (length (s ∷ h)) ≡ false → cut_by marks (event_of h s) ≡ false → IsClosedAt root h (cut_by marks) s
+  left_closed : (d : StepKind) → s.deed ≡ d → bears marks d (length (s ∷ h)) ≡ false → cut_by marks (event_of h s) ≡ false → IsClosedAt root h (cut_by marks) s
   left_closed d is no_birth out = record {
-    birth = λ c i forks inside. absurd (true≢false (sym inside ∙ (sym (ap (λ (a : Deed). bears marks a (length (s ∷ h))) (sym is ∙ forks)) ∙ no_birth)));
+    birth = λ c i forks inside. absurd (true≢false (sym inside ∙ (sym (ap (λ (a : StepKind). bears marks a (length (s ∷ h))) (sym is ∙ forks)) ∙ no_birth)));
     sent = λ m x receives sent inside. absurd (true≢false (sym inside ∙ out));
     retired = λ r x absorbs retired inside. absurd (true≢false (sym inside ∙ out));
   }
 
-  left_open : (d : Deed) → s.deed ≡ d → bears marks d (length (s ∷ h)) ≡ true → cut_by marks (event_of h s) ≡ false → ¬ IsClosed root (s ∷ h) (cut_by marks)
+  left_open : (d : StepKind) → s.deed ≡ d → bears marks d (length (s ∷ h)) ≡ true → cut_by marks (event_of h s) ≡ false → ¬ IsClosed root (s ∷ h) (cut_by marks)
   left_open (Fork c i) is bearing out closed = true≢false (sym ((closed_at root h (cut_by marks) s closed).birth c i is bearing) ∙ out)
   left_open Work is bearing out closed = true≢false (sym bearing)
   left_open Check is bearing out closed = true≢false (sym bearing)
@@ -209,14 +209,14 @@ module _ (root : Name) (epoch : ℕ) (marks : Marks) (h : History) (s : Taken) (
 
   -- the step is in the cut
 
-  taken_closed : (d : Deed) → s.deed ≡ d → is_due t d ≡ true → cut_by marks (event_of h s) ≡ true → IsClosedAt root h (cut_by marks) s
+  taken_closed : (d : StepKind) → s.deed ≡ d → is_due t d ≡ true → cut_by marks (event_of h s) ≡ true → IsClosedAt root h (cut_by marks) s
   taken_closed d is due reached = record {
     birth = λ c i forks inside. reached;
     sent = λ m x receives sent inside. sym (sent_by_tables m x sent) ∙ (ap (is_due t) (sym receives ∙ is) ∙ due);
     retired = λ r x absorbs retired inside. sym (waits_by_tables r x s.process retired) ∙ (ap (is_due t) (sym absorbs ∙ is) ∙ due);
   }
 
-  taken_open : (d : Deed) → s.deed ≡ d → is_due t d ≡ false → cut_by marks (event_of h s) ≡ true → ¬ IsClosed root (s ∷ h) (cut_by marks)
+  taken_open : (d : StepKind) → s.deed ≡ d → is_due t d ≡ false → cut_by marks (event_of h s) ≡ true → ¬ IsClosed root (s ∷ h) (cut_by marks)
   taken_open (Receive m) is due reached closed =
       (let w = receive_of root h before.before s m before.allowed is in
       true≢false (sym ((closed_at root h (cut_by marks) s closed).sent m w.sent is w.is_sent reached) ∙ (sym (sent_by_tables m w.sent w.is_sent) ∙ due)))

@@ -8,17 +8,17 @@ use Rattle.stamp.specs.declared.stamp.Stamp.{Stamp}
 use Rattle.stamp.specs.Stamps.{IsStamp}
 use Rattle.report_line.specs.declared.report.Report.{Report}
 use Rattle.report_line.specs.declared.report.NumberedReport.{NumberedReport}
-use Rattle.report_line.specs.declared.report.Action.{Action}
-use Rattle.report_line.specs.declared.report.Action.TheVariants as acts
-use Rattle.report_line.specs.declared.step.Deed.{Deed}
-use Rattle.report_line.specs.declared.step.Deed.TheVariants.{Work, Check, Present, Send, Receive, Fork, Retire, Absorb}
+use Rattle.report_line.specs.declared.report.ReportKind.{ReportKind}
+use Rattle.report_line.specs.declared.report.ReportKind.TheVariants as acts
+use Rattle.report_line.specs.declared.step.StepKind.{StepKind}
+use Rattle.report_line.specs.declared.step.StepKind.TheVariants.{Work, Check, Present, Send, Receive, Fork, Retire, Absorb}
 use Rattle.report_line.specs.declared.step.Step.{Step as Taken}
 use Rattle.report_line.specs.histories.History.{Name, History, Event, Living, status}
 use Rattle.report_line.specs.Names.{is_name}
 use Rattle.report_line.specs.Spelling.{IsAction, AreFields}
 use Rattle.report_line.specs.histories.StepReports.{is_reported, reporting_steps, id_of, numbered, report_by}
 use Rattle.lawful_reports.specs.HandedOver.{HasLine}
-use Rattle.driver.specs.declared.step.Act.{Act}
+use Rattle.driver.specs.declared.step.StepRequest.{StepRequest}
 use Rattle.driver.specs.working.Made.{Made}
 use Rattle.driver.specs.Stamping.{stamp_of}
 use Rattle.driver.specs.working.Making.{Makes, IsReady, HasLineOf, HasParts, HasWholeParts, HasLineIfCounted}
@@ -31,10 +31,10 @@ none_report y is = cc
 pub fields_if_counted : (r : NumberedReport) → IsTrue (is_name r.process) → r.number < 2 ^ 32 → IsStamp r.stamp → IsAction r.action → r.number ≢ 0 → AreFields r
 fields_if_counted r name few stamped acted some = record { name = name; count = (omega arith, few); stamped = stamped; acted = acted }
 
-counted_from_one : (h : History) (s : Taken) (i : IdTree) (a : Action) → HasLineIfCounted (numbered h s i a) → HasLine (numbered h s i a)
+counted_from_one : (h : History) (s : Taken) (i : IdTree) (a : ReportKind) → HasLineIfCounted (numbered h s i a) → HasLine (numbered h s i a)
 counted_from_one h s i a line = (omega arith, line (λ none. omega arith))
 
-counted_line : (root : Name) (h : History) (s : Taken) (d : Deed) (r : Report) → report_by root h s d ≡ Some r → HasLineIfCounted r → HasLine r
+counted_line : (root : Name) (h : History) (s : Taken) (d : StepKind) (r : Report) → report_by root h s d ≡ Some r → HasLineIfCounted r → HasLine r
 counted_line root h s Work r is = absurd (none_report r is)
 counted_line root h s (Send m) r is = absurd (none_report r is)
 counted_line root h s (Receive m) r is = absurd (none_report r is)
@@ -46,7 +46,7 @@ counted_line root h s (Fork c i) r is =
 counted_line root h s (Retire q) r is = subst (λ (x : Report). HasLineIfCounted x → HasLine x) (same_Some _ r is) (counted_from_one h s s.stamp.id (acts.Retire q))
 counted_line root h s (Absorb q) r is = subst (λ (x : Report). HasLineIfCounted x → HasLine x) (same_Some _ r is) (counted_from_one h s s.stamp.id (acts.Absorb q))
 
-pub ready_made : (root : Name) (h : History) (p : Name) (act : Act) (made : Made) → Makes root h p act made → ((r : Report) → made.report ≡ Some r → HasLineIfCounted r)
+pub ready_made : (root : Name) (h : History) (p : Name) (act : StepRequest) (made : Made) → Makes root h p act made → ((r : Report) → made.report ≡ Some r → HasLineIfCounted r)
     → IsReady root h made
 ready_made root h p act made makes lines = record {
   before = makes.before;
@@ -60,7 +60,7 @@ ready_made root h p act made makes lines = record {
 
 module _ (root : Name) (h : History) (s : Taken) (b : Event) (before : Stamp) (n : ℕ) (lives : status root h s.process ≡ Living b) (is_before : before ≡ stamp_of b)
     (count : n ≡ reporting_steps s.process h) (parts : HasWholeParts s before) where
-  line_with : (i : IdTree) (a : Action) → IsId i → IsAction a → n + 1 < 2 ^ 32 → HasLine (numbered h s i a)
+  line_with : (i : IdTree) (a : ReportKind) → IsId i → IsAction a → n + 1 < 2 ^ 32 → HasLine (numbered h s i a)
   line_with i a id action few = (
     omega arith,
     record {
@@ -74,7 +74,7 @@ module _ (root : Name) (h : History) (s : Taken) (b : Event) (before : Stamp) (n
   id_before : IsId (id_of (status root h s.process))
   id_before = subst IsId (ap (λ (x : Stamp). x.id) is_before ∙ ap id_of (sym lives)) parts.before.id
 
-  line_by : (d : Deed) (r : Report) → HasParts d → (is_reported d ≡ true → n + 1 < 2 ^ 32) → report_by root h s d ≡ Some r → HasLine r
+  line_by : (d : StepKind) (r : Report) → HasParts d → (is_reported d ≡ true → n + 1 < 2 ^ 32) → report_by root h s d ≡ Some r → HasLine r
   line_by Work r has few is = absurd (none_report r is)
   line_by (Send m) r has few is = absurd (none_report r is)
   line_by (Receive m) r has few is = absurd (none_report r is)

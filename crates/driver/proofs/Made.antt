@@ -5,14 +5,14 @@ use Rattle.id_tree.specs.Points.{owns}
 use Rattle.stamp.specs.declared.stamp.Stamp.{Stamp}
 use Rattle.event_tree.specs.EventTree.{EventTree}
 use Rattle.stamp.specs.Operations.{IsFork, IsNormalJoin}
-use Rattle.report_line.specs.declared.report.Action.TheVariants as acts
-use Rattle.report_line.specs.declared.step.Deed.{Deed}
-use Rattle.report_line.specs.declared.step.Deed.TheVariants as deeds
+use Rattle.report_line.specs.declared.report.ReportKind.TheVariants as acts
+use Rattle.report_line.specs.declared.step.StepKind.{StepKind}
+use Rattle.report_line.specs.declared.step.StepKind.TheVariants as deeds
 use Rattle.report_line.specs.histories.History.{Name, History, Event, Unborn, Retired, status, sending}
 use Rattle.report_line.specs.histories.Lawful.{IsOwnWork}
 use Rattle.report_line.specs.histories.StepReports.{reporting_steps, id_of}
 use Rattle.histories.proofs.Status.{root_born}
-use Rattle.driver.specs.declared.step.Act.TheVariants.{Work, Check, Present, Send, Receive, Fork, Retire, Absorb}
+use Rattle.driver.specs.declared.step.StepRequest.TheVariants.{Work, Check, Present, Send, Receive, Fork, Retire, Absorb}
 use Rattle.driver.specs.declared.known.Known.TheVariants.{Born, Gone}
 use Rattle.driver.specs.working.Made.{Made, step_of, silently, openly}
 use Rattle.driver.specs.declared.making.Alive.{Alive}
@@ -23,7 +23,7 @@ use Rattle.driver.specs.working.Making.{IsAlive, IsEventMade, IsForkMade, IsRece
 use Rattle.driver.proofs.Verdicts.{passed}
 
 -- an event on the own stamp is the own work
-pub own_work : (e : Event) (p : Name) (d : Deed) (t : Stamp) → IsEventMade (stamp_of e) t → IsOwnWork e e.values (step_of p d t)
+pub own_work : (e : Event) (p : Name) (d : StepKind) (t : Stamp) → IsEventMade (stamp_of e) t → IsOwnWork e e.values (step_of p d t)
 own_work e p d t w = record { same_id = λ point. ap (λ (i : IdTree). owns i point) w.event.id; grown = w.grown }
 
 pub from_last : (s t : Stamp) (e : Event) → s ≡ stamp_of e → IsEventMade s t → IsEventMade (stamp_of e) t

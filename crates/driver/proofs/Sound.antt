@@ -8,8 +8,8 @@ use Rattle.std.proofs.lemmas.Bool.{cases_Bool, cond-true, cond-false, true≢fal
 use Rattle.id_tree.specs.IdTree.{IdTree, One}
 use Rattle.stamp.specs.declared.stamp.Stamp.{Stamp}
 use Rattle.event_tree.specs.EventTree.{EventTree, Leaf}
-use Rattle.report_line.specs.declared.step.Deed.{Deed}
-use Rattle.report_line.specs.declared.step.Deed.TheVariants.{Work, Check, Present, Send, Receive, Fork, Retire, Absorb}
+use Rattle.report_line.specs.declared.step.StepKind.{StepKind}
+use Rattle.report_line.specs.declared.step.StepKind.TheVariants.{Work, Check, Present, Send, Receive, Fork, Retire, Absorb}
 use Rattle.report_line.specs.declared.step.Step.{Step as Taken}
 use Rattle.report_line.specs.histories.History.{Name, History, Event, Status, Unborn, Living, Absorbed, status_of_actor, status_of_other, status, event_of, birth_by, sends, sending, birth_of_root}
 use Rattle.std.proofs.lemmas.List.{reverse-append}
@@ -47,17 +47,17 @@ flipped p q =
     ]
 
 -- the actor
-more : (d : Deed) (n : ℕ) → reports_after d n ≡ (if is_reported d then suc n else n)
+more : (d : StepKind) (n : ℕ) → reports_after d n ≡ (if is_reported d then suc n else n)
 more d n = (let up : n + 1 ≡ suc n = omega arith in ap (λ (k : ℕ). if is_reported d then k else n) up)
 
-actor_shown : (steps : List Taken) (place : ℕ) (h : History) (s : Taken) (a : Deed) (n : ℕ) → slice_get steps place ≡ Some s
+actor_shown : (steps : List Taken) (place : ℕ) (h : History) (s : Taken) (a : StepKind) (n : ℕ) → slice_get steps place ≡ Some s
     → Some (standing steps (kept_of_actor a place n)) ≡ shown (status_of_actor a (event_of h s)) n
 actor_shown steps place h s a n at = by_deed a
   where
     lives : Some (option_map (λ x. LivesWith x.stamp n) (slice_get steps place)) ≡ Some (Some (LivesWith s.stamp n))
     lives = ap (λ (o : Option Taken). Some (option_map (λ x. LivesWith x.stamp n) o)) at
 
-    by_deed : (d : Deed) → Some (standing steps (kept_of_actor d place n)) ≡ shown (status_of_actor d (event_of h s)) n
+    by_deed : (d : StepKind) → Some (standing steps (kept_of_actor d place n)) ≡ shown (status_of_actor d (event_of h s)) n
     by_deed Work = lives
     by_deed Check = lives
     by_deed Present = lives
@@ -76,7 +76,7 @@ uncounted true b n is = absurd (cc)
 uncounted false b n is = refl
 
 -- another process: a child begins without reports
-other_shown : (steps : List Taken) (root : Name) (h : History) (s : Taken) (p : Name) (kept : Option Known) (a : Deed)
+other_shown : (steps : List Taken) (root : Name) (h : History) (s : Taken) (p : Name) (kept : Option Known) (a : StepKind)
     → ((c : Name) (i : IdTree) → a ≡ Fork c i → status root h c ≡ Unborn) → option_map (standing steps) kept ≡ shown (status root h p) (reporting_steps p h)
     → option_map (standing steps) (noted_other (kept_of_other a s.stamp) p kept) ≡ shown (status_of_other h s a p (status root h p)) (reporting_steps p h)
 other_shown steps root h s p kept Work child is_kept = is_kept
@@ -135,7 +135,7 @@ sent_shown : (stands : ℕ → Option EventTree) (b : Bool) (place : ℕ) (kept 
 sent_shown stands true place kept e before here is_kept = ap Some here
 sent_shown stands false place kept e before here is_kept = is_kept
 
-message_shown : (stands : ℕ → Option EventTree) (h : History) (s : Taken) (m : Name) (place : ℕ) (kept : Option ℕ) (before : Option Event) (a : Deed)
+message_shown : (stands : ℕ → Option EventTree) (h : History) (s : Taken) (m : Name) (place : ℕ) (kept : Option ℕ) (before : Option Event) (a : StepKind)
     → stands place ≡ Some s.stamp.events → option_map stands kept ≡ carried before
     → option_map stands (noted_message a place m kept) ≡ carried (if sends a m then Some (event_of h s) else before)
 message_shown stands h s m place kept before Work here is_kept = is_kept

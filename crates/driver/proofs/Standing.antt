@@ -8,8 +8,8 @@ use Rattle.std.proofs.lemmas.Bool.Decides.{eqb_tells}
 use Rattle.std.proofs.lemmas.List.{length-append, length-map}
 use Rattle.std.proofs.lemmas.Option.{none-some, same_Some, slice_get-map}
 use Rattle.stamp.specs.declared.stamp.Stamp.{Stamp}
-use Rattle.report_line.specs.declared.step.Deed.{Deed}
-use Rattle.report_line.specs.declared.step.Deed.TheVariants.{Work, Check, Present, Send, Receive, Fork, Retire, Absorb}
+use Rattle.report_line.specs.declared.step.StepKind.{StepKind}
+use Rattle.report_line.specs.declared.step.StepKind.TheVariants.{Work, Check, Present, Send, Receive, Fork, Retire, Absorb}
 use Rattle.report_line.specs.declared.step.Step.{Step}
 use Rattle.report_line.specs.histories.History.{Name, History, Event, event_of, birth_by, birth_of_root}
 use Rattle.report_line.specs.histories.Lawful.{IsLawful}
@@ -49,7 +49,7 @@ if_there false e x k is = absurd (none_at k x is)
 event_if : (root : Name) (h : History) (p : Name) (b : Bool) (e x : Event) (k : ℕ) → (b ≡ true → IsOf root h p e) → slice_get (if b then e ∷ [] else []) k ≡ Some x → IsOf root h p x
 event_if root h p b e x k of is = (let w = if_there b e x k is in subst (IsOf root h p) w.1 (of w.0))
 
-lasting_by_occurs : (root : Name) (h : History) (s : Step) (p : Name) (d : Deed) (k : ℕ) (x : Event) → s.deed ≡ d → slice_get (lasting_by h s p d) k ≡ Some x → IsOf root (s ∷ h) p x
+lasting_by_occurs : (root : Name) (h : History) (s : Step) (p : Name) (d : StepKind) (k : ℕ) (x : Event) → s.deed ≡ d → slice_get (lasting_by h s p d) k ≡ Some x → IsOf root (s ∷ h) p x
 lasting_by_occurs root h s p Check k x is at = event_if root (s ∷ h) p (bytes_eq p s.process) (event_of h s) x k (λ same. (step, sym (bytes_are p s.process same))) at
 lasting_by_occurs root h s p (Fork c i) k x is at = event_if root (s ∷ h) p (bytes_eq p c) (birth_by h s c i) x k (λ same. (birth is, sym (bytes_are p c same))) at
 lasting_by_occurs root h s p Work k x is at = absurd (none_at k x at)
@@ -67,7 +67,7 @@ lasting_occurs root (s ∷ h) p k x at =
       | inr new ↦ lasting_by_occurs root h s p s.deed new.0 x refl new.2
     ]
 
-present_by_occurs : (root : Name) (h : History) (s : Step) (p : Name) (d : Deed) (o : Option Event) (x : Event) → p ≡ s.process → (o ≡ Some x → IsOf root (s ∷ h) p x) → present_by d (event_of h s) o ≡ Some x → IsOf root (s ∷ h) p x
+present_by_occurs : (root : Name) (h : History) (s : Step) (p : Name) (d : StepKind) (o : Option Event) (x : Event) → p ≡ s.process → (o ≡ Some x → IsOf root (s ∷ h) p x) → present_by d (event_of h s) o ≡ Some x → IsOf root (s ∷ h) p x
 present_by_occurs root h s p Work o x same before is = before is
 present_by_occurs root h s p (Send m) o x same before is = before is
 present_by_occurs root h s p (Receive m) o x same before is = before is

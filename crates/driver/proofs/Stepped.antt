@@ -1,13 +1,13 @@
 -- A step that was made and added is taken as it was asked.
 use Rattle.std.proofs.Common.{◌≡◌, ◌≢◌, ℕ, ◌∷◌, Option, Some, None, Ok, Err, refl, ◌∙◌, ap, subst}
 use Rattle.stamp.specs.declared.stamp.Stamp.{Stamp}
-use Rattle.report_line.specs.declared.report.Action.{Action}
+use Rattle.report_line.specs.declared.report.ReportKind.{ReportKind}
 use Rattle.report_line.specs.declared.report.Report.{Report}
-use Rattle.report_line.specs.declared.step.Deed.{Deed}
+use Rattle.report_line.specs.declared.step.StepKind.{StepKind}
 use Rattle.report_line.specs.histories.History.{Name, History, status}
 use Rattle.report_line.specs.histories.StepReports.{report_of}
 use Rattle.driver.specs.declared.step.Step.{Step}
-use Rattle.driver.specs.declared.step.Act.{Act}
+use Rattle.driver.specs.declared.step.StepRequest.{StepRequest}
 use Rattle.driver.specs.declared.tables.Tables.{Tables}
 use Rattle.driver.specs.declared.tables.Other.{Other}
 use Rattle.driver.specs.working.Made.{Made, step_of, numbered, silently, openly}
@@ -34,13 +34,13 @@ unreported root h made ready = record {
   line = ready.line;
 }
 
-pub silently_ready : (old middle : Tables) (p x : Name) (act : Act) (d : Deed) (t : Stamp) (n : ℕ) → Makes old.root (history_in old) p act (silently p d t n)
+pub silently_ready : (old middle : Tables) (p x : Name) (act : StepRequest) (d : StepKind) (t : Stamp) (n : ℕ) → Makes old.root (history_in old) p act (silently p d t n)
     → IsSame old middle → x ≡ p
     → IsReady middle.root (history_in middle) (record { step = step_of x d t; reports = n; other = None; report = None })
 silently_ready old middle p x act d t n makes same is_x =
     rw is_x (ready_still old middle (silently p d t n) same (ready_made old.root (history_in old) p act (silently p d t n) makes (λ r none. absurd cc)))
 
-pub openly_ready : (old middle : Tables) (p x y : Name) (act : Act) (d : Deed) (t : Stamp) (other : Option Other) (n : ℕ) (reported : Stamp) (a : Action)
+pub openly_ready : (old middle : Tables) (p x y : Name) (act : StepRequest) (d : StepKind) (t : Stamp) (other : Option Other) (n : ℕ) (reported : Stamp) (a : ReportKind)
     → Makes old.root (history_in old) p act (openly p d t other n reported a) → HasLineIfCounted (numbered y n reported a) → IsSame old middle → x ≡ p → y ≡ p
     → IsReady middle.root (history_in middle) (record { step = step_of x d t; reports = n; other = other; report = None })
 openly_ready old middle p x y act d t other n reported a makes line same is_x is_y =
@@ -80,13 +80,13 @@ step_taken old middle new asked made given makes same added is =
       unchanged = tt;
     }
 
-pub silently_taken : (old middle new : Tables) (asked : Step) (x : Name) (d : Deed) (t : Stamp) (n : ℕ)
+pub silently_taken : (old middle new : Tables) (asked : Step) (x : Name) (d : StepKind) (t : Stamp) (n : ℕ)
     → Makes old.root (history_in old) asked.process asked.act (silently asked.process d t n) → IsSame old middle → x ≡ asked.process → Adds middle (step_of x d t) new
     → IsStepTaken old asked new (Ok None)
 silently_taken old middle new asked x d t n makes same is_x added =
     step_taken old middle new asked (silently asked.process d t n) None makes same (subst (λ (z : Name). Adds middle (step_of z d t) new) is_x added) refl
 
-pub openly_taken : (old middle new : Tables) (asked : Step) (x y : Name) (d : Deed) (t : Stamp) (other : Option Other) (n : ℕ) (reported : Stamp) (a : Action)
+pub openly_taken : (old middle new : Tables) (asked : Step) (x y : Name) (d : StepKind) (t : Stamp) (other : Option Other) (n : ℕ) (reported : Stamp) (a : ReportKind)
     → Makes old.root (history_in old) asked.process asked.act (openly asked.process d t other n reported a) → IsSame old middle → x ≡ asked.process → y ≡ asked.process
     → Adds middle (step_of x d t) new → IsStepTaken old asked new (Ok (Some (numbered y n reported a)))
 openly_taken old middle new asked x y d t other n reported a makes same is_x is_y added =
@@ -94,7 +94,7 @@ openly_taken old middle new asked x y d t other n reported a makes same is_x is_
     (subst (λ (z : Name). Adds middle (step_of z d t) new) is_x added) (ap (λ (z : Name). Some (numbered z n reported a)) is_y)
 
 -- a step that is refused leaves all as it was
-pub step_refused : (old : Tables) (asked : Step) (act : Act) (fault : StepFault) → AreSound old → asked.act ≡ act → (fault ≢ faults.Memory → IsVerdict old.root (history_in old) asked.process act (Some fault))
+pub step_refused : (old : Tables) (asked : Step) (act : StepRequest) (fault : StepFault) → AreSound old → asked.act ≡ act → (fault ≢ faults.Memory → IsVerdict old.root (history_in old) asked.process act (Some fault))
     → IsStepTaken old asked old (Err fault)
 step_refused old asked act fault sound is refused = record {
   sound = sound;

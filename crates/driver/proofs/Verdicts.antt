@@ -1,7 +1,7 @@
 -- Which verdict the tests give.
 use Rattle.std.proofs.Common.{Err, ◌≡◌, ◌≢◌, ◌<◌, Some, None, refl, sym, ◌∙◌, ap, subst, inl, inr}
 use Rattle.report_line.specs.histories.History.{Name, History, Event, Status, Unborn, Living, Retired, status}
-use Rattle.driver.specs.declared.step.Act.{Act}
+use Rattle.driver.specs.declared.step.StepRequest.{StepRequest}
 use Rattle.driver.specs.declared.fault.StepFault.{StepFault}
 use Rattle.driver.specs.declared.fault.StepFault.TheVariants as faults
 use Rattle.driver.specs.Verdicts.{HasNoTarget, IsUnknown, HasRetired, HasItself, HasTakenName, HasNoMessage, HasNoRetirement, IsFullFor, IsClockFull, IsTooDeep, IsVerdict}
@@ -9,7 +9,7 @@ use Rattle.id_tree.specs.NormalForm.{depth_limit}
 use Rattle.id_tree.specs.Split.{parts_depth}
 use Rattle.event_tree.specs.Event.{PassesLimit}
 use Rattle.stamp.specs.declared.stamp.Stamp.{Stamp}
-use Rattle.driver.specs.declared.step.Act.TheVariants.{Fork, Absorb}
+use Rattle.driver.specs.declared.step.StepRequest.TheVariants.{Fork, Absorb}
 use Rattle.driver.specs.declared.making.Alive.{Alive}
 use Rattle.driver.specs.working.Making.{IsNotAlive, IsAlive, ForkTold, AbsorbTold}
 
@@ -17,7 +17,7 @@ living_not_unborn : (e : Event) → Living e ≢ Unborn
 living_not_unborn e is = cc
 
 -- who does not live
-pub not_alive : (root : Name) (h : History) (p : Name) (act : Act) (f : StepFault) → ¬ HasNoTarget root h act → IsNotAlive (status root h p) f → IsVerdict root h p act (Some f)
+pub not_alive : (root : Name) (h : History) (p : Name) (act : StepRequest) (f : StepFault) → ¬ HasNoTarget root h act → IsNotAlive (status root h p) f → IsVerdict root h p act (Some f)
 not_alive root h p act f target (inl w) = inl (inl w.1, ap Some w.0)
 not_alive root h p act f target (inr w) =
     inr (
@@ -28,7 +28,7 @@ not_alive root h p act f target (inr w) =
       inl (w.1, ap Some w.0),
     )
 
-module _ (root : Name) (h : History) (p : Name) (act : Act) (e : Event) (living : status root h p ≡ Living e) (target : ¬ HasNoTarget root h act) where
+module _ (root : Name) (h : History) (p : Name) (act : StepRequest) (e : Event) (living : status root h p ≡ Living e) (target : ¬ HasNoTarget root h act) where
   known : ¬ IsUnknown root h p act
   known u = elim u [ inl unborn ↦ living_not_unborn e (sym living ∙ unborn) | inr none ↦ target none ]
 

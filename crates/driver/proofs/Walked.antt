@@ -8,8 +8,8 @@ use Rattle.std.proofs.lemmas.Bool.Decides.{eqb_tells}
 use Rattle.std.proofs.lemmas.List.{append-nil, length-append}
 use Rattle.std.proofs.lemmas.Option.{none-some, same_Some, slice_get_within}
 use Rattle.id_tree.specs.IdTree.{IdTree}
-use Rattle.report_line.specs.declared.step.Deed.{Deed}
-use Rattle.report_line.specs.declared.step.Deed.TheVariants.{Work, Check, Present, Send, Receive, Fork, Retire, Absorb}
+use Rattle.report_line.specs.declared.step.StepKind.{StepKind}
+use Rattle.report_line.specs.declared.step.StepKind.TheVariants.{Work, Check, Present, Send, Receive, Fork, Retire, Absorb}
 use Rattle.report_line.specs.declared.step.Step.{Step}
 use Rattle.report_line.specs.histories.History.{Name, History, Event, event_of, birth_by, birth_of_root}
 use Rattle.history_law.proofs.Listed.{at_append}
@@ -93,7 +93,7 @@ module _ (f : Mark) (h : History) (s : Step) (p : Name) (L : List Event) (P : Op
             (subst (Noted f (L ++ []) P b) (sym (cond-false (bytes_eq c p) (lasts (length (s ∷ h)) m) m (flipped c p ∙ is))) (same_list f L P b m w))
       ]
 
-  own_noted : (d : Deed) → bytes_eq p s.process ≡ true → Noted f (L ++ lasting_by h s p d) (present_by d (event_of h s) P) (retired_by d b) (own d (length (s ∷ h)) (born d (length (s ∷ h)) p m))
+  own_noted : (d : StepKind) → bytes_eq p s.process ≡ true → Noted f (L ++ lasting_by h s p d) (present_by d (event_of h s) P) (retired_by d b) (own d (length (s ∷ h)) (born d (length (s ∷ h)) p m))
   own_noted Work is = same_list f L P b m w
   own_noted Check is =
       subst (λ l. Noted f (L ++ l) None false (own Check (length (s ∷ h)) m)) (sym (cond-true (bytes_eq p s.process) (event_of h s ∷ []) [] is))
@@ -105,7 +105,7 @@ module _ (f : Mark) (h : History) (s : Step) (p : Name) (L : List Event) (P : Op
   own_noted (Retire q) is = same_list f L None true (reporting None true m) (reports_noted f L P None b true m w)
   own_noted (Absorb r) is = same_list f L None false (reporting None false m) (reports_noted f L P None b false m w)
 
-  other_noted : (d : Deed) → bytes_eq p s.process ≡ false → Noted f (L ++ lasting_by h s p d) P b (born d (length (s ∷ h)) p m)
+  other_noted : (d : StepKind) → bytes_eq p s.process ≡ false → Noted f (L ++ lasting_by h s p d) P b (born d (length (s ∷ h)) p m)
   other_noted Work is = same_list f L P b m w
   other_noted Check is = subst (λ l. Noted f (L ++ l) P b m) (sym (cond-false (bytes_eq p s.process) (event_of h s ∷ []) [] is)) (same_list f L P b m w)
   other_noted Present is = same_list f L P b m w

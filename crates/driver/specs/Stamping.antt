@@ -4,13 +4,13 @@ use Rattle.id_tree.specs.IdTree.{IdTree}
 use Rattle.stamp.specs.declared.stamp.Stamp.{Stamp}
 use Rattle.stamp.specs.Operations.{IsEvent, IsFork, IsReceive, IsAbsorb}
 use Rattle.report_line.specs.declared.report.Report.{Report}
-use Rattle.report_line.specs.declared.step.Deed.TheVariants as deeds
+use Rattle.report_line.specs.declared.step.StepKind.TheVariants as deeds
 use Rattle.report_line.specs.declared.step.Step.{Step as Taken}
 use Rattle.report_line.specs.histories.History.{Name, History, Event, Living, Retired, status, sending}
 use Rattle.report_line.specs.histories.Lawful.{IsLawful}
 use Rattle.report_line.specs.histories.StepReports.{report_of}
-use Rattle.driver.specs.declared.step.Act.{Act}
-use Rattle.driver.specs.declared.step.Act.TheVariants.{Work, Check, Present, Send, Receive, Fork, Retire, Absorb}
+use Rattle.driver.specs.declared.step.StepRequest.{StepRequest}
+use Rattle.driver.specs.declared.step.StepRequest.TheVariants.{Work, Check, Present, Send, Receive, Fork, Retire, Absorb}
 use Rattle.driver.specs.declared.step.Step.{Step}
 use Rattle.driver.specs.Chronicle.{Chronicle}
 
@@ -21,7 +21,7 @@ stamp_of e = record { id = e.id; events = e.values }
 -- The step has the deed that was asked, and the stamp after it: an event; for a receive the join with what the message
 -- carries, and then an event; for a fork an event, and then the halves of the id; for an absorption an event on the own stamp,
 -- and then the join with the retired one.
-abbrev pub IsStamped : Name → History → Event → Act → Taken → Type 0
+abbrev pub IsStamped : Name → History → Event → StepRequest → Taken → Type 0
 IsStamped root h before Work s = (s.deed ≡ deeds.Work) × IsEvent (stamp_of before) s.stamp
 IsStamped root h before Check s = (s.deed ≡ deeds.Check) × IsEvent (stamp_of before) s.stamp
 IsStamped root h before Present s = (s.deed ≡ deeds.Present) × IsEvent (stamp_of before) s.stamp

@@ -6,8 +6,8 @@ use Rattle.event_tree.specs.EventTree.{EventTree}
 use Rattle.event_tree.specs.Event.{PassesLimit}
 use Rattle.stamp.specs.Operations.{IsNormalJoin}
 use Rattle.report_line.specs.histories.History.{Name, History, Event, Status, Unborn, Living, Retired, Absorbed, status, sending}
-use Rattle.driver.specs.declared.step.Act.{Act}
-use Rattle.driver.specs.declared.step.Act.TheVariants.{Send, Receive, Fork, Retire, Absorb}
+use Rattle.driver.specs.declared.step.StepRequest.{StepRequest}
+use Rattle.driver.specs.declared.step.StepRequest.TheVariants.{Send, Receive, Fork, Retire, Absorb}
 use Rattle.driver.specs.declared.fault.StepFault.{StepFault}
 use Rattle.driver.specs.declared.fault.StepFault.TheVariants as faults
 
@@ -16,12 +16,12 @@ abbrev pub Refuses : Type 0 → StepFault → Option StepFault → Type 0 → Ty
 Refuses applies fault answer later = (applies × (answer ≡ Some fault)) ⊎ ((¬ applies) × later)
 
 -- the target of a retirement is not born
-abbrev pub HasNoTarget : Name → History → Act → Type 0
+abbrev pub HasNoTarget : Name → History → StepRequest → Type 0
 HasNoTarget root h (Retire q) = status root h q ≡ Unborn
 HasNoTarget root h _ = ⊥
 
 -- the process is not born, or the target is not
-abbrev pub IsUnknown : Name → History → Name → Act → Type 0
+abbrev pub IsUnknown : Name → History → Name → StepRequest → Type 0
 IsUnknown root h p act = (status root h p ≡ Unborn) ⊎ HasNoTarget root h act
 
 -- it retired, and was perhaps absorbed
@@ -31,43 +31,43 @@ HasRetired Absorbed = ⊤
 HasRetired _ = ⊥
 
 -- a retirement of the process into itself
-abbrev pub HasItself : Name → Act → Type 0
+abbrev pub HasItself : Name → StepRequest → Type 0
 HasItself p (Retire q) = q ≡ p
 HasItself p _ = ⊥
 
 -- the name of the child, or of the message, is known
-abbrev pub HasTakenName : Name → History → Act → Type 0
+abbrev pub HasTakenName : Name → History → StepRequest → Type 0
 HasTakenName root h (Send m) = sending h m ≢ None
 HasTakenName root h (Fork c) = status root h c ≢ Unborn
 HasTakenName root h _ = ⊥
 
 -- the message was not sent
-abbrev pub HasNoMessage : History → Act → Type 0
+abbrev pub HasNoMessage : History → StepRequest → Type 0
 HasNoMessage h (Receive m) = sending h m ≡ None
 HasNoMessage h _ = ⊥
 
 -- no retirement of this process into p waits
-abbrev pub HasNoRetirement : Name → History → Name → Act → Type 0
+abbrev pub HasNoRetirement : Name → History → Name → StepRequest → Type 0
 HasNoRetirement root h p (Absorb r) = (e : Event) → status root h r ≢ Retired e p
 HasNoRetirement root h p _ = ⊥
 
 -- the event would make a value above the limit
-abbrev pub IsFullFor : History → Event → Act → Type 0
+abbrev pub IsFullFor : History → Event → StepRequest → Type 0
 IsFullFor h e (Receive m) =
     (sent : Event) × (joined : EventTree) × (sending h m ≡ Some sent) × IsNormalJoin e.values sent.values joined × PassesLimit e.id joined
 IsFullFor h e _ = PassesLimit e.id e.values
 
-abbrev pub IsClockFull : History → Status → Act → Type 0
+abbrev pub IsClockFull : History → Status → StepRequest → Type 0
 IsClockFull h (Living e) act = IsFullFor h e act
 IsClockFull h _ act = ⊥
 
 -- a part of the id would be too deep
-abbrev pub IsTooDeep : Status → Act → Type 0
+abbrev pub IsTooDeep : Status → StepRequest → Type 0
 IsTooDeep (Living e) (Fork c) = depth_limit < parts_depth e.id
 IsTooDeep _ _ = ⊥
 
 -- The tests stand in their order, and the first that applies decides; want of memory is set aside.
-abbrev pub IsVerdict : Name → History → Name → Act → Option StepFault → Type 0
+abbrev pub IsVerdict : Name → History → Name → StepRequest → Option StepFault → Type 0
 IsVerdict root h p act answer =
     Refuses (IsUnknown root h p act) faults.Unknown answer
     (Refuses (HasRetired (status root h p)) faults.Retired answer

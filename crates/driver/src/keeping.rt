@@ -21,7 +21,7 @@ use crate::noting::{add, reserve};
 use crate::remaking::remade;
 use crate::tables::{Remade, Tables};
 use indexmap::IndexMap;
-use report_line::{Deed, Name, Step as Taken};
+use report_line::{Name, Step as Taken, StepKind};
 use std::alloc::Global;
 
 // Whether a retirement of the process waits.
@@ -38,34 +38,34 @@ fn waits(tables: &Tables, process: &Name) -> bool
 }
 
 // Whether by these tables what is received was sent, and what is absorbed retired.
-fn is_due(tables: &Tables, deed: &Deed) -> bool
+fn is_due(tables: &Tables, deed: &StepKind) -> bool
     ensures { result ≡ is_due tables.now deed.now }
 {
     match deed {
-        Deed::Work => true,
-        Deed::Check => true,
-        Deed::Present => true,
-        Deed::Send { .. } => true,
-        Deed::Receive { message } => tables.messages.contains_key(message),
-        Deed::Fork { .. } => true,
-        Deed::Retire { .. } => true,
-        Deed::Absorb { retired } => waits(tables, retired),
+        StepKind::Work => true,
+        StepKind::Check => true,
+        StepKind::Present => true,
+        StepKind::Send { .. } => true,
+        StepKind::Receive { message } => tables.messages.contains_key(message),
+        StepKind::Fork { .. } => true,
+        StepKind::Retire { .. } => true,
+        StepKind::Absorb { retired } => waits(tables, retired),
     }
 }
 
 // Whether the deed is a fork, by this event, of a child whose birth is in the line.
-fn bears(marks: &IndexMap<Name, Mark>, deed: &Deed, number: usize) -> bool
+fn bears(marks: &IndexMap<Name, Mark>, deed: &StepKind, number: usize) -> bool
     ensures { result ≡ bears (get bytes_eq marks.now) deed.now number }
 {
     match deed {
-        Deed::Work => false,
-        Deed::Check => false,
-        Deed::Present => false,
-        Deed::Send { .. } => false,
-        Deed::Receive { .. } => false,
-        Deed::Fork { child, .. } => is_reached(marks, child, number),
-        Deed::Retire { .. } => false,
-        Deed::Absorb { .. } => false,
+        StepKind::Work => false,
+        StepKind::Check => false,
+        StepKind::Present => false,
+        StepKind::Send { .. } => false,
+        StepKind::Receive { .. } => false,
+        StepKind::Fork { child, .. } => is_reached(marks, child, number),
+        StepKind::Retire { .. } => false,
+        StepKind::Absorb { .. } => false,
     }
 }
 

@@ -22,7 +22,7 @@ mod world;
 
 pub use fault::StepFault;
 pub use line::NamedPosition;
-pub use step::{Act, Step};
+pub use step::{Step, StepRequest};
 pub use world::World;
 
 /// The line that is answered for the reports of a world, by names, is one that it returns to.

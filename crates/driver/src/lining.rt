@@ -4,25 +4,25 @@ ghost use Rattle.std.specs.Prelude.{◌<◌, ◌^◌};
 ghost use Rattle.report_line.specs.Spelling.{IsAction};
 ghost use Rattle.driver.specs.working.Making.{HasLineIfCounted, HasParts, HasWholeParts};
 
-use report_line::{Action, Deed, Report, Step as Taken};
+use report_line::{Report, ReportKind, Step as Taken, StepKind};
 use stamp::Stamp;
 
 // Tells a proof that an action has a spelling.
-fn know_action(action: &Action)
+fn know_action(action: &ReportKind)
     ensures { IsAction action.now }
 {
     match action {
-        Action::Check => {}
-        Action::Present => {}
-        Action::Fork(forked) => {
+        ReportKind::Check => {}
+        ReportKind::Present => {}
+        ReportKind::Fork(forked) => {
             forked.kept.known();
             let _name = forked.child.as_bytes();
             forked.given.known();
         }
-        Action::Retire { target } => {
+        ReportKind::Retire { target } => {
             let _name = target.as_bytes();
         }
-        Action::Absorb { retired } => {
+        ReportKind::Absorb { retired } => {
             let _name = retired.as_bytes();
         }
     }
@@ -53,23 +53,23 @@ pub(crate) fn know_report(report: &Report)
 }
 
 // Tells a proof what holds of the parts of a deed.
-fn know_deed(deed: &Deed)
+fn know_deed(deed: &StepKind)
     ensures { HasParts deed.now }
 {
     match deed {
-        Deed::Work => {}
-        Deed::Check => {}
-        Deed::Present => {}
-        Deed::Send { .. } => {}
-        Deed::Receive { .. } => {}
-        Deed::Fork { child, given } => {
+        StepKind::Work => {}
+        StepKind::Check => {}
+        StepKind::Present => {}
+        StepKind::Send { .. } => {}
+        StepKind::Receive { .. } => {}
+        StepKind::Fork { child, given } => {
             let _name = child.as_bytes();
             given.known();
         }
-        Deed::Retire { target } => {
+        StepKind::Retire { target } => {
             let _name = target.as_bytes();
         }
-        Deed::Absorb { retired } => {
+        StepKind::Absorb { retired } => {
             let _name = retired.as_bytes();
         }
     }

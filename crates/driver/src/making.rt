@@ -9,12 +9,12 @@ ghost use Rattle.driver.specs.working.Tables.{AreSound, history_in};
 
 use crate::fault::StepFault;
 use crate::known::Known;
-use crate::noting::{take_openly, take_silently};
-use crate::step::{Act, Step};
+use crate::noting::{add_reported, add_unreported};
+use crate::step::{Step, StepRequest};
 use crate::tables::{Other, Tables};
 use event_tree::Events;
 use id_tree::Id;
-use report_line::{Action, Deed, Name, Report, Shared};
+use report_line::{Name, Report, ReportKind, Shared, StepKind};
 use stamp::{Stamp, StampFault};
 use std::alloc::{AllocError, Global};
 
@@ -37,7 +37,7 @@ pub(crate) struct NextReport {
 pub(crate) struct ForkParts {
     pub(crate) number: u32,
     pub(crate) reported: Stamp,
-    pub(crate) action: Action,
+    pub(crate) action: ReportKind,
     pub(crate) given: Id,
 }
 
@@ -232,12 +232,12 @@ fn of_both(alloc: Global, id: &Id, events: &Events) -> Result<Stamp, AllocError>
 }
 
 // What a fork reports.
-fn forked(alloc: Global, kept: &Id, child: &Name, given: &Id) -> Result<Action, AllocError>
-    ensures { IfOk result (λ a. a ≡ Action.Fork (record { kept = kept.now; child = child.now; given = given.now })) }
+fn forked(alloc: Global, kept: &Id, child: &Name, given: &Id) -> Result<ReportKind, AllocError>
+    ensures { IfOk result (λ a. a ≡ ReportKind.Fork (record { kept = kept.now; child = child.now; given = given.now })) }
 {
     let kept = kept.copy(alloc)?;
     let given = given.copy(alloc)?;
-    Action::fork(alloc, kept, child.copy(), given)
+    ReportKind::fork(alloc, kept, child.copy(), given)
 }
 
 // The stamp of a fork's report, and what it reports.
@@ -247,8 +247,8 @@ fn fork_report(
     kept: &Stamp,
     child: &Name,
     given: &Id,
-) -> Result<(Stamp, Action), AllocError>
-    ensures { IfOk result (λ r. r ≡ (record { id = id.now; events = kept.now.events }, Action.Fork (record { kept = kept.now.id; child = child.now; given = given.now }))) }
+) -> Result<(Stamp, ReportKind), AllocError>
+    ensures { IfOk result (λ r. r ≡ (record { id = id.now; events = kept.now.events }, ReportKind.Fork (record { kept = kept.now.id; child = child.now; given = given.now }))) }
 {
     let reported = of_both(alloc, id, &kept.events)?;
     let Ok(action) = forked(alloc, &kept.id, child, given) else {
@@ -293,13 +293,13 @@ pub(crate) fn work(
     asked: &Step,
 ) -> Result<Option<Report>, StepFault>
     requires sound { AreSound tables.old }
-    requires act { asked.now.act ≡ Act.Work }
+    requires act { asked.now.act ≡ StepRequest.Work }
     ensures { IsStepTaken tables.old asked.now tables.new result }
 {
     let alive = living(tables, &asked.process)?;
     let reports = alive.reports;
     let stamp = event(alloc, alive.stamp)?;
-    take_silently(tables, asked, Deed::Work, stamp, reports)
+    add_unreported(tables, asked, StepKind::Work, stamp, reports)
 }
 
 pub(crate) fn check(
@@ -308,20 +308,20 @@ pub(crate) fn check(
     asked: &Step,
 ) -> Result<Option<Report>, StepFault>
     requires sound { AreSound tables.old }
-    requires act { asked.now.act ≡ Act.Check }
+    requires act { asked.now.act ≡ StepRequest.Check }
     ensures { IsStepTaken tables.old asked.now tables.new result }
 {
     let alive = living(tables, &asked.process)?;
     let (stamp, report) = worked(alloc, alive.stamp, alive.reports)?;
-    take_openly(
+    add_reported(
         tables,
         asked,
-        Deed::Check,
+        StepKind::Check,
         stamp,
         None,
         report.number,
         report.reported,
-        Action::Check,
+        ReportKind::Check,
     )
 }
 
@@ -331,20 +331,20 @@ pub(crate) fn present(
     asked: &Step,
 ) -> Result<Option<Report>, StepFault>
     requires sound { AreSound tables.old }
-    requires act { asked.now.act ≡ Act.Present }
+    requires act { asked.now.act ≡ StepRequest.Present }
     ensures { IsStepTaken tables.old asked.now tables.new result }
 {
     let alive = living(tables, &asked.process)?;
     let (stamp, report) = worked(alloc, alive.stamp, alive.reports)?;
-    take_openly(
+    add_reported(
         tables,
         asked,
-        Deed::Present,
+        StepKind::Present,
         stamp,
         None,
         report.number,
         report.reported,
-        Action::Present,
+        ReportKind::Present,
     )
 }
 
@@ -355,7 +355,7 @@ pub(crate) fn send(
     name: &Name,
 ) -> Result<Option<Report>, StepFault>
     requires sound { AreSound tables.old }
-    requires act { asked.now.act ≡ Act.Send name.now }
+    requires act { asked.now.act ≡ StepRequest.Send name.now }
     ensures { IsStepTaken tables.old asked.now tables.new result }
 {
     let alive = living(tables, &asked.process)?;
@@ -364,10 +364,10 @@ pub(crate) fn send(
     };
     let reports = alive.reports;
     let stamp = event(alloc, alive.stamp)?;
-    let deed = Deed::Send {
+    let deed = StepKind::Send {
         message: name.copy(),
     };
-    take_silently(tables, asked, deed, stamp, reports)
+    add_unreported(tables, asked, deed, stamp, reports)
 }
 
 pub(crate) fn receive(
@@ -377,7 +377,7 @@ pub(crate) fn receive(
     name: &Name,
 ) -> Result<Option<Report>, StepFault>
     requires sound { AreSound tables.old }
-    requires act { asked.now.act ≡ Act.Receive name.now }
+    requires act { asked.now.act ≡ StepRequest.Receive name.now }
     ensures { IsStepTaken tables.old asked.now tables.new result }
 {
     let alive = living(tables, &asked.process)?;
@@ -386,10 +386,10 @@ pub(crate) fn receive(
     };
     let reports = alive.reports;
     let stamp = received(alloc, alive.stamp, came)?;
-    let deed = Deed::Receive {
+    let deed = StepKind::Receive {
         message: name.copy(),
     };
-    take_silently(tables, asked, deed, stamp, reports)
+    add_unreported(tables, asked, deed, stamp, reports)
 }
 
 pub(crate) fn fork(
@@ -399,7 +399,7 @@ pub(crate) fn fork(
     child: &Name,
 ) -> Result<Option<Report>, StepFault>
     requires sound { AreSound tables.old }
-    requires act { asked.now.act ≡ Act.Fork child.now }
+    requires act { asked.now.act ≡ StepRequest.Fork child.now }
     ensures { IsStepTaken tables.old asked.now tables.new result }
 {
     let alive = living(tables, &asked.process)?;
@@ -422,11 +422,11 @@ pub(crate) fn fork(
         drop(begun);
         return Err(StepFault::Memory);
     };
-    let deed = Deed::Fork {
+    let deed = StepKind::Fork {
         child: child.copy(),
         given: parts.given,
     };
-    take_openly(
+    add_reported(
         tables,
         asked,
         deed,
@@ -445,7 +445,7 @@ pub(crate) fn retire(
     target: &Name,
 ) -> Result<Option<Report>, StepFault>
     requires sound { AreSound tables.old }
-    requires act { asked.now.act ≡ Act.Retire target.now }
+    requires act { asked.now.act ≡ StepRequest.Retire target.now }
     ensures { IsStepTaken tables.old asked.now tables.new result }
 {
     if !is_born(tables, target) {
@@ -460,10 +460,10 @@ pub(crate) fn retire(
         drop(stamp);
         return Err(StepFault::Memory);
     };
-    let deed = Deed::Retire {
+    let deed = StepKind::Retire {
         target: target.copy(),
     };
-    take_openly(
+    add_reported(
         tables,
         asked,
         deed,
@@ -471,7 +471,7 @@ pub(crate) fn retire(
         None,
         report.number,
         report.reported,
-        Action::Retire { target: into },
+        ReportKind::Retire { target: into },
     )
 }
 
@@ -482,7 +482,7 @@ pub(crate) fn absorb(
     name: &Name,
 ) -> Result<Option<Report>, StepFault>
     requires sound { AreSound tables.old }
-    requires act { asked.now.act ≡ Act.Absorb name.now }
+    requires act { asked.now.act ≡ StepRequest.Absorb name.now }
     ensures { IsStepTaken tables.old asked.now tables.new result }
 {
     let alive = living(tables, &asked.process)?;
@@ -497,14 +497,14 @@ pub(crate) fn absorb(
         drop(stamp);
         return Err(StepFault::Memory);
     };
-    let deed = Deed::Absorb {
+    let deed = StepKind::Absorb {
         retired: name.copy(),
     };
     let other = Other {
         name: name.copy(),
         known: Known::Gone,
     };
-    take_openly(
+    add_reported(
         tables,
         asked,
         deed,
@@ -512,6 +512,6 @@ pub(crate) fn absorb(
         Some(other),
         report.number,
         report.reported,
-        Action::Absorb { retired: of },
+        ReportKind::Absorb { retired: of },
     )
 }

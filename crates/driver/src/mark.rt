@@ -4,7 +4,7 @@ ghost use Rattle.std.specs.Prelude.{◌≡◌, nat_eq};
 ghost use Rattle.driver.specs.working.Marks.{fresh, lasts, reports, own, last_kept, stands, reaches};
 
 use chains::Position;
-use report_line::Deed;
+use report_line::StepKind;
 
 /// A process of a line, and what the steps so far say of it. Events are named by their numbers.
 #[derive(Clone, Copy)]
@@ -68,18 +68,18 @@ impl Mark {
     }
 
     // With a step of its own, by this event.
-    pub(crate) fn own(self, deed: &Deed, number: usize) -> Mark
+    pub(crate) fn own(self, deed: &StepKind, number: usize) -> Mark
         ensures { result ≡ own deed.now number self }
     {
         match deed {
-            Deed::Work => self,
-            Deed::Check => self.reports(None, false).lasts(number),
-            Deed::Present => self.reports(Some(number), false),
-            Deed::Send { .. } => self,
-            Deed::Receive { .. } => self,
-            Deed::Fork { .. } => self.reports(None, false),
-            Deed::Retire { .. } => self.reports(None, true),
-            Deed::Absorb { .. } => self.reports(None, false),
+            StepKind::Work => self,
+            StepKind::Check => self.reports(None, false).lasts(number),
+            StepKind::Present => self.reports(Some(number), false),
+            StepKind::Send { .. } => self,
+            StepKind::Receive { .. } => self,
+            StepKind::Fork { .. } => self.reports(None, false),
+            StepKind::Retire { .. } => self.reports(None, true),
+            StepKind::Absorb { .. } => self.reports(None, false),
         }
     }
 

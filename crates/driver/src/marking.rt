@@ -13,7 +13,7 @@ use crate::line::NamedPosition;
 use crate::mark::Mark;
 use crate::tables::Tables;
 use indexmap::IndexMap;
-use report_line::{Deed, Name, Step as Taken};
+use report_line::{Name, Step as Taken, StepKind};
 use std::alloc::Global;
 
 // The process, which is named, has this mark now.
@@ -75,7 +75,7 @@ fn see_birth(marks: &mut IndexMap<Name, Mark>, process: &Name, number: usize)
 }
 
 // The process makes a step.
-fn see_own(marks: &mut IndexMap<Name, Mark>, process: &Name, deed: &Deed, number: usize)
+fn see_own(marks: &mut IndexMap<Name, Mark>, process: &Name, deed: &StepKind, number: usize)
     ensures { (p : List ℕ) → get bytes_eq marks.new p ≡ option_map (λ m. if bytes_eq process.now p then own deed.now number m else m) (get bytes_eq marks.old p) }
 {
     match marks.get(process).copied() {
@@ -84,18 +84,18 @@ fn see_own(marks: &mut IndexMap<Name, Mark>, process: &Name, deed: &Deed, number
     }
 }
 
-fn see_child(marks: &mut IndexMap<Name, Mark>, deed: &Deed, number: usize)
+fn see_child(marks: &mut IndexMap<Name, Mark>, deed: &StepKind, number: usize)
     ensures { (p : List ℕ) → get bytes_eq marks.new p ≡ option_map (born deed.now number p) (get bytes_eq marks.old p) }
 {
     match deed {
-        Deed::Fork { child, .. } => see_birth(marks, child, number),
-        Deed::Work => {}
-        Deed::Check => {}
-        Deed::Present => {}
-        Deed::Send { .. } => {}
-        Deed::Receive { .. } => {}
-        Deed::Retire { .. } => {}
-        Deed::Absorb { .. } => {}
+        StepKind::Fork { child, .. } => see_birth(marks, child, number),
+        StepKind::Work => {}
+        StepKind::Check => {}
+        StepKind::Present => {}
+        StepKind::Send { .. } => {}
+        StepKind::Receive { .. } => {}
+        StepKind::Retire { .. } => {}
+        StepKind::Absorb { .. } => {}
     }
 }
 

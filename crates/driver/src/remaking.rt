@@ -10,54 +10,54 @@ use crate::fault::StepFault;
 use crate::known::Known;
 use crate::making::next_number;
 use crate::tables::{Other, Remade};
-use report_line::{Deed, Name, Step as Taken};
+use report_line::{Name, Step as Taken, StepKind};
 use stamp::Stamp;
 use std::alloc::{AllocError, Global};
 
-fn copy_of(alloc: Global, deed: &Deed) -> Result<Deed, AllocError>
+fn copy_of(alloc: Global, deed: &StepKind) -> Result<StepKind, AllocError>
     ensures { IfOk result (λ d. d ≡ deed.now) }
 {
     match deed {
-        Deed::Work => Ok(Deed::Work),
-        Deed::Check => Ok(Deed::Check),
-        Deed::Present => Ok(Deed::Present),
-        Deed::Send { message } => Ok(Deed::Send {
+        StepKind::Work => Ok(StepKind::Work),
+        StepKind::Check => Ok(StepKind::Check),
+        StepKind::Present => Ok(StepKind::Present),
+        StepKind::Send { message } => Ok(StepKind::Send {
             message: message.copy(),
         }),
-        Deed::Receive { message } => Ok(Deed::Receive {
+        StepKind::Receive { message } => Ok(StepKind::Receive {
             message: message.copy(),
         }),
-        Deed::Fork { child, given } => {
+        StepKind::Fork { child, given } => {
             let given = given.copy(alloc)?;
-            Ok(Deed::Fork {
+            Ok(StepKind::Fork {
                 child: child.copy(),
                 given,
             })
         }
-        Deed::Retire { target } => Ok(Deed::Retire {
+        StepKind::Retire { target } => Ok(StepKind::Retire {
             target: target.copy(),
         }),
-        Deed::Absorb { retired } => Ok(Deed::Absorb {
+        StepKind::Absorb { retired } => Ok(StepKind::Absorb {
             retired: retired.copy(),
         }),
     }
 }
 
 // How many reports it made, with that of the deed.
-fn reports_with(deed: &Deed, reports: u32) -> Result<u32, StepFault>
+fn reports_with(deed: &StepKind, reports: u32) -> Result<u32, StepFault>
     ensures ok { IfOk result (λ n. n ≡ reports_after deed.now reports) }
     ensures few { OnOk result (is_reported deed.now ≡ true → reports + 1 < 2 ^ 32) }
     ensures err { IfErr result (λ f. f ≡ StepFault.Memory) }
 {
     match deed {
-        Deed::Work => Ok(reports),
-        Deed::Check => next_number(reports),
-        Deed::Present => next_number(reports),
-        Deed::Send { .. } => Ok(reports),
-        Deed::Receive { .. } => Ok(reports),
-        Deed::Fork { .. } => next_number(reports),
-        Deed::Retire { .. } => next_number(reports),
-        Deed::Absorb { .. } => next_number(reports),
+        StepKind::Work => Ok(reports),
+        StepKind::Check => next_number(reports),
+        StepKind::Present => next_number(reports),
+        StepKind::Send { .. } => Ok(reports),
+        StepKind::Receive { .. } => Ok(reports),
+        StepKind::Fork { .. } => next_number(reports),
+        StepKind::Retire { .. } => next_number(reports),
+        StepKind::Absorb { .. } => next_number(reports),
     }
 }
 
@@ -65,12 +65,12 @@ fn other_of(alloc: Global, step: &Taken) -> Result<Option<Other>, AllocError>
     ensures { IfOk result (λ o. o ≡ kept_of_other step.now.deed step.now.stamp) }
 {
     match &step.deed {
-        Deed::Work => Ok(None),
-        Deed::Check => Ok(None),
-        Deed::Present => Ok(None),
-        Deed::Send { .. } => Ok(None),
-        Deed::Receive { .. } => Ok(None),
-        Deed::Fork { child, given } => {
+        StepKind::Work => Ok(None),
+        StepKind::Check => Ok(None),
+        StepKind::Present => Ok(None),
+        StepKind::Send { .. } => Ok(None),
+        StepKind::Receive { .. } => Ok(None),
+        StepKind::Fork { child, given } => {
             let id = given.copy(alloc)?;
             let events = step.stamp.events.copy(alloc)?;
             Ok(Some(Other {
@@ -80,8 +80,8 @@ fn other_of(alloc: Global, step: &Taken) -> Result<Option<Other>, AllocError>
                 },
             }))
         }
-        Deed::Retire { .. } => Ok(None),
-        Deed::Absorb { retired } => Ok(Some(Other {
+        StepKind::Retire { .. } => Ok(None),
+        StepKind::Absorb { retired } => Ok(Some(Other {
             name: retired.copy(),
             known: Known::Gone,
         })),

@@ -6,7 +6,7 @@ use report_line::Name;
 
 /// What a process is to do.
 #[derive(Drop)]
-pub enum Act {
+pub enum StepRequest {
     /// Work on.
     Work,
     /// Take a checkpoint.
@@ -29,31 +29,31 @@ pub enum Act {
 #[derive(Drop)]
 pub struct Step {
     pub process: Name,
-    pub act: Act,
+    pub act: StepRequest,
 }
 
-impl Act {
+impl StepRequest {
     /// A copy. It takes no memory.
-    pub fn copy(&self) -> Act
+    pub fn copy(&self) -> StepRequest
         ensures { result ≡ self.now }
     {
         match self {
-            Act::Work => Act::Work,
-            Act::Check => Act::Check,
-            Act::Present => Act::Present,
-            Act::Send { message } => Act::Send {
+            StepRequest::Work => StepRequest::Work,
+            StepRequest::Check => StepRequest::Check,
+            StepRequest::Present => StepRequest::Present,
+            StepRequest::Send { message } => StepRequest::Send {
                 message: message.copy(),
             },
-            Act::Receive { message } => Act::Receive {
+            StepRequest::Receive { message } => StepRequest::Receive {
                 message: message.copy(),
             },
-            Act::Fork { child } => Act::Fork {
+            StepRequest::Fork { child } => StepRequest::Fork {
                 child: child.copy(),
             },
-            Act::Retire { target } => Act::Retire {
+            StepRequest::Retire { target } => StepRequest::Retire {
                 target: target.copy(),
             },
-            Act::Absorb { retired } => Act::Absorb {
+            StepRequest::Absorb { retired } => StepRequest::Absorb {
                 retired: retired.copy(),
             },
         }

@@ -19,7 +19,7 @@ use crate::fault::StepFault;
 use crate::line::NamedPosition;
 use crate::making::{absorb, check, fork, present, receive, retire, send, work};
 use crate::settling::settle_on;
-use crate::step::{Act, Step};
+use crate::step::{Step, StepRequest};
 use crate::tables::Tables;
 use report_line::{Name, Report};
 use std::alloc::{AllocError, Global};
@@ -119,13 +119,13 @@ fn take_step(alloc: Global, tables: &mut Tables, asked: &Step) -> Result<Option<
     ensures { IsStepTaken tables.old asked.now tables.new result }
 {
     match &asked.act {
-        Act::Work => work(alloc, tables, asked),
-        Act::Check => check(alloc, tables, asked),
-        Act::Present => present(alloc, tables, asked),
-        Act::Send { message } => send(alloc, tables, asked, message),
-        Act::Receive { message } => receive(alloc, tables, asked, message),
-        Act::Fork { child } => fork(alloc, tables, asked, child),
-        Act::Retire { target } => retire(alloc, tables, asked, target),
-        Act::Absorb { retired } => absorb(alloc, tables, asked, retired),
+        StepRequest::Work => work(alloc, tables, asked),
+        StepRequest::Check => check(alloc, tables, asked),
+        StepRequest::Present => present(alloc, tables, asked),
+        StepRequest::Send { message } => send(alloc, tables, asked, message),
+        StepRequest::Receive { message } => receive(alloc, tables, asked, message),
+        StepRequest::Fork { child } => fork(alloc, tables, asked, child),
+        StepRequest::Retire { target } => retire(alloc, tables, asked, target),
+        StepRequest::Absorb { retired } => absorb(alloc, tables, asked, retired),
     }
 }

@@ -5,7 +5,7 @@ use Rattle.id_tree.specs.IdTree.{IdTree}
 use Rattle.id_tree.specs.Points.{Point, owns}
 use Rattle.event_tree.specs.Values.{value_at}
 use Rattle.histories.proofs.Bytes.{Owns, not_both_own}
-use Rattle.report_line.specs.declared.step.Deed.TheVariants.{Fork, Absorb}
+use Rattle.report_line.specs.declared.step.StepKind.TheVariants.{Fork, Absorb}
 use Rattle.report_line.specs.declared.step.Step.{Step}
 use Rattle.report_line.specs.histories.History.{last_of, Name, History, Event, birth_of_root, event_of, birth_by, Living, status}
 use Rattle.report_line.specs.histories.Lawful.{IsAllowed, IsLawful, start, next}

@@ -5,8 +5,8 @@ use Rattle.std.proofs.lemmas.Bool.{cond-false}
 use Rattle.id_tree.specs.IdTree.{IdTree}
 use Rattle.id_tree.specs.Points.{Point}
 use Rattle.histories.proofs.Bytes.{Owns, cases_name, bytes_other}
-use Rattle.report_line.specs.declared.step.Deed.{Deed}
-use Rattle.report_line.specs.declared.step.Deed.TheVariants.{Work, Check, Present, Send, Receive, Fork, Retire, Absorb}
+use Rattle.report_line.specs.declared.step.StepKind.{StepKind}
+use Rattle.report_line.specs.declared.step.StepKind.TheVariants.{Work, Check, Present, Send, Receive, Fork, Retire, Absorb}
 use Rattle.report_line.specs.declared.step.Step.{Step}
 use Rattle.report_line.specs.histories.History.{Name, History, Event, birth_of_root, event_of, birth_by, Living, status_of_other, last_of, status}
 use Rattle.report_line.specs.histories.Lawful.{IsAllowed, IsLawful, start, next}
@@ -17,12 +17,12 @@ use Rattle.histories.proofs.Chain.{one_holder}
 use Rattle.histories.proofs.Seen.{step_holds, birth_holds}
 
 -- Who owned a point and acted owns it still, or has given it to the child.
-kept_or_given : (root : Name) (h : History) (b : Event) (s : Step) (t : Point) (a : Deed) → IsAllowed root h b s a → Owns b.id t
+kept_or_given : (root : Name) (h : History) (b : Event) (s : Step) (t : Point) (a : StepKind) → IsAllowed root h b s a → Owns b.id t
     → Owns s.stamp.id t ⊎ ((c : Name) × (i : IdTree) × (a ≡ Fork c i) × Owns i t)
 kept_or_given root h b s t a w owned = grind arith
 
 -- Another holder stays one, or is absorbed.
-stays_or_absorbed : (root : Name) (h : History) (b : Event) (s : Step) (p : Name) (e : Event) (a : Deed) → IsAllowed root h b s a
+stays_or_absorbed : (root : Name) (h : History) (b : Event) (s : Step) (p : Name) (e : Event) (a : StepKind) → IsAllowed root h b s a
     → p ≢ s.process → Holds root h p e → (last_of (status_of_other h s a p (status root h p)) ≡ Some e) ⊎ (a ≡ Absorb p)
 stays_or_absorbed root h b s p e Work w differs holds = inl holds
 stays_or_absorbed root h b s p e Check w differs holds = inl holds
@@ -44,7 +44,7 @@ stays_or_absorbed root h b s p e (Absorb r) w differs holds =
     ]
 
 -- The absorbed process's points are the process's.
-taken_over : (root : Name) (h : History) (b : Event) (s : Step) (p : Name) (e : Event) (t : Point) (a : Deed) → IsAllowed root h b s a
+taken_over : (root : Name) (h : History) (b : Event) (s : Step) (p : Name) (e : Event) (t : Point) (a : StepKind) → IsAllowed root h b s a
     → a ≡ Absorb p → Holds root h p e → Owns e.id t → Owns s.stamp.id t
 taken_over root h b s p e t a w absorbs holds owned = grind arith
 

@@ -4,8 +4,8 @@ use Rattle.std.proofs.lemmas.Bool.{cases_Bool}
 use Rattle.id_tree.specs.IdTree.{IdTree}
 use Rattle.id_tree.specs.Points.{Point}
 use Rattle.event_tree.specs.Values.{value_at}
-use Rattle.report_line.specs.declared.step.Deed.{Deed}
-use Rattle.report_line.specs.declared.step.Deed.TheVariants.{Receive, Fork, Retire, Absorb}
+use Rattle.report_line.specs.declared.step.StepKind.{StepKind}
+use Rattle.report_line.specs.declared.step.StepKind.TheVariants.{Receive, Fork, Retire, Absorb}
 use Rattle.report_line.specs.declared.step.Step.{Step}
 use Rattle.report_line.specs.histories.History.{last_of, Name, Message, History, EventKind, Birth, Does, Event, birth_by, Living, Retired, status, sending}
 use Rattle.report_line.specs.histories.Lawful.{IsAllowed, IsLawful, start, next}
@@ -144,9 +144,9 @@ edge_up_next root h b s living allowed before (to_next {last = e} lives) t =
     omega arith
 edge_up_next root h b s living allowed before (to_birth forks) t = omega arith
 edge_up_next root h b s living allowed before (to_receive {m = m} {sent = e} is sent) t =
-    received_up root h b s m e (subst (λ (a : Deed). IsAllowed root h b s a) is allowed) sent t
+    received_up root h b s m e (subst (λ (a : StepKind). IsAllowed root h b s a) is allowed) sent t
 edge_up_next root h b s living allowed before (to_absorption {retired = r} {retirement = e} is retired) t =
-    absorbed_up root h b s r e (subst (λ (a : Deed). IsAllowed root h b s a) is allowed) retired t
+    absorbed_up root h b s r e (subst (λ (a : StepKind). IsAllowed root h b s a) is allowed) retired t
 edge_up_next root h b s living allowed before (earlier edge) t = before _ _ edge t
 
 pub edge_up : {root : Name} {h : History} → IsLawful root h → (a c : Event) → Edge root h a c → IsUp a c

@@ -3,8 +3,8 @@ use Rattle.std.proofs.Common.{◌≡◌, [], refl, sym, ◌∙◌, ap, subst}
 use Rattle.std.specs.Prelude.{IsTrue, Bool, ◌||◌}
 use Rattle.id_tree.specs.IdTree.{IdTree}
 use Rattle.id_tree.specs.Points.{OwnsSome}
-use Rattle.report_line.specs.declared.step.Deed.{Deed}
-use Rattle.report_line.specs.declared.step.Deed.TheVariants.{Work, Check, Present, Send, Receive, Fork, Retire, Absorb}
+use Rattle.report_line.specs.declared.step.StepKind.{StepKind}
+use Rattle.report_line.specs.declared.step.StepKind.TheVariants.{Work, Check, Present, Send, Receive, Fork, Retire, Absorb}
 use Rattle.report_line.specs.declared.step.Step.{Step}
 use Rattle.report_line.specs.histories.History.{Name, History, Event, last_of}
 use Rattle.report_line.specs.histories.Lawful.{IsSameId, IsAllowed, IsLawful, start, next}
@@ -17,7 +17,7 @@ left_or a b is = subst (λ (x : Bool). IsTrue (x || b)) (sym is) refl
 still_owns : (i j : IdTree) → IsSameId i j → OwnsSome j → OwnsSome i
 still_owns i j same some = (some.0, same some.0 ∙ some.1)
 
-actor_owns : (root : Name) (h : History) (b : Event) (s : Step) (a : Deed) → IsAllowed root h b s a → OwnsSome b.id → OwnsSome s.stamp.id
+actor_owns : (root : Name) (h : History) (b : Event) (s : Step) (a : StepKind) → IsAllowed root h b s a → OwnsSome b.id → OwnsSome s.stamp.id
 actor_owns root h b s Work w some = still_owns s.stamp.id b.id w.same_id some
 actor_owns root h b s Check w some = still_owns s.stamp.id b.id w.same_id some
 actor_owns root h b s Present w some = still_owns s.stamp.id b.id w.same_id some

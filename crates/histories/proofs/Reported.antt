@@ -5,14 +5,14 @@ use Rattle.std.specs.Str.{bytes_eq}
 use Rattle.std.proofs.lemmas.Bool.{cond-true, cond-false, cases_Bool}
 use Rattle.id_tree.specs.IdTree.{IdTree}
 use Rattle.stamp.specs.declared.stamp.Stamp.{Stamp}
-use Rattle.report_line.specs.declared.report.Action.{Action}
-use Rattle.report_line.specs.declared.report.Action.TheVariants as reported
+use Rattle.report_line.specs.declared.report.ReportKind.{ReportKind}
+use Rattle.report_line.specs.declared.report.ReportKind.TheVariants as reported
 use Rattle.report_line.specs.declared.report.Forked.{Forked}
 use Rattle.report_line.specs.declared.report.NumberedReport.{NumberedReport}
 use Rattle.report_line.specs.declared.report.Report.{Report}
 use Rattle.report_line.specs.declared.report.Report.TheVariants.{Begin, Numbered}
-use Rattle.report_line.specs.declared.step.Deed.{Deed}
-use Rattle.report_line.specs.declared.step.Deed.TheVariants.{Work, Check, Present, Send, Receive, Fork, Retire, Absorb}
+use Rattle.report_line.specs.declared.step.StepKind.{StepKind}
+use Rattle.report_line.specs.declared.step.StepKind.TheVariants.{Work, Check, Present, Send, Receive, Fork, Retire, Absorb}
 use Rattle.report_line.specs.declared.step.Step.{Step}
 use Rattle.report_line.specs.histories.History.{Name, History, Birth, Does, Event, event_of, birth_by, Unborn, status}
 use Rattle.report_line.specs.histories.Events.{Occurs, step, birth, earlier}
@@ -21,7 +21,7 @@ use Rattle.histories.proofs.Bytes.{bytes_same, bytes_other}
 use Rattle.histories.proofs.Status.{unborn_after}
 
 -- a step with this deed is reported so
-abbrev pub IsReportedAs : Step → Stamp → Deed → Action → Type 0
+abbrev pub IsReportedAs : Step → Stamp → StepKind → ReportKind → Type 0
 IsReportedAs s st d reported.Check = (d ≡ Check) × (s.stamp.id ≡ st.id)
 IsReportedAs s st d reported.Present = (d ≡ Present) × (s.stamp.id ≡ st.id)
 IsReportedAs s st d (reported.Fork f) = d ≡ Fork f.child f.given
@@ -29,7 +29,7 @@ IsReportedAs s st d (reported.Retire q) = d ≡ Retire q
 IsReportedAs s st d (reported.Absorb r) = d ≡ Absorb r
 
 -- what a report says of its step
-pub record SaysOfStep (h : History) (s : Step) (d : Deed) (r : NumberedReport) : Type 0 where
+pub record SaysOfStep (h : History) (s : Step) (d : StepKind) (r : NumberedReport) : Type 0 where
   pub process : r.process ≡ s.process
   pub number : r.number ≡ reporting_steps s.process h + 1
   pub values : s.stamp.events ≡ r.stamp.events
@@ -39,7 +39,7 @@ pub record SaysOfStep (h : History) (s : Step) (d : Deed) (r : NumberedReport) :
 same_report : (q r : NumberedReport) → Some (Numbered q) ≡ Some (Numbered r) → q ≡ r
 same_report q r e = cc
 
-pub says : (root : Name) (h : History) (s : Step) (r : NumberedReport) (d : Deed) → report_by root h s d ≡ Some (Numbered r) → SaysOfStep h s d r
+pub says : (root : Name) (h : History) (s : Step) (r : NumberedReport) (d : StepKind) → report_by root h s d ≡ Some (Numbered r) → SaysOfStep h s d r
 says root h s r Work e = absurd (cc)
 says root h s r (Send m) e = absurd (cc)
 says root h s r (Receive m) e = absurd (cc)
@@ -50,7 +50,7 @@ says root h s r (Retire q) e = subst (SaysOfStep h s (Retire q)) (same_report _ 
 says root h s r (Absorb q) e = subst (SaysOfStep h s (Absorb q)) (same_report _ r e) (record { process = refl; number = refl; values = refl; is_reported = refl; action = refl })
 
 -- a report has a number
-pub no_begin : (root : Name) (h : History) (s : Step) (p : Name) (a : Deed) → report_by root h s a ≡ Some (Begin p) → ⊥
+pub no_begin : (root : Name) (h : History) (s : Step) (p : Name) (a : StepKind) → report_by root h s a ≡ Some (Begin p) → ⊥
 no_begin root h s p Work e = cc
 no_begin root h s p (Send m) e = cc
 no_begin root h s p (Receive m) e = cc
@@ -61,7 +61,7 @@ no_begin root h s p (Retire q) e = cc
 no_begin root h s p (Absorb r) e = cc
 
 -- what a report says of its event
-abbrev pub IsEventAs : Event → Stamp → Action → Type 0
+abbrev pub IsEventAs : Event → Stamp → ReportKind → Type 0
 IsEventAs e st reported.Check = (e.kind ≡ Does Check) × (e.id ≡ st.id)
 IsEventAs e st reported.Present = (e.kind ≡ Does Present) × (e.id ≡ st.id)
 IsEventAs e st (reported.Fork f) = e.kind ≡ Does (Fork f.child f.given)
@@ -74,7 +74,7 @@ pub record SaysOfEvent (root : Name) (h : History) (e : Event) (r : NumberedRepo
   pub values : e.values ≡ r.stamp.events
   pub action : IsEventAs e r.stamp r.action
 
-as_event : (h : History) (s : Step) (st : Stamp) (b : Action) → IsReportedAs s st s.deed b → IsEventAs (event_of h s) st b
+as_event : (h : History) (s : Step) (st : Stamp) (b : ReportKind) → IsReportedAs s st s.deed b → IsEventAs (event_of h s) st b
 as_event h s st reported.Check w = (ap Does w.0, w.1)
 as_event h s st reported.Present w = (ap Does w.0, w.1)
 as_event h s st (reported.Fork f) w = ap Does w
@@ -116,7 +116,7 @@ pub record IsBirthOf (root : Name) (h : History) (e : Event) (p : Name) (i : IdT
   pub values : e.values ≡ st.events
 
 -- what a fork's report says of its step
-forks : (s : Step) (st : Stamp) (d : Deed) (b : Action) (f : Forked) → b ≡ reported.Fork f → IsReportedAs s st d b → d ≡ Fork f.child f.given
+forks : (s : Step) (st : Stamp) (d : StepKind) (b : ReportKind) (f : Forked) → b ≡ reported.Fork f → IsReportedAs s st d b → d ≡ Fork f.child f.given
 forks s st d b f is w = subst (IsReportedAs s st d) is w
 
 pub birth_of_report : (root : Name) (h : History) (e : Event) (r : NumberedReport) (f : Forked) → r.action ≡ reported.Fork f → IsReportOf root h (Numbered r) e
@@ -144,7 +144,7 @@ steps_more p s h = by (bytes_eq p s.process && is_reported s.deed) refl
 both_true : (a b : Bool) → a ≡ true → b ≡ true → (a && b) ≡ true
 both_true a b e f = grind (arith, cases_Bool)
 
-pub own_step : (h : History) (s : Step) (d : Deed) (r : NumberedReport) → s.deed ≡ d → SaysOfStep h s d r
+pub own_step : (h : History) (s : Step) (d : StepKind) (r : NumberedReport) → s.deed ≡ d → SaysOfStep h s d r
     → (r.number ≡ reporting_steps r.process h + 1) × (reporting_steps r.process (s ∷ h) ≡ suc (reporting_steps r.process h))
 own_step h s d r is w = (
   w.number ∙ ap (λ (q : Name). reporting_steps q h + 1) (sym w.process),

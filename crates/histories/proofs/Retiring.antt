@@ -1,7 +1,7 @@
 -- No event of a process follows its retirement.
 use Rattle.std.proofs.Common.{◌≡◌, ◌≢◌, ◌≤◌, ◌∷◌, length, sym, ◌∙◌, ap, subst, arith}
-use Rattle.report_line.specs.declared.step.Deed.{Deed}
-use Rattle.report_line.specs.declared.step.Deed.TheVariants.{Retire}
+use Rattle.report_line.specs.declared.step.StepKind.{StepKind}
+use Rattle.report_line.specs.declared.step.StepKind.TheVariants.{Retire}
 use Rattle.report_line.specs.histories.History.{Name, History, Birth, Does, Event, event_of, Living, Retired, last_of, status_of_actor, status}
 use Rattle.report_line.specs.histories.Lawful.{IsLawful, start, next}
 use Rattle.report_line.specs.histories.Events.{Occurs, Edge, to_next, to_birth, to_receive, to_absorption, earlier, step, birth, IsInPast, same, along}
@@ -18,10 +18,10 @@ process_of is = ap (λ (x : Event). x.process) is
 number_of : {d e : Event} → e ≡ d → e.number ≡ d.number
 number_of is = ap (λ (x : Event). x.number) is
 
-retires_then : (a : Deed) (q : Name) (d b : Event) → Does a ≡ Does (Retire q) → status_of_actor a d ≡ Living b → ⊥
+retires_then : (a : StepKind) (q : Name) (d b : Event) → Does a ≡ Does (Retire q) → status_of_actor a d ≡ Living b → ⊥
 retires_then a q d b is lives =
     let action : a ≡ Retire q = cc in
-    let both : Retired d q ≡ Living b = subst (λ (x : Deed). status_of_actor x d ≡ Living b) action lives in
+    let both : Retired d q ≡ Living b = subst (λ (x : StepKind). status_of_actor x d ≡ Living b) action lives in
     cc
 
 pub not_living : {root : Name} {h : History} → IsLawful root h → (e : Event) (q : Name) → Occurs root h e → e.kind ≡ Does (Retire q) → (b : Event) → status root h e.process ≢ Living b

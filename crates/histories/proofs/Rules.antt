@@ -4,8 +4,8 @@ use Rattle.std.proofs.lemmas.Bool.{cond-true, cond-false, cases_Bool, true≢fal
 use Rattle.std.specs.Str.{bytes_eq}
 use Rattle.id_tree.specs.IdTree.{IdTree}
 use Rattle.histories.proofs.Bytes.{cases_name, bytes_are, bytes_same, bytes_other}
-use Rattle.report_line.specs.declared.step.Deed.{Deed}
-use Rattle.report_line.specs.declared.step.Deed.TheVariants.{Work, Check, Present, Send, Receive, Fork, Retire, Absorb}
+use Rattle.report_line.specs.declared.step.StepKind.{StepKind}
+use Rattle.report_line.specs.declared.step.StepKind.TheVariants.{Work, Check, Present, Send, Receive, Fork, Retire, Absorb}
 use Rattle.report_line.specs.declared.step.Step.{Step}
 use Rattle.report_line.specs.histories.History.{Name, Message, History, Birth, Does, Event, event_of, birth_by, birth_of_root, Status, Unborn, Living, Retired, Absorbed, status_of_actor, status_of_other, last_of, status, sends, sending}
 use Rattle.report_line.specs.histories.Lawful.{IsLawfulAbsorption, IsAllowed, IsLawful, start, next}
@@ -17,7 +17,7 @@ use Rattle.histories.specs.Rules.{IsNewest, IsNew, IsNeverDone, IsWaiting, LookU
 
 absorption_of : (root : Name) (h : History) (b : Event) (s : Step) (r : Name)
     → IsAllowed root h b s s.deed → s.deed ≡ Absorb r → IsLawfulAbsorption root h b s r
-absorption_of root h b s r w is = subst (λ (a : Deed). IsAllowed root h b s a) is w
+absorption_of root h b s r w is = subst (λ (a : StepKind). IsAllowed root h b s a) is w
 
 -- What becomes of another process: it is born by the step, it is absorbed, or it stays as it is.
 absorbed_name : (r p : Name) → Absorb r ≡ Absorb p → r ≡ p
@@ -26,7 +26,7 @@ absorbed_name r p e = cc
 living_not_absorbed : (e : Event) → Living e ≢ Absorbed
 living_not_absorbed e is = cc
 
-other_is : (h : History) (s : Step) (p : Name) (a : Deed) (before : Status)
+other_is : (h : History) (s : Step) (p : Name) (a : StepKind) (before : Status)
     → ((i : IdTree) × (a ≡ Fork p i) × (status_of_other h s a p before ≡ Living (birth_by h s p i)))
     ⊎ (((a ≡ Absorb p) × (status_of_other h s a p before ≡ Absorbed)) ⊎ ((a ≢ Absorb p) × (status_of_other h s a p before ≡ before)))
 other_is h s p Work before = inr (inr (λ e. cc, refl))
@@ -55,10 +55,10 @@ record HasEnded (root : Name) (h : History) (p : Name) : Type 0 where
   pub target : Name
   pub retires : last.kind ≡ Does (Retire target)
 
-actor_not_absorbed : (a : Deed) (x : Event) → status_of_actor a x ≢ Absorbed
+actor_not_absorbed : (a : StepKind) (x : Event) → status_of_actor a x ≢ Absorbed
 actor_not_absorbed a x is = grind arith
 
-other_absorbed : (h : History) (s : Step) (p : Name) (a : Deed) (before : Status) → status_of_other h s a p before ≡ Absorbed
+other_absorbed : (h : History) (s : Step) (p : Name) (a : StepKind) (before : Status) → status_of_other h s a p before ≡ Absorbed
     → (before ≡ Absorbed) ⊎ (a ≡ Absorb p)
 other_absorbed h s p a before is =
     elim (other_is h s p a before) [
@@ -172,7 +172,7 @@ pub new_unborn : {root : Name} {h : History} → IsLawful root h → (p : Name) 
 new_unborn {root} {h} lawful p is_new = new_unborn_now root h p lawful is_new (status root h p) refl
 
 -- A message that nobody sent has no send.
-sends_this : (a : Deed) (m : Message) → sends a m ≡ true → a ≡ Send m
+sends_this : (a : StepKind) (m : Message) → sends a m ≡ true → a ≡ Send m
 sends_this (Send sent) m is = ap Send (bytes_are sent m is)
 sends_this Work m is = absurd (true≢false (sym is))
 sends_this Check m is = absurd (true≢false (sym is))
@@ -192,23 +192,23 @@ undone_unsent root (s ∷ h) m undone =
     ]
 
 -- Of an event that does something: it is the newest step's, or it occurred before.
-pub does_same : (a b : Deed) → Does a ≡ Does b → a ≡ b
+pub does_same : (a b : StepKind) → Does a ≡ Does b → a ≡ b
 does_same a b is = cc
 
-pub birth_does_nothing : (a : Deed) → Birth ≢ Does a
+pub birth_does_nothing : (a : StepKind) → Birth ≢ Does a
 birth_does_nothing a is = cc
 
-pub done_now_or_before : {root : Name} {h : History} {s : Step} {x : Event} → Occurs root (s ∷ h) x → (a : Deed) → x.kind ≡ Does a
+pub done_now_or_before : {root : Name} {h : History} {s : Step} {x : Event} → Occurs root (s ∷ h) x → (a : StepKind) → x.kind ≡ Does a
     → ((x ≡ event_of h s) × (s.deed ≡ a)) ⊎ Occurs root h x
 done_now_or_before (step {h = h} {s = s}) a is = inl (refl, does_same s.deed a is)
 done_now_or_before (birth forks) a is = absurd (birth_does_nothing a is)
 done_now_or_before (earlier occurs) a is = inr occurs
 
-pub nothing_done : {root : Name} {x : Event} → Occurs root [] x → (a : Deed) → x.kind ≡ Does a → ⊥
+pub nothing_done : {root : Name} {x : Event} → Occurs root [] x → (a : StepKind) → x.kind ≡ Does a → ⊥
 nothing_done root_birth a is = birth_does_nothing a is
 
-send_sends : (a : Deed) (m : Message) → a ≡ Send m → sends a m ≡ true
-send_sends a m is = ap (λ (b : Deed). sends b m) is ∙ bytes_same m m refl
+send_sends : (a : StepKind) (m : Message) → a ≡ Send m → sends a m ≡ true
+send_sends a m is = ap (λ (b : StepKind). sends b m) is ∙ bytes_same m m refl
 
 pub retired_not_living : (x b : Event) (q : Name) → Retired x q ≢ Living b
 retired_not_living x b q is = cc
@@ -222,7 +222,7 @@ retired_not_unborn x q is = cc
 -- The event that sent a message is its send.
 sent_before : (root : Name) (h : History) (b : Event) (s : Step) (m : Message) (x : Event) → IsAllowed root h b s s.deed → sends s.deed m ≡ true → sending h m ≡ Some x → ⊥
 sent_before root h b s m x allowed this before =
-    let fresh = subst (λ (a : Deed). IsAllowed root h b s a) (sends_this s.deed m this) allowed in
+    let fresh = subst (λ (a : StepKind). IsAllowed root h b s a) (sends_this s.deed m this) allowed in
     let both : Some x ≡ None = sym before ∙ fresh.1 in
     cc
 
@@ -241,10 +241,10 @@ send_is_found {root} (next {h = h} {s = s} {before = b} lawful living allowed) m
     ]
 
 -- Who retired and was not absorbed waits.
-pub actor_retires : (a : Deed) (q : Name) (x : Event) → a ≡ Retire q → status_of_actor a x ≡ Retired x q
+pub actor_retires : (a : StepKind) (q : Name) (x : Event) → a ≡ Retire q → status_of_actor a x ≡ Retired x q
 actor_retires a q x is = grind arith
 
-other_waits : (h : History) (s : Step) (p : Name) (a : Deed) (x : Event) (q : Name) → ((i : IdTree) → a ≢ Fork p i) → a ≢ Absorb p
+other_waits : (h : History) (s : Step) (p : Name) (a : StepKind) (x : Event) (q : Name) → ((i : IdTree) → a ≢ Fork p i) → a ≢ Absorb p
     → status_of_other h s a p (Retired x q) ≡ Retired x q
 other_waits h s p a x q no_fork no_absorption =
     elim (other_is h s p a (Retired x q)) [
@@ -271,7 +271,7 @@ retired_waits {root} (next {h = h} {s = s} {before = b} lawful living allowed) p
     ]
 
 -- The rules are the law.
-rule_allows : (root : Name) (h : History) (b : Event) (s : Step) → IsLawful root h → (a : Deed) → Obeys root h b s a → IsAllowed root h b s a
+rule_allows : (root : Name) (h : History) (b : Event) (s : Step) → IsLawful root h → (a : StepKind) → Obeys root h b s a → IsAllowed root h b s a
 rule_allows root h b s lawful Work w = w
 rule_allows root h b s lawful Check w = w
 rule_allows root h b s lawful Present w = w
@@ -305,7 +305,7 @@ rule_allows root h b s lawful (Absorb r) w = record {
 
 -- ---- the other way round
 
-other_ended : (h : History) (s : Step) (p : Name) (a : Deed) (before : Status) (x : Event) (q : Name) → ((i : IdTree) → a ≢ Fork p i)
+other_ended : (h : History) (s : Step) (p : Name) (a : StepKind) (before : Status) (x : Event) (q : Name) → ((i : IdTree) → a ≢ Fork p i)
     → (before ≡ Retired x q) ⊎ (before ≡ Absorbed) → (status_of_other h s a p before ≡ Retired x q) ⊎ (status_of_other h s a p before ≡ Absorbed)
 other_ended h s p a before x q no_fork ended =
     elim (other_is h s p a before) [
@@ -366,7 +366,7 @@ sent_is_send root (s ∷ h) m x is =
       | inr other ↦ sent_is_send root h m x (sym (cond-false (sends s.deed m) _ _ other) ∙ is)
     ]
 
-other_absorbs : (h : History) (s : Step) (p : Name) (a : Deed) (before : Status) → a ≡ Absorb p → status_of_other h s a p before ≡ Absorbed
+other_absorbs : (h : History) (s : Step) (p : Name) (a : StepKind) (before : Status) → a ≡ Absorb p → status_of_other h s a p before ≡ Absorbed
 other_absorbs h s p a before is =
     elim (other_is h s p a before) [
       | inl w ↦ (let both : Fork p w.0 ≡ Absorb p = sym w.1 ∙ is in absurd (cc))
@@ -374,7 +374,7 @@ other_absorbs h s p a before is =
       | inr (inr w) ↦ absurd (w.0 is)
     ]
 
-other_stays_absorbed : (h : History) (s : Step) (p : Name) (a : Deed) → ((i : IdTree) → a ≢ Fork p i) → status_of_other h s a p Absorbed ≡ Absorbed
+other_stays_absorbed : (h : History) (s : Step) (p : Name) (a : StepKind) → ((i : IdTree) → a ≢ Fork p i) → status_of_other h s a p Absorbed ≡ Absorbed
 other_stays_absorbed h s p a no_fork =
     elim (other_is h s p a Absorbed) [
       | inl w ↦ absurd (no_fork w.0 w.1)
@@ -403,7 +403,7 @@ absorbed_by {root} (next {h = h} {s = s} {before = b} lawful living allowed) r y
 none_not_some : (x : Event) → None ≢ Some x
 none_not_some x is = cc
 
-pub law_obeys : (root : Name) (h : History) (b : Event) (s : Step) → IsLawful root h → (a : Deed) → IsAllowed root h b s a → Obeys root h b s a
+pub law_obeys : (root : Name) (h : History) (b : Event) (s : Step) → IsLawful root h → (a : StepKind) → IsAllowed root h b s a → Obeys root h b s a
 law_obeys root h b s lawful Work w = w
 law_obeys root h b s lawful Check w = w
 law_obeys root h b s lawful Present w = w

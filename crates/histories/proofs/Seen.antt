@@ -6,8 +6,8 @@ use Rattle.id_tree.specs.IdTree.{IdTree}
 use Rattle.id_tree.specs.Points.{Point, owns}
 use Rattle.event_tree.specs.Values.{value_at}
 use Rattle.histories.proofs.Bytes.{Owns, bytes_same}
-use Rattle.report_line.specs.declared.step.Deed.{Deed}
-use Rattle.report_line.specs.declared.step.Deed.TheVariants.{Fork, Retire}
+use Rattle.report_line.specs.declared.step.StepKind.{StepKind}
+use Rattle.report_line.specs.declared.step.StepKind.TheVariants.{Fork, Retire}
 use Rattle.report_line.specs.declared.step.Step.{Step}
 use Rattle.report_line.specs.histories.History.{last_of, Name, History, Does, Event, event_of, birth_by, Living, status_of_actor, status_of_other, status}
 use Rattle.report_line.specs.histories.Lawful.{IsAllowed, IsLawful, start, next}
@@ -26,7 +26,7 @@ abbrev pub IsChained : Name → History → Type 0
 IsChained root h = (p : Name) (e y : Event) (t : Point) → Holds root h p e → Owns e.id t → Occurs root h y → Owns y.id t → GoesOn y
     → (y ≡ e) ⊎ LaterIsInPast root h e y
 
-actor_lasts : (a : Deed) (e : Event) → last_of (status_of_actor a e) ≡ Some e
+actor_lasts : (a : StepKind) (e : Event) → last_of (status_of_actor a e) ≡ Some e
 actor_lasts (Retire q) e = refl
 actor_lasts _ e = refl
 
@@ -37,7 +37,7 @@ step_holds root h s = ap last_of (status_acts root h s s.process refl) ∙ actor
 pub birth_holds : (root : Name) (h : History) (s : Step) (c : Name) (i : IdTree) → c ≢ s.process → s.deed ≡ Fork c i → Holds root (s ∷ h) c (birth_by h s c i)
 birth_holds root h s c i differs forks =
     let there : status root (s ∷ h) c ≡ status_of_other h s (Fork c i) c (status root h c) =
-    status_others root h s c differs ∙ ap (λ (a : Deed). status_of_other h s a c (status root h c)) forks in
+    status_others root h s c differs ∙ ap (λ (a : StepKind). status_of_other h s a c (status root h c)) forks in
     ap last_of (there ∙ cond-true (bytes_eq c c) _ _ (bytes_same c c refl))
 
 -- The new events of a lawful step are last events.

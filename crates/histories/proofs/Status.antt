@@ -4,8 +4,8 @@ use Rattle.std.proofs.lemmas.Bool.{cond-true, cond-false, cases_Bool}
 use Rattle.id_tree.specs.IdTree.{IdTree}
 use Rattle.std.specs.Str.{bytes_eq}
 use Rattle.histories.proofs.Bytes.{cases_name, bytes_same, bytes_other}
-use Rattle.report_line.specs.declared.step.Deed.{Deed}
-use Rattle.report_line.specs.declared.step.Deed.TheVariants.{Work, Check, Present, Send, Receive, Fork, Retire, Absorb}
+use Rattle.report_line.specs.declared.step.StepKind.{StepKind}
+use Rattle.report_line.specs.declared.step.StepKind.TheVariants.{Work, Check, Present, Send, Receive, Fork, Retire, Absorb}
 use Rattle.report_line.specs.declared.step.Step.{Step}
 use Rattle.report_line.specs.histories.History.{Name, Message, History, Does, Event, birth_of_root, event_of, birth_by, Status, Unborn, Living, Retired, Absorbed, status_of_actor, status_of_other, last_of, status, sends, sending}
 use Rattle.report_line.specs.histories.Events.{Occurs, root_birth, step, birth, earlier}
@@ -49,7 +49,7 @@ pub data Origin (root : Name) (h : History) (s : Step) (p : Name) (e : Event) : 
   acted : p ≡ s.process → e ≡ event_of h s → Origin root h s p e
   born : {i : IdTree} → p ≢ s.process → s.deed ≡ Fork p i → e ≡ birth_by h s p i → status root (s ∷ h) p ≡ Living e → Origin root h s p e
 
-actor_last : (a : Deed) (d e : Event) → last_of (status_of_actor a d) ≡ Some e → e ≡ d
+actor_last : (a : StepKind) (d e : Event) → last_of (status_of_actor a d) ≡ Some e → e ≡ d
 actor_last a d e last = grind arith
 
 absorbed_name : (r p : Name) → Absorb r ≡ Absorb p → r ≡ p
@@ -58,7 +58,7 @@ absorbed_name r p e = cc
 child_name : (c p : Name) (i j : IdTree) → Fork c i ≡ Fork p j → c ≡ p
 child_name c p i j e = cc
 
-other_last : (h : History) (s : Step) (p : Name) (e : Event) (a : Deed) (before : Status) → last_of (status_of_other h s a p before) ≡ Some e
+other_last : (h : History) (s : Step) (p : Name) (e : Event) (a : StepKind) (before : Status) → last_of (status_of_other h s a p before) ≡ Some e
     → ((status_of_other h s a p before ≡ before) × (a ≢ Absorb p))
     ⊎ ((i : IdTree) × (a ≡ Fork p i) × (e ≡ birth_by h s p i) × (status_of_other h s a p before ≡ Living e))
 other_last h s p e (Fork c i) before last =
@@ -123,10 +123,10 @@ pub record IsUnbornAfter (root : Name) (h : History) (s : Step) (p : Name) : Typ
   pub not_actor : p ≢ s.process
   pub not_child : (i : IdTree) → s.deed ≢ Fork p i
 
-actor_not_unborn : (a : Deed) (e : Event) → status_of_actor a e ≢ Unborn
+actor_not_unborn : (a : StepKind) (e : Event) → status_of_actor a e ≢ Unborn
 actor_not_unborn a e unborn = grind arith
 
-other_unborn : (h : History) (s : Step) (p : Name) (a : Deed) (before : Status) → status_of_other h s a p before ≡ Unborn
+other_unborn : (h : History) (s : Step) (p : Name) (a : StepKind) (before : Status) → status_of_other h s a p before ≡ Unborn
     → (before ≡ Unborn) × ((i : IdTree) → a ≢ Fork p i)
 other_unborn h s p (Fork c i) before unborn =
     elim (cases_name p c) [
@@ -184,7 +184,7 @@ number_within (birth forks) = omega arith
 number_within (earlier {h = h} {x = x} occurs) = (let before : x.number ≤ length h = number_within occurs in omega arith)
 
 -- A process that retired did so by its last event.
-actor_retired : (h : History) (s : Step) (e : Event) (q : Name) (a : Deed) → s.deed ≡ a
+actor_retired : (h : History) (s : Step) (e : Event) (q : Name) (a : StepKind) → s.deed ≡ a
     → status_of_actor a (event_of h s) ≡ Retired e q → e.kind ≡ Does (Retire q)
 actor_retired h s e q a is both = grind arith
 
@@ -213,7 +213,7 @@ sent_occurs root (s ∷ h) m e is =
       | inr other ↦ earlier (sent_occurs root h m e (sym (cond-false (sends s.deed m) _ _ other) ∙ is))
     ]
 
-pub sent_by : (h : History) (m : Message) (e : Event) → sending h m ≡ Some e → (a : Deed) × (e.kind ≡ Does a)
+pub sent_by : (h : History) (m : Message) (e : Event) → sending h m ≡ Some e → (a : StepKind) × (e.kind ≡ Does a)
 unfolding sending
 sent_by [] m e is = absurd (cc)
 sent_by (s ∷ h) m e is =

@@ -8,8 +8,8 @@ use Rattle.event_tree.specs.EventTree.{EventTree}
 use Rattle.event_tree.specs.Values.{value_at}
 use Rattle.event_tree.specs.Grown.{IsGrown}
 use Rattle.histories.proofs.Bytes.{Owns}
-use Rattle.report_line.specs.declared.step.Deed.{Deed}
-use Rattle.report_line.specs.declared.step.Deed.TheVariants.{Receive, Fork, Retire, Absorb}
+use Rattle.report_line.specs.declared.step.StepKind.{StepKind}
+use Rattle.report_line.specs.declared.step.StepKind.TheVariants.{Receive, Fork, Retire, Absorb}
 use Rattle.report_line.specs.declared.step.Step.{Step}
 use Rattle.report_line.specs.histories.History.{last_of, Name, Message, History, Does, Event, event_of, Unborn, Living, Retired, sending, status}
 use Rattle.report_line.specs.histories.Lawful.{IsLawfulFork, IsAllowed}
@@ -21,12 +21,12 @@ pub grown_up : (i : IdTree) (e f : EventTree) → IsGrown i e f → (t : Point) 
 grown_up i e f g t = grind (arith, cases_Bool)
 
 -- The values do not fall by a step, whatever its action.
-pub never_falls_by : (root : Name) (h : History) (b : Event) (s : Step) (a : Deed) → IsAllowed root h b s a
+pub never_falls_by : (root : Name) (h : History) (b : Event) (s : Step) (a : StepKind) → IsAllowed root h b s a
     → (t : Point) → value_at b.values t ≤ value_at s.stamp.events t
 never_falls_by root h b s a w t = grind (arith, cases_Bool, grown_up)
 
 -- A step raises the values at some point that the process owned.
-pub rises_by : (root : Name) (h : History) (b : Event) (s : Step) (a : Deed) → IsAllowed root h b s a
+pub rises_by : (root : Name) (h : History) (b : Event) (s : Step) (a : StepKind) → IsAllowed root h b s a
     → (t : Point) × Owns b.id t × (value_at b.values t < value_at s.stamp.events t)
 rises_by root h b s a w = grind (arith, cases_Bool, grown_up)
 
@@ -38,7 +38,7 @@ pub record CameFrom (root : Name) (h : History) (s : Step) (t : Point) : Type 0 
   pub no_less : value_at s.stamp.events t ≤ value_at source.values t
 
 -- Where the process did not own the point, its value came along an edge.
-came_by : (root : Name) (h : History) (b : Event) (s : Step) (t : Point) (a : Deed) → IsAllowed root h b s a → owns b.id t ≡ false
+came_by : (root : Name) (h : History) (b : Event) (s : Step) (t : Point) (a : StepKind) → IsAllowed root h b s a → owns b.id t ≡ false
     → (value_at s.stamp.events t ≤ value_at b.values t)
     ⊎ (((m : Message) × (e : Event) × (a ≡ Receive m) × (sending h m ≡ Some e) × (value_at s.stamp.events t ≤ value_at e.values t))
     ⊎ ((r : Name) × (e : Event) × (a ≡ Absorb r) × (status root h r ≡ Retired e s.process) × (value_at s.stamp.events t ≤ value_at e.values t)))
@@ -68,7 +68,7 @@ pub record Source (root : Name) (h : History) (s : Step) (t : Point) : Type 0 wh
   pub no_more : value_at last.values t ≤ value_at s.stamp.events t
   pub known : (holder ≡ s.process) ⊎ ((s.deed ≡ Absorb holder) × ((q : Name) × (last.kind ≡ Does (Retire q))))
 
-own_by : (root : Name) (h : History) (b : Event) (s : Step) (t : Point) (a : Deed) → IsAllowed root h b s a → Owns s.stamp.id t
+own_by : (root : Name) (h : History) (b : Event) (s : Step) (t : Point) (a : StepKind) → IsAllowed root h b s a → Owns s.stamp.id t
     → Owns b.id t ⊎ ((r : Name) × (e : Event) × (a ≡ Absorb r) × (status root h r ≡ Retired e s.process) × Owns e.id t × (value_at e.values t ≤ value_at s.stamp.events t))
 own_by root h b s t a w owned = grind arith
 
@@ -106,12 +106,12 @@ module _ (root : Name) (h : History) (b : Event) (s : Step) (t : Point) (living 
       ]
 
   pub child_source : (c : Name) (i : IdTree) → s.deed ≡ Fork c i → Owns i t → Source root h s t
-  child_source c i forks owned = own_source (child_by root h b s t c i (subst (λ (a : Deed). IsAllowed root h b s a) forks w) owned)
+  child_source c i forks owned = own_source (child_by root h b s t c i (subst (λ (a : StepKind). IsAllowed root h b s a) forks w) owned)
 
 -- What a fork asks.
 pub fork_of : (root : Name) (h : History) (b : Event) (s : Step) (c : Name) (i : IdTree)
     → IsAllowed root h b s s.deed → s.deed ≡ Fork c i → IsLawfulFork root h b s c i
-fork_of root h b s c i w is = subst (λ (a : Deed). IsAllowed root h b s a) is w
+fork_of root h b s c i w is = subst (λ (a : StepKind). IsAllowed root h b s a) is w
 
 pub child_differs : (root : Name) (h : History) (b : Event) (s : Step) (c : Name) (i : IdTree)
     → status root h s.process ≡ Living b → IsLawfulFork root h b s c i → c ≢ s.process

@@ -2,8 +2,8 @@
 use Rattle.std.specs.Prelude.{ℕ, [], ◌∷◌}
 use Rattle.id_tree.specs.IdTree.{IdTree, Zero, One, Pair}
 use Rattle.event_tree.specs.EventTree.{EventTree, Leaf, Node}
-use Rattle.report_line.specs.declared.step.Deed.{Deed}
-use Rattle.report_line.specs.declared.step.Deed.TheVariants.{Work, Check, Present, Send, Receive, Fork, Retire, Absorb}
+use Rattle.report_line.specs.declared.step.StepKind.{StepKind}
+use Rattle.report_line.specs.declared.step.StepKind.TheVariants.{Work, Check, Present, Send, Receive, Fork, Retire, Absorb}
 use Rattle.report_line.specs.declared.step.Step.{Step}
 use Rattle.report_line.specs.histories.History.{Name, Message, History}
 
@@ -37,7 +37,7 @@ right = Pair Zero One
 abbrev pub halves : ℕ → ℕ → ℕ → EventTree
 halves n x y = Node n (Leaf x) (Leaf y)
 
-abbrev pub act : Name → Deed → IdTree → EventTree → Step
+abbrev pub act : Name → StepKind → IdTree → EventTree → Step
 act process deed id values = record { process = process; deed = deed; stamp = record { id = id; events = values } }
 
 -- The newest step first. One message is received twice and one never; one retirement is absorbed, and one, into a process

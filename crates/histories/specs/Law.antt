@@ -2,7 +2,7 @@
 use Rattle.std.specs.Prelude.{Some, ◌≡◌, ◌⊎◌, ◌<◌, ◌≤◌, ◌≢◌, ◌↔◌, IsTrue}
 use Rattle.id_tree.specs.Points.{Point, owns}
 use Rattle.event_tree.specs.Values.{IsAtOrBelow, ExceedsOn}
-use Rattle.report_line.specs.declared.step.Deed.TheVariants.{Check, Present, Retire}
+use Rattle.report_line.specs.declared.step.StepKind.TheVariants.{Check, Present, Retire}
 use Rattle.report_line.specs.histories.History.{last_of, status, Name, History, EventKind, Birth, Does, Event}
 use Rattle.report_line.specs.histories.Lawful.{IsLawful}
 use Rattle.report_line.specs.histories.Events.{Occurs, Edge, IsInPast}

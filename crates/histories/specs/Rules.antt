@@ -5,8 +5,8 @@ use Rattle.id_tree.specs.Points.{OwnsSome, AreDisjoint, AreTogether}
 use Rattle.event_tree.specs.EventTree.{EventTree}
 use Rattle.event_tree.specs.Grown.{IsGrown}
 use Rattle.event_tree.specs.Join.{IsJoin}
-use Rattle.report_line.specs.declared.step.Deed.{Deed}
-use Rattle.report_line.specs.declared.step.Deed.TheVariants.{Work, Check, Present, Send, Receive, Fork, Retire, Absorb}
+use Rattle.report_line.specs.declared.step.StepKind.{StepKind}
+use Rattle.report_line.specs.declared.step.StepKind.TheVariants.{Work, Check, Present, Send, Receive, Fork, Retire, Absorb}
 use Rattle.report_line.specs.declared.step.Step.{Step}
 use Rattle.report_line.specs.histories.History.{Name, Message, History, Does, Event, Unborn, Living, Retired, Absorbed, status, sending}
 use Rattle.report_line.specs.histories.Lawful.{IsOwnWork, IsLawful}
@@ -24,7 +24,7 @@ abbrev pub IsNew : Name → History → Name → Type 0
 IsNew root h p = (x : Event) → Occurs root h x → x.process ≢ p
 
 -- Nobody did this.
-abbrev pub IsNeverDone : Name → History → Deed → Type 0
+abbrev pub IsNeverDone : Name → History → StepKind → Type 0
 IsNeverDone root h a = (x : Event) → Occurs root h x → x.kind ≢ Does a
 
 -- A fork splits the process's id between it and a child of a new name, which starts with the process's values.
@@ -52,7 +52,7 @@ pub record Absorbs (root : Name) (h : History) (before : Event) (s : Step) (reti
 
 -- What each action asks of a step `s` after the steps `h`, where `before` is the process's newest event. What is received
 -- was sent by an event of `h`, and what is absorbed retired by one.
-abbrev pub Obeys : Name → History → Event → Step → Deed → Type 0
+abbrev pub Obeys : Name → History → Event → Step → StepKind → Type 0
 Obeys root h before s Work = IsOwnWork before before.values s
 Obeys root h before s Check = IsOwnWork before before.values s
 Obeys root h before s Present = IsOwnWork before before.values s

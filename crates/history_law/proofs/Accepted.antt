@@ -7,7 +7,7 @@ use Rattle.id_tree.specs.Points.{owns}
 use Rattle.id_tree.specs.Split.{IsSplit}
 use Rattle.event_tree.specs.EventTree.{EventTree, Leaf}
 use Rattle.event_tree.specs.Values.{IsAtOrBelow}
-use Rattle.report_line.specs.declared.report.Action.TheVariants.{Check, Present, Retire, Absorb}
+use Rattle.report_line.specs.declared.report.ReportKind.TheVariants.{Check, Present, Retire, Absorb}
 use Rattle.report_line.specs.declared.report.NumberedReport.{NumberedReport}
 use Rattle.report_line.specs.declared.report.Report.{Report}
 use Rattle.report_line.specs.declared.report.Report.TheVariants.{Begin, Numbered}

@@ -10,8 +10,8 @@ use Rattle.report_line.specs.declared.report.NumberedReport.{NumberedReport}
 use Rattle.report_line.specs.declared.report.Report.{Report}
 use Rattle.report_line.specs.declared.report.Report.TheVariants.{Begin, Numbered}
 use Rattle.chains.specs.Processes.{is_numbered_of, reports_by}
-use Rattle.report_line.specs.declared.step.Deed.{Deed}
-use Rattle.report_line.specs.declared.step.Deed.TheVariants.{Work, Check, Present, Send, Receive, Fork, Retire, Absorb}
+use Rattle.report_line.specs.declared.step.StepKind.{StepKind}
+use Rattle.report_line.specs.declared.step.StepKind.TheVariants.{Work, Check, Present, Send, Receive, Fork, Retire, Absorb}
 use Rattle.report_line.specs.declared.step.Step.{Step}
 use Rattle.report_line.specs.histories.History.{Name, History, Event, event_of}
 use Rattle.report_line.specs.histories.StepReports.{is_reported, reporting_steps, report_by, report_of, reports, IsReportOf, newest, earlier}
@@ -68,7 +68,7 @@ one_new : (b : Bool) (r : Report) → length (cond b (r ∷ []) []) ≡ cond (b 
 one_new true r = refl
 one_new false r = refl
 
-new_reports : (root p : Name) (h : History) (s : Step) (a : Deed) → length (reports_by p (cons_option (report_by root h s a) [])) ≡ cond (bytes_eq p s.process && is_reported a) 1 0
+new_reports : (root p : Name) (h : History) (s : Step) (a : StepKind) → length (reports_by p (cons_option (report_by root h s a) [])) ≡ cond (bytes_eq p s.process && is_reported a) 1 0
 new_reports root p h s Work = none_new (bytes_eq p s.process)
 new_reports root p h s (Send m) = none_new (bytes_eq p s.process)
 new_reports root p h s (Receive m) = none_new (bytes_eq p s.process)

@@ -6,8 +6,8 @@ use Rattle.std.proofs.lemmas.Bool.{cases_lt, cond-true}
 use Rattle.std.proofs.lemmas.List.{get_or_past, length-replicate}
 use Rattle.std.proofs.lemmas.Option.{slice_get_cases, slice_get_within}
 use Rattle.stamp.specs.declared.stamp.Stamp.{Stamp}
-use Rattle.report_line.specs.declared.report.Action.{Action}
-use Rattle.report_line.specs.declared.report.Action.TheVariants as reported
+use Rattle.report_line.specs.declared.report.ReportKind.{ReportKind}
+use Rattle.report_line.specs.declared.report.ReportKind.TheVariants as reported
 use Rattle.report_line.specs.declared.report.NumberedReport.{NumberedReport}
 use Rattle.report_line.specs.declared.report.Report.{Report}
 use Rattle.report_line.specs.declared.report.Report.TheVariants.{Numbered}
@@ -50,7 +50,7 @@ retired_from_last : (accepted : List Report) (p : ℕ) (name : Name) (r : Number
     → (is_retired accepted p ≡ true) × (retired_events accepted p ≡ Some r.stamp.events)
 retired_from_last accepted p name r q is last retires =
     let retired : is_retired accepted p ≡ true =
-    ap (λ (o : Option Name). option_map_or (λ x. is_some (target_of x accepted)) o false) is ∙ ap (λ (o : Option Report). is_some (target_after o)) last ∙ ap (λ (b : Action). is_some (target_in b)) retires
+    ap (λ (o : Option Name). option_map_or (λ x. is_some (target_of x accepted)) o false) is ∙ ap (λ (o : Option Report). is_some (target_after o)) last ∙ ap (λ (b : ReportKind). is_some (target_in b)) retires
     in (
       retired,
       cond-true (is_retired accepted p) (option_map (λ x. last_events x accepted) (name_of accepted p)) None retired

@@ -10,8 +10,8 @@ use Rattle.id_tree.specs.Points.{owns}
 use Rattle.event_tree.specs.EventTree.{EventTree, Leaf}
 use Rattle.event_tree.specs.Values.{value_at, ExceedsOn}
 use Rattle.stamp.specs.declared.stamp.Stamp.{Stamp}
-use Rattle.report_line.specs.declared.report.Action.{Action}
-use Rattle.report_line.specs.declared.report.Action.TheVariants as reported
+use Rattle.report_line.specs.declared.report.ReportKind.{ReportKind}
+use Rattle.report_line.specs.declared.report.ReportKind.TheVariants as reported
 use Rattle.report_line.specs.declared.report.Report.{Report}
 use Rattle.report_line.specs.declared.report.Report.TheVariants.{Begin, Numbered}
 use Rattle.chains.specs.declared.position.Place.{Place}
@@ -57,7 +57,7 @@ born_by root h accepted agrees p (Begin q) at is =
     )
 born_by root h accepted agrees p (Numbered r) at is = by r.action refl is
   where
-    by : (b : Action) → r.action ≡ b → child_of b ≡ Some p → (s : Stamp) × (e : Event) × (lasting_by p r b ≡ Some s) × IsBirthEvent root h p s e
+    by : (b : ReportKind) → r.action ≡ b → child_of b ≡ Some p → (s : Stamp) × (e : Event) × (lasting_by p r b ≡ Some s) × IsBirthEvent root h p s e
     by (reported.Fork f) forks born_is =
         let s : Stamp = record { id = f.given; events = r.stamp.events } in
         let same : f.child ≡ p = same_name f.child p born_is in

@@ -6,8 +6,8 @@ use Rattle.std.proofs.lemmas.Bool.{cond-true, cases_lt, true≢false}
 use Rattle.event_tree.specs.EventTree.{EventTree, Leaf}
 use Rattle.event_tree.specs.Values.{value_at, IsAtOrBelow}
 use Rattle.stamp.specs.declared.stamp.Stamp.{Stamp}
-use Rattle.report_line.specs.declared.report.Action.{Action}
-use Rattle.report_line.specs.declared.report.Action.TheVariants as reported
+use Rattle.report_line.specs.declared.report.ReportKind.{ReportKind}
+use Rattle.report_line.specs.declared.report.ReportKind.TheVariants as reported
 use Rattle.report_line.specs.declared.report.NumberedReport.{NumberedReport}
 use Rattle.report_line.specs.declared.report.Report.{Report}
 use Rattle.report_line.specs.declared.report.Report.TheVariants.{Begin, Numbered}
@@ -19,7 +19,7 @@ use Rattle.chains.specs.Positions.{is_retired}
 use Rattle.chains.specs.Knowledge.{retired_events}
 use Rattle.chains.specs.Folded.{IsFolded}
 use Rattle.knows_row.proofs.Rising.{below_later, elements_rise}
-use Rattle.report_line.specs.declared.step.Deed.TheVariants.{Fork as ForkStep, Retire}
+use Rattle.report_line.specs.declared.step.StepKind.TheVariants.{Fork as ForkStep, Retire}
 use Rattle.report_line.specs.histories.History.{Name, History, Does, Event}
 use Rattle.report_line.specs.histories.Lawful.{IsLawful, start, next}
 use Rattle.report_line.specs.histories.Events.{Occurs}
@@ -156,7 +156,7 @@ retired_name : (accepted : List Report) (o : Option Name) → option_map_or (λ 
 retired_name accepted None e = absurd (true≢false (sym e))
 retired_name accepted (Some p) e = (p, refl, e)
 
-retires_by : (b : Action) → is_some (target_in b) ≡ true → (q : Name) × (b ≡ reported.Retire q)
+retires_by : (b : ReportKind) → is_some (target_in b) ≡ true → (q : Name) × (b ≡ reported.Retire q)
 retires_by (reported.Retire q) e = (q, refl)
 retires_by _ e = absurd (true≢false (sym e))
 

@@ -7,8 +7,8 @@ use Rattle.std.proofs.lemmas.Option.{same_Some, cond_some}
 use Rattle.id_tree.specs.IdTree.{One}
 use Rattle.event_tree.specs.EventTree.{Leaf}
 use Rattle.stamp.specs.declared.stamp.Stamp.{Stamp}
-use Rattle.report_line.specs.declared.report.Action.{Action}
-use Rattle.report_line.specs.declared.report.Action.TheVariants as reported
+use Rattle.report_line.specs.declared.report.ReportKind.{ReportKind}
+use Rattle.report_line.specs.declared.report.ReportKind.TheVariants as reported
 use Rattle.report_line.specs.declared.report.Forked.{Forked}
 use Rattle.report_line.specs.declared.report.NumberedReport.{NumberedReport}
 use Rattle.report_line.specs.declared.report.Report.{Report}
@@ -17,7 +17,7 @@ use Rattle.chains.specs.declared.position.Position.TheVariants.{At}
 use Rattle.chains.specs.Processes.{is_numbered_of, last_report}
 use Rattle.chains.specs.Elements.{only_if, lasting_by, lasting_made, lasting_of, present_by, present_in, elements_of, name_of, element}
 use Rattle.chains.proofs.Keeps.{passes}
-use Rattle.report_line.specs.declared.step.Deed.TheVariants.{Check, Present}
+use Rattle.report_line.specs.declared.step.StepKind.TheVariants.{Check, Present}
 use Rattle.report_line.specs.histories.History.{Name, History, EventKind, Birth, Does, Event, birth_of_root}
 use Rattle.report_line.specs.histories.Events.{Occurs, root_birth, earlier}
 use Rattle.histories.specs.Law.{IsRestorable, birth, check, presentation}
@@ -115,7 +115,7 @@ module _ (root : Name) (h : History) (accepted : List Report) (agrees : Agrees r
         },
       )
 
-  made_by : (p : Name) (r : NumberedReport) (s : Stamp) → Contains accepted (Numbered r) → (b : Action) → r.action ≡ b → lasting_by p r b ≡ Some s → (e : Event) × IsEventOf root h accepted p s e
+  made_by : (p : Name) (r : NumberedReport) (s : Stamp) → Contains accepted (Numbered r) → (b : ReportKind) → r.action ≡ b → lasting_by p r b ≡ Some s → (e : Event) × IsEventOf root h accepted p s e
   made_by p r s at reported.Check is made = check_event p r s at is made
   made_by p r s at (reported.Fork f) is made = child_event p r s f at is made
   made_by p r s at _ is made = absurd (cc)
@@ -124,7 +124,7 @@ module _ (root : Name) (h : History) (accepted : List Report) (agrees : Agrees r
   made_event p (Begin q) s at made = root_event p q s at made
   made_event p (Numbered r) s at made = made_by p r s at r.action refl made
 
-  present_made : (p : Name) (r : NumberedReport) (b : Action) (j : ℕ) (s : Stamp) → Contains accepted (Numbered r) → p ≡ r.process → r.action ≡ b → slice_get (present_by r.stamp b) j ≡ Some s
+  present_made : (p : Name) (r : NumberedReport) (b : ReportKind) (j : ℕ) (s : Stamp) → Contains accepted (Numbered r) → p ≡ r.process → r.action ≡ b → slice_get (present_by r.stamp b) j ≡ Some s
       → (e : Event) × IsEventOf root h accepted p s e
   present_made p r reported.Present zero s at own is there = subst (λ (t : Stamp). (e : Event) × IsEventOf root h accepted p t e) (same_Some r.stamp s there) (present_event p r at is own)
   present_made p r reported.Present (suc j) s at own is there = absurd (cc)

@@ -9,8 +9,8 @@ use Rattle.id_tree.specs.IdTree.{IdTree}
 use Rattle.event_tree.specs.EventTree.{EventTree, Leaf}
 use Rattle.event_tree.specs.Values.{value_at, IsAtOrBelow}
 use Rattle.stamp.specs.declared.stamp.Stamp.{Stamp}
-use Rattle.report_line.specs.declared.report.Action.{Action}
-use Rattle.report_line.specs.declared.report.Action.TheVariants.{Check, Present, Fork}
+use Rattle.report_line.specs.declared.report.ReportKind.{ReportKind}
+use Rattle.report_line.specs.declared.report.ReportKind.TheVariants.{Check, Present, Fork}
 use Rattle.report_line.specs.declared.report.Forked.{Forked}
 use Rattle.report_line.specs.declared.report.NumberedReport.{NumberedReport}
 use Rattle.report_line.specs.declared.report.Report.{Report}
@@ -48,7 +48,7 @@ reporter_known _ (one_folded before new folded fit) r there =
     fit_numbered before new r is fit = subst (IsFit before) is fit
 
 -- who has an element is known
-made_known_by : (accepted : List Report) (p : Name) (r : NumberedReport) (s : Stamp) → IsKnown accepted r.process → Contains accepted (Numbered r) → (b : Action) → r.action ≡ b → lasting_by p r b ≡ Some s → IsKnown accepted p
+made_known_by : (accepted : List Report) (p : Name) (r : NumberedReport) (s : Stamp) → IsKnown accepted r.process → Contains accepted (Numbered r) → (b : ReportKind) → r.action ≡ b → lasting_by p r b ≡ Some s → IsKnown accepted p
 made_known_by accepted p r s reporter at Check is made = subst (IsKnown accepted) (sym (bytes_are p r.process (cond_some (bytes_eq p r.process) r.stamp s made).0)) reporter
 made_known_by accepted p r s reporter at (Fork f) is made =
     known_by accepted (Numbered r) p at (ap child_of is ∙ ap (λ (x : Name). Some x) (sym (bytes_are p f.child (cond_some (bytes_eq p f.child) _ s made).0)))
@@ -83,7 +83,7 @@ born_none : (before : List Report) (r : NumberedReport) (f : Forked) → IsFitRe
 born_none before r f fit is = unknown_child before r (Fork f) (subst (IsFitAction before r) is fit.fit) f.child refl
 
 new_differs_by : (before : List Report) (p : Name) (r : NumberedReport) (i : ℕ) (s t : Stamp) → IsFolded before → IsFitReport before r
-    → slice_get (lasting_of p before) i ≡ Some s → (b : Action) → r.action ≡ b → lasting_by p r b ≡ Some t → s.events ≢ t.events
+    → slice_get (lasting_of p before) i ≡ Some s → (b : ReportKind) → r.action ≡ b → lasting_by p r b ≡ Some t → s.events ≢ t.events
 new_differs_by before p r i s t folded fit at Check is made same =
     let w = cond_some (bytes_eq p r.process) r.stamp t made in
     own_differs before p r i s folded fit (bytes_are p r.process w.0) at (same ∙ ap (λ (x : Stamp). x.events) (sym w.1))
@@ -124,12 +124,12 @@ lasting_differ _ (one_folded before r folded fit) p i j s t less at at' same =
 
 -- ---- the present state
 
-no_element : (p : Name) (r : NumberedReport) (b : Action) (s : Stamp) → b ≡ Present → lasting_by p r b ≡ Some s → ⊥
+no_element : (p : Name) (r : NumberedReport) (b : ReportKind) (s : Stamp) → b ≡ Present → lasting_by p r b ≡ Some s → ⊥
 no_element p r Check s is made = cc
 no_element p r (Fork f) s is made = cc
 no_element p r _ s is made = cc
 
-no_birth : (before : List Report) (p : Name) (r : NumberedReport) (b : Action) (s : Stamp) → r.action ≡ b → p ≢ r.process → IsKnown before p → IsFitReport before r → lasting_by p r b ≡ Some s → ⊥
+no_birth : (before : List Report) (p : Name) (r : NumberedReport) (b : ReportKind) (s : Stamp) → r.action ≡ b → p ≢ r.process → IsKnown before p → IsFitReport before r → lasting_by p r b ≡ Some s → ⊥
 no_birth before p r Check s is other there fit made = other (bytes_are p r.process (cond_some (bytes_eq p r.process) r.stamp s made).0)
 no_birth before p r (Fork f) s is other there fit made =
     born_none before r f fit is (subst (IsKnown before) (bytes_are p f.child (cond_some (bytes_eq p f.child) _ s made).0) there)
@@ -171,7 +171,7 @@ present_differs _ (one_folded before (Numbered r) folded fit) p q i s presents a
 
 -- ---- all elements
 
-in_present_by : (q : NumberedReport) (b : Action) (j : ℕ) (t : Stamp) → slice_get (present_by q.stamp b) j ≡ Some t → (j ≡ 0) × (b ≡ Present) × (q.stamp ≡ t)
+in_present_by : (q : NumberedReport) (b : ReportKind) (j : ℕ) (t : Stamp) → slice_get (present_by q.stamp b) j ≡ Some t → (j ≡ 0) × (b ≡ Present) × (q.stamp ≡ t)
 in_present_by q Present zero t is = (refl, refl, same_Some q.stamp t is)
 in_present_by q Present (suc j) t is = absurd (cc)
 in_present_by q _ j t is = absurd (cc)

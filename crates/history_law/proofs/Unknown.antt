@@ -4,14 +4,14 @@ use Rattle.std.specs.Prelude.{Contains}
 use Rattle.std.proofs.lemmas.List.Elements.{Contains-append_left, Contains-push}
 use Rattle.id_tree.specs.IdTree.{IdTree}
 use Rattle.report_line.specs.declared.report.Forked.{Forked}
-use Rattle.report_line.specs.declared.report.Action.TheVariants as reported
+use Rattle.report_line.specs.declared.report.ReportKind.TheVariants as reported
 use Rattle.report_line.specs.declared.report.NumberedReport.{NumberedReport}
 use Rattle.report_line.specs.declared.report.Report.{Report}
 use Rattle.report_line.specs.declared.report.Report.TheVariants.{Begin, Numbered}
 use Rattle.chains.specs.Processes.{child_of, newborn, known, IsKnown}
 use Rattle.chains.specs.Folded.{IsFolded, nothing_folded, one_folded}
 use Rattle.chains.proofs.Certain.{known_or_not}
-use Rattle.report_line.specs.declared.step.Deed.TheVariants.{Fork}
+use Rattle.report_line.specs.declared.step.StepKind.TheVariants.{Fork}
 use Rattle.report_line.specs.declared.step.Step.{Step}
 use Rattle.report_line.specs.histories.History.{Name, History, Birth, Does, Event, event_of, last_of}
 use Rattle.report_line.specs.histories.Lawful.{IsLawful, start, next}

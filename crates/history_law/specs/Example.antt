@@ -2,18 +2,18 @@
 use Rattle.std.specs.Prelude.{ℕ, List, [], ◌∷◌}
 use Rattle.id_tree.specs.IdTree.{IdTree, One}
 use Rattle.event_tree.specs.EventTree.{EventTree, Leaf}
-use Rattle.report_line.specs.declared.report.Action.{Action}
-use Rattle.report_line.specs.declared.report.Action.TheVariants.{Check, Present, Fork, Retire, Absorb}
+use Rattle.report_line.specs.declared.report.ReportKind.{ReportKind}
+use Rattle.report_line.specs.declared.report.ReportKind.TheVariants.{Check, Present, Fork, Retire, Absorb}
 use Rattle.report_line.specs.declared.report.Report.{Report}
 use Rattle.report_line.specs.declared.report.Report.TheVariants.{Begin, Numbered}
 use Rattle.report_line.specs.histories.History.{Name}
 use Rattle.histories.specs.Example.{a, b, c, left, right, halves}
 
-abbrev pub told : Name → ℕ → IdTree → EventTree → Action → Report
+abbrev pub told : Name → ℕ → IdTree → EventTree → ReportKind → Report
 told process number id values action =
     Numbered (record { process = process; number = number; stamp = record { id = id; events = values }; action = action })
 
-abbrev pub forked : Name → Action
+abbrev pub forked : Name → ReportKind
 forked child = Fork (record { kept = left; child = child; given = right })
 
 -- the reports of the history but the last one, as they are accepted

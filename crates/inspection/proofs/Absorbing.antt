@@ -8,8 +8,8 @@ use Rattle.std.proofs.lemmas.Bool.{cases_eq}
 use Rattle.std.proofs.lemmas.List.{take_more, take_all, length-set, get_or-set_same, get_or-set_other, length-replicate, get_or-replicate}
 use Rattle.std.proofs.lemmas.List.Folds.{list_any-append}
 use Rattle.std.proofs.lemmas.Option.{same_Some, slice_get_within, get_or_from_slice_get, slice_get_cases}
-use Rattle.report_line.specs.declared.report.Action.{Action}
-use Rattle.report_line.specs.declared.report.Action.TheVariants.{Check, Present, Fork, Retire, Absorb}
+use Rattle.report_line.specs.declared.report.ReportKind.{ReportKind}
+use Rattle.report_line.specs.declared.report.ReportKind.TheVariants.{Check, Present, Fork, Retire, Absorb}
 use Rattle.report_line.specs.declared.report.Report.{Report}
 use Rattle.report_line.specs.declared.report.Report.TheVariants.{Begin, Numbered}
 use Rattle.chains.specs.Processes.{Name, known, IsKnown, absorbs, is_absorb_of}
@@ -22,7 +22,7 @@ use Rattle.inspection.specs.working.Absorbed.{retired_by, retired_in, AreFlagged
 
 -- ---- which process a report absorbs
 
-names_by : (name : Name) (a : Action) → absorbs name a ≡ option_map_or (λ q. bytes_eq name q) (retired_by a) false
+names_by : (name : Name) (a : ReportKind) → absorbs name a ≡ option_map_or (λ q. bytes_eq name q) (retired_by a) false
 names_by name Check = refl
 names_by name Present = refl
 names_by name (Fork f) = refl

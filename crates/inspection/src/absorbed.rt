@@ -5,17 +5,19 @@ ghost use Rattle.report_line.specs.View.{action_of};
 ghost use Rattle.inspection.specs.working.Absorbed.{retired_by, retired_in, AreFlaggedTo, AreFlagged};
 
 use chains::Chains;
-use report_line::{ActionView, Name, PackedReport, ReportView};
+use report_line::{Name, PackedReport, ReportKindView, ReportView};
 use std::alloc::AllocError;
 
 // The process whose retirement the action absorbs, if it does.
-fn retired_by<'a>(action: ActionView<'a>) -> Option<&'a Name>
+fn retired_by<'a>(action: ReportKindView<'a>) -> Option<&'a Name>
     ensures { option_copied result ≡ retired_by (action_of action.entry) }
 {
     match action {
-        ActionView::Absorb { retired } => Some(retired),
-        ActionView::Check | ActionView::Present | ActionView::Fork(_) | ActionView::Retire { .. } =>
-            None,
+        ReportKindView::Absorb { retired } => Some(retired),
+        ReportKindView::Check
+        | ReportKindView::Present
+        | ReportKindView::Fork(_)
+        | ReportKindView::Retire { .. } => None,
     }
 }
 

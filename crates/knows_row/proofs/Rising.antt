@@ -11,8 +11,8 @@ use Rattle.id_tree.specs.IdTree.{One}
 use Rattle.event_tree.specs.EventTree.{EventTree, Leaf}
 use Rattle.event_tree.specs.Values.{value_at, IsAtOrBelow}
 use Rattle.stamp.specs.declared.stamp.Stamp.{Stamp}
-use Rattle.report_line.specs.declared.report.Action.{Action}
-use Rattle.report_line.specs.declared.report.Action.TheVariants.{Check, Present, Fork}
+use Rattle.report_line.specs.declared.report.ReportKind.{ReportKind}
+use Rattle.report_line.specs.declared.report.ReportKind.TheVariants.{Check, Present, Fork}
 use Rattle.report_line.specs.declared.report.NumberedReport.{NumberedReport}
 use Rattle.report_line.specs.declared.report.Report.{Report}
 use Rattle.report_line.specs.declared.report.Report.TheVariants.{Begin, Numbered}
@@ -83,7 +83,7 @@ only_events : (b : Bool) (s : Stamp) (e : EventTree) → s.events ≡ e → HasE
 only_events true s e same = same
 only_events false s e same = tt
 
-made_events : (p : Name) (r : NumberedReport) (a : Action) → HasEvents (lasting_by p r a) r.stamp.events
+made_events : (p : Name) (r : NumberedReport) (a : ReportKind) → HasEvents (lasting_by p r a) r.stamp.events
 made_events p r Check = only_events (bytes_eq p r.process) r.stamp r.stamp.events refl
 made_events p r (Fork f) = only_events (bytes_eq p f.child) (record { id = f.given; events = r.stamp.events }) r.stamp.events refl
 made_events p r _ = tt
@@ -116,7 +116,7 @@ other_last p accepted r other unborn =
     ap (λ (o : Option Report). events_after (first_of o (birth_report p (accepted ++ Numbered r ∷ [])))) (other_report accepted p r other)
     ∙ ap (λ (o : Option Report). events_after (first_of (last_report p accepted) o)) (failing (is_birth_of p) accepted (Numbered r) unborn)
 
-other_made : (p : Name) (r : NumberedReport) (a : Action) → p ≢ r.process → is_birth_of p (Numbered (doing r a)) ≡ false → lasting_by p r a ≡ None
+other_made : (p : Name) (r : NumberedReport) (a : ReportKind) → p ≢ r.process → is_birth_of p (Numbered (doing r a)) ≡ false → lasting_by p r a ≡ None
 other_made p r Check other unborn = ap (λ (b : Bool). only_if b r.stamp) (other_bytes p r.process other)
 other_made p r (Fork f) other unborn = ap (λ (b : Bool). only_if b (record { id = f.given; events = r.stamp.events })) unborn
 other_made p r _ other unborn = refl
@@ -141,7 +141,7 @@ born_last p accepted r other none born =
     ap (λ (o : Option Report). events_after (first_of o (birth_report p (accepted ++ Numbered r ∷ [])))) (other_report accepted p r other ∙ none)
     ∙ ap (λ (o : Option Report). events_after o) (passing (is_birth_of p) accepted (Numbered r) born)
 
-born_of : (p : Name) (r : NumberedReport) (a : Action) (accepted : List Report) → IsFitReport accepted (doing r a) → is_birth_of p (Numbered (doing r a)) ≡ true → ¬ IsKnown accepted p
+born_of : (p : Name) (r : NumberedReport) (a : ReportKind) (accepted : List Report) → IsFitReport accepted (doing r a) → is_birth_of p (Numbered (doing r a)) ≡ true → ¬ IsKnown accepted p
 born_of p r (Fork f) accepted fit e = unknown_child accepted r (Fork f) fit.fit p (ap (λ (m : Name). Some m) (sym ((bytes_eq-Decides p f.child).0 e)))
 born_of p r _ accepted fit e = absurd (true≢false (sym e))
 
@@ -179,7 +179,7 @@ risen p _ (one_folded before (Numbered r) folded fit) =
 
 -- ---- with the present state
 
-with_present_by : (low : EventTree) (ss : List Stamp) (s : Stamp) (a : Action) → Rise low ss s.events → Rise low (ss ++ present_by s a) s.events
+with_present_by : (low : EventTree) (ss : List Stamp) (s : Stamp) (a : ReportKind) → Rise low ss s.events → Rise low (ss ++ present_by s a) s.events
 with_present_by low ss s Present h = rise_more low ss s.events s h (below_same s.events s.events refl)
 with_present_by low ss s _ h = subst (λ (l : List Stamp). Rise low l s.events) (sym (append-nil ss)) h
 

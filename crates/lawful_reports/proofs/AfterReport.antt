@@ -9,11 +9,11 @@ use Rattle.id_tree.specs.NormalForm.{IsNormal}
 use Rattle.event_tree.specs.EventTree.{EventTree}
 use Rattle.event_tree.specs.Values.{value_at, IsAtOrBelow}
 use Rattle.report_line.specs.Spelling.{AreFields}
-use Rattle.report_line.specs.declared.report.Action.{Action}
+use Rattle.report_line.specs.declared.report.ReportKind.{ReportKind}
 use Rattle.report_line.specs.declared.report.NumberedReport.{NumberedReport}
 use Rattle.report_line.specs.declared.report.Report.{Report}
 use Rattle.report_line.specs.declared.report.Report.TheVariants.{Numbered}
-use Rattle.report_line.specs.declared.step.Deed.TheVariants.{Fork, Absorb}
+use Rattle.report_line.specs.declared.step.StepKind.TheVariants.{Fork, Absorb}
 use Rattle.report_line.specs.declared.step.Step.{Step}
 use Rattle.report_line.specs.histories.History.{Name, History, Event, Unborn, Living, Retired, status, last_of, event_of, birth_by}
 use Rattle.report_line.specs.histories.Lawful.{IsAllowed}
@@ -58,7 +58,7 @@ child_events accepted q r other unreported is_born =
     ∙ ap (λ (o : Option Report). events_after (first_of None o)) (passing (is_birth_of q) accepted (Numbered r) is_born)
 
 module _ (accepted : List Report) (root : Name) (h : History) (b : Event) (s : Step) (tied : AreTied accepted root h)
-    (lives : status root h s.process ≡ Living b) (allowed : IsAllowed root h b s s.deed) (a : Action) (makes : reported s s.deed ≡ Some a)
+    (lives : status root h s.process ≡ Living b) (allowed : IsAllowed root h b s s.deed) (a : ReportKind) (makes : reported s s.deed ≡ Some a)
     (line : AreFields (report_with h s (reported_id root h s s.deed) a)) where
   abbrev r : NumberedReport
   r = report_with h s (reported_id root h s s.deed) a
@@ -183,11 +183,11 @@ module _ (accepted : List Report) (root : Name) (h : History) (b : Event) (s : S
   child_held q i apart forks =
       (let is = fork_fact s s.deed a q i makes forks in
       let unreported = (tied.unborn q (steps.fork_of root h b s q i allowed forks).new_name).0 in
-      let fields = subst (λ (x : Action). AreFields (doing r x)) is line in
+      let fields = subst (λ (x : ReportKind). AreFields (doing r x)) is line in
       let id : registered_id q (accepted ++ Numbered (doing r (fork_of s q i)) ∷ []) ≡ i = child_id accepted r (record { kept = s.stamp.id; child = q; given = i }) apart unreported in
       let events : last_events q (accepted ++ Numbered (doing r (fork_of s q i)) ∷ []) ≡ s.stamp.events =
       child_events accepted q (doing r (fork_of s q i)) apart unreported (same_bytes q) in
-      subst (λ (x : Action). IsHeld (accepted ++ Numbered (doing r x) ∷ []) q (birth_by h s q i)) (sym is) (record {
+      subst (λ (x : ReportKind). IsHeld (accepted ++ Numbered (doing r x) ∷ []) q (birth_by h s q i)) (sym is) (record {
         normal = subst (λ (k : IdTree). IsNormal k) (sym id) fields.acted.2.normal;
         same = λ point. ap (λ (k : IdTree). owns k point) (sym id);
         below = as_step _ events;

@@ -3,8 +3,8 @@ use Rattle.std.proofs.Common.{◌≡◌, ◌≢◌, ◌∷◌, Some, refl, sym, 
 use Rattle.std.specs.Str.{bytes_eq}
 use Rattle.std.proofs.lemmas.Bool.{cond-true, cond-false}
 use Rattle.id_tree.specs.IdTree.{IdTree}
-use Rattle.report_line.specs.declared.step.Deed.{Deed}
-use Rattle.report_line.specs.declared.step.Deed.TheVariants.{Work, Check, Present, Send, Receive, Fork, Retire, Absorb}
+use Rattle.report_line.specs.declared.step.StepKind.{StepKind}
+use Rattle.report_line.specs.declared.step.StepKind.TheVariants.{Work, Check, Present, Send, Receive, Fork, Retire, Absorb}
 use Rattle.report_line.specs.declared.step.Step.{Step}
 use Rattle.report_line.specs.histories.History.{Name, History, Event, Status, Unborn, Living, Retired, Absorbed, status_of_actor, status_of_other, status, last_of, event_of, birth_by}
 use Rattle.histories.proofs.Bytes.{cases_name, bytes_same, bytes_other}
@@ -16,7 +16,7 @@ pub data Change (root : Name) (h : History) (s : Step) (q : Name) : Type 0 where
   taken : q ≢ s.process → s.deed ≡ Absorb q → status root (s ∷ h) q ≡ Absorbed → Change root h s q
   kept : q ≢ s.process → ((i : IdTree) → s.deed ≢ Fork q i) → s.deed ≢ Absorb q → status root (s ∷ h) q ≡ status root h q → Change root h s q
 
-data Other (h : History) (s : Step) (q : Name) (d : Deed) (before : Status) : Type 0 where
+data Other (h : History) (s : Step) (q : Name) (d : StepKind) (before : Status) : Type 0 where
   is_born : (i : IdTree) → d ≡ Fork q i → status_of_other h s d q before ≡ Living (birth_by h s q i) → Other h s q d before
   is_taken : d ≡ Absorb q → status_of_other h s d q before ≡ Absorbed → Other h s q d before
   is_kept : ((i : IdTree) → d ≢ Fork q i) → d ≢ Absorb q → status_of_other h s d q before ≡ before → Other h s q d before
@@ -27,7 +27,7 @@ same_child c q i j is = cc
 same_retired : (r q : Name) → Absorb r ≡ Absorb q → q ≡ r
 same_retired r q is = cc
 
-other : (h : History) (s : Step) (q : Name) (d : Deed) (before : Status) → Other h s q d before
+other : (h : History) (s : Step) (q : Name) (d : StepKind) (before : Status) → Other h s q d before
 other h s q Work before = is_kept (λ i is. cc) (λ is. cc) refl
 other h s q Check before = is_kept (λ i is. cc) (λ is. cc) refl
 other h s q Present before = is_kept (λ i is. cc) (λ is. cc) refl
@@ -95,14 +95,14 @@ living_holds d e is = cc
 
 -- ---- how the actor stands
 
-pub actor_born : (d : Deed) (e : Event) → status_of_actor d e ≢ Unborn
+pub actor_born : (d : StepKind) (e : Event) → status_of_actor d e ≢ Unborn
 actor_born d e is = grind arith
 
-pub actor_holds : (a : Deed) (d e : Event) → last_of (status_of_actor a d) ≡ Some e → e ≡ d
+pub actor_holds : (a : StepKind) (d e : Event) → last_of (status_of_actor a d) ≡ Some e → e ≡ d
 actor_holds a d e is = grind arith
 
-pub actor_retires : (a : Deed) (d e : Event) (q : Name) → status_of_actor a d ≡ Retired e q → a ≡ Retire q
+pub actor_retires : (a : StepKind) (d e : Event) (q : Name) → status_of_actor a d ≡ Retired e q → a ≡ Retire q
 actor_retires a d e q is = grind arith
 
-pub actor_lives : (a : Deed) (d e : Event) (q : Name) → status_of_actor a d ≡ Living e → a ≢ Retire q
+pub actor_lives : (a : StepKind) (d e : Event) (q : Name) → status_of_actor a d ≡ Living e → a ≢ Retire q
 actor_lives a d e q is = grind arith

@@ -6,10 +6,10 @@ use Rattle.id_tree.specs.IdTree.{IdTree, One}
 use Rattle.id_tree.specs.NormalForm.{IsId}
 use Rattle.event_tree.specs.EventTree.{EventTree, Leaf}
 use Rattle.event_tree.specs.NormalForm.{IsEvents, value_limit}
-use Rattle.report_line.specs.declared.report.Action.{Action}
-use Rattle.report_line.specs.declared.report.Action.TheVariants as acts
+use Rattle.report_line.specs.declared.report.ReportKind.{ReportKind}
+use Rattle.report_line.specs.declared.report.ReportKind.TheVariants as acts
 use Rattle.report_line.specs.declared.report.Report.{Report}
-use Rattle.report_line.specs.declared.step.Deed.TheVariants.{Retire}
+use Rattle.report_line.specs.declared.step.StepKind.TheVariants.{Retire}
 use Rattle.report_line.specs.declared.step.Step.{Step}
 use Rattle.report_line.specs.Names.{is_letter, is_name_byte, is_name}
 use Rattle.report_line.specs.Spelling.{IsCount, IsAction}
@@ -56,7 +56,7 @@ leaf n few = record { normal = tt; shallow = omega arith; small = few }
 pub halved : (n x y : ℕ) → min x y ≡ 0 → (x == y) ≡ false → n + max x y ≤ value_limit → IsEvents (halves n x y)
 halved n x y least differs few = record { normal = (tt, tt, least, differs); shallow = omega arith; small = few }
 
-pub line : (p : Name) (n : ℕ) (i : IdTree) (e : EventTree) (x : Action) → IsTrue (is_name p) → IsCount n → IsId i → IsEvents e → IsAction x → HasLine (told p n i e x)
+pub line : (p : Name) (n : ℕ) (i : IdTree) (e : EventTree) (x : ReportKind) → IsTrue (is_name p) → IsCount n → IsId i → IsEvents e → IsAction x → HasLine (told p n i e x)
 line p n i e x name count id events action = (omega arith, record { name = name; count = count; stamped = record { id = id; events = events }; acted = action })
 
 lines : All HasLine its_reports

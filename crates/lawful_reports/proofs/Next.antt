@@ -4,7 +4,7 @@ use Rattle.std.specs.Prelude.{Contains, slice_get}
 use Rattle.std.specs.List.{cons_option}
 use Rattle.std.specs.Option.{option_map}
 use Rattle.std.proofs.lemmas.List.Elements.{All-weaker, All-contains, All-contains_itself, Contains-append_left, Contains-push}
-use Rattle.report_line.specs.declared.report.Action.{Action}
+use Rattle.report_line.specs.declared.report.ReportKind.{ReportKind}
 use Rattle.report_line.specs.declared.report.Report.{Report}
 use Rattle.report_line.specs.declared.report.Report.TheVariants.{Begin, Numbered}
 use Rattle.report_line.specs.declared.reply.Reply.{Reply}
@@ -62,7 +62,7 @@ with_option : (root : Name) (h : History) (s : Step) (o : Option Report) → rep
 with_option root h s o is tied = subst (λ (p : Option Report). AreTied (handed_over root h ++ cons_option p []) root (s ∷ h)) (sym is) tied
 
 tied_next : (root : Name) (h : History) (s : Step) → Ends root h s → AreTied (handed_over root h) root h
-    → (o : Option Action) → reported s s.deed ≡ o → AreTied (handed_over root (s ∷ h)) root (s ∷ h)
+    → (o : Option ReportKind) → reported s s.deed ≡ o → AreTied (handed_over root (s ∷ h)) root (s ∷ h)
 tied_next root h s w tied None is =
     with_option root h s None (report_is root h s s.deed ∙ ap (option_map (λ a. Numbered (report_with h s (reported_id root h s s.deed) a))) is)
     (subst (λ (xs : List Report). AreTied xs root (s ∷ h)) (sym (append-nil (handed_over root h)))

@@ -4,8 +4,8 @@ use Rattle.std.specs.Str.{bytes_eq}
 use Rattle.std.proofs.lemmas.Bool.{cond-false, and_right}
 use Rattle.id_tree.specs.IdTree.{IdTree}
 use Rattle.report_line.specs.declared.report.Report.{Report}
-use Rattle.report_line.specs.declared.step.Deed.{Deed}
-use Rattle.report_line.specs.declared.step.Deed.TheVariants.{Work, Check, Present, Send, Receive, Fork, Retire, Absorb}
+use Rattle.report_line.specs.declared.step.StepKind.{StepKind}
+use Rattle.report_line.specs.declared.step.StepKind.TheVariants.{Work, Check, Present, Send, Receive, Fork, Retire, Absorb}
 use Rattle.report_line.specs.declared.step.Step.{Step}
 use Rattle.report_line.specs.histories.History.{Name, Message, History, Event, Unborn, Living, Retired, status_of_actor, status, last_of, event_of}
 use Rattle.report_line.specs.histories.Lawful.{IsSameId, IsAllowed}
@@ -16,12 +16,12 @@ use Rattle.histories.proofs.Steps.{never_falls_by}
 use Rattle.lawful_reports.proofs.Changes.{acted, born, taken, kept, change, living_not_unborn, living_not_retired, living_holds}
 use Rattle.lawful_reports.proofs.Tied.{IsHeld, AreTied, then_below}
 
-data IsSilent : Deed → Type 0 where
+data IsSilent : StepKind → Type 0 where
   works : IsSilent Work
   sends_one : (m : Message) → IsSilent (Send m)
   receives : (m : Message) → IsSilent (Receive m)
 
-silent : (d : Deed) → is_reported d ≡ false → IsSilent d
+silent : (d : StepKind) → is_reported d ≡ false → IsSilent d
 silent Work is = works
 silent Check is = absurd (cc)
 silent Present is = absurd (cc)
@@ -31,22 +31,22 @@ silent (Fork c i) is = absurd (cc)
 silent (Retire q) is = absurd (cc)
 silent (Absorb r) is = absurd (cc)
 
-silent_lives : (d : Deed) (e : Event) → IsSilent d → status_of_actor d e ≡ Living e
+silent_lives : (d : StepKind) (e : Event) → IsSilent d → status_of_actor d e ≡ Living e
 silent_lives _ e works = refl
 silent_lives _ e (sends_one m) = refl
 silent_lives _ e (receives m) = refl
 
-silent_forks : (d : Deed) (c : Name) (i : IdTree) → IsSilent d → d ≢ Fork c i
+silent_forks : (d : StepKind) (c : Name) (i : IdTree) → IsSilent d → d ≢ Fork c i
 silent_forks _ c i works is = cc
 silent_forks _ c i (sends_one m) is = cc
 silent_forks _ c i (receives m) is = cc
 
-silent_absorbs : (d : Deed) (r : Name) → IsSilent d → d ≢ Absorb r
+silent_absorbs : (d : StepKind) (r : Name) → IsSilent d → d ≢ Absorb r
 silent_absorbs _ r works is = cc
 silent_absorbs _ r (sends_one m) is = cc
 silent_absorbs _ r (receives m) is = cc
 
-silent_id : (root : Name) (h : History) (b : Event) (s : Step) (d : Deed) → IsSilent d → IsAllowed root h b s d → IsSameId s.stamp.id b.id
+silent_id : (root : Name) (h : History) (b : Event) (s : Step) (d : StepKind) → IsSilent d → IsAllowed root h b s d → IsSameId s.stamp.id b.id
 silent_id root h b s _ works w = w.same_id
 silent_id root h b s _ (sends_one m) w = w.0.same_id
 silent_id root h b s _ (receives m) w = w.own.same_id

@@ -11,14 +11,14 @@ use Rattle.id_tree.proofs.Sums as sums
 use Rattle.event_tree.specs.EventTree.{EventTree}
 use Rattle.event_tree.specs.Join.{IsJoin}
 use Rattle.event_tree.specs.Values.{value_at, IsAtOrBelow}
-use Rattle.report_line.specs.declared.report.Action.{Action}
-use Rattle.report_line.specs.declared.report.Action.TheVariants as acts
+use Rattle.report_line.specs.declared.report.ReportKind.{ReportKind}
+use Rattle.report_line.specs.declared.report.ReportKind.TheVariants as acts
 use Rattle.report_line.specs.declared.report.NumberedReport.{NumberedReport}
 use Rattle.report_line.specs.declared.report.Report.{Report}
 use Rattle.report_line.specs.declared.report.Report.TheVariants.{Numbered}
 use Rattle.report_line.specs.declared.reply.Reply.{Reply}
-use Rattle.report_line.specs.declared.step.Deed.{Deed}
-use Rattle.report_line.specs.declared.step.Deed.TheVariants.{Work, Check, Present, Send, Receive, Fork, Retire, Absorb}
+use Rattle.report_line.specs.declared.step.StepKind.{StepKind}
+use Rattle.report_line.specs.declared.step.StepKind.TheVariants.{Work, Check, Present, Send, Receive, Fork, Retire, Absorb}
 use Rattle.report_line.specs.declared.step.Step.{Step}
 use Rattle.report_line.specs.histories.History.{Name, History, Event, Living, Retired, status, last_of}
 use Rattle.report_line.specs.histories.Lawful.{IsSameId, IsAllowed}
@@ -43,7 +43,7 @@ chained first next = (λ a. next.0 (first.0 a), λ c. first.1 (next.1 c))
 same_reply : {A : Type 0} → A ↔ A
 same_reply = (λ x. x, λ x. x)
 
-waiting : (held : Held) (r : NumberedReport) (a : Action) (answer : Reply) → ((q : Name) → a ≡ acts.Absorb q → Waits held.accepted q r.process)
+waiting : (held : Held) (r : NumberedReport) (a : ReportKind) (answer : Reply) → ((q : Name) → a ≡ acts.Absorb q → Waits held.accepted q r.process)
     → IsWaitingReply held r a answer ↔ IsStampReply held r a answer
 waiting held r acts.Check answer waits = same_reply
 waiting held r acts.Present answer waits = same_reply
@@ -73,11 +73,11 @@ module _ (root : Name) (h : History) (b : Event) (s : Step) (held : Held) (tied 
       let less : value_at b.values up.0 < value_at s.stamp.events up.0 = up.2 in
       (then_below (last_events s.process held.accepted) b.values s.stamp.events own.below (never_falls_by root h b s s.deed allowed), (up.0, sym (own.same up.0) ∙ up.1, omega arith))
 
-  not_old : (id : IdTree) (a : Action) → last_report s.process held.accepted ≢ Some (Numbered (report_with h s id a))
+  not_old : (id : IdTree) (a : ReportKind) → last_report s.process held.accepted ≢ Some (Numbered (report_with h s id a))
   not_old id a is = (let number : reporting_steps s.process h + 1 ≡ reporting_steps s.process h = tied.last s.process (report_with h s id a) is in omega arith)
 
   -- all tests up to those of the action
-  up_to_action : (id : IdTree) (a : Action) → id ≡ expected_id held.accepted s.process a → ((q : Name) → a ≡ acts.Absorb q → Waits held.accepted q s.process)
+  up_to_action : (id : IdTree) (a : ReportKind) → id ≡ expected_id held.accepted s.process a → ((q : Name) → a ≡ acts.Absorb q → Waits held.accepted q s.process)
       → IsReportReply held held.epoch (Numbered (report_with h s id a)) answer ↔ IsActionReply held (report_with h s id a) a answer
   up_to_action id a expected waits =
       let r = report_with h s id a in
@@ -90,7 +90,7 @@ module _ (root : Name) (h : History) (b : Event) (s : Step) (held : Held) (tied 
       (chained (untested (λ differs. differs refl))
       (subst (λ (o : Option Name). IsStandingReply o held r answer ↔ IsActionReply held r a answer) (sym (tied.living s.process b lives).0) standing))))
 
-  no_absorption : (a : Action) → ((q : Name) → a ≢ acts.Absorb q) → (q : Name) → a ≡ acts.Absorb q → Waits held.accepted q s.process
+  no_absorption : (a : ReportKind) → ((q : Name) → a ≢ acts.Absorb q) → (q : Name) → a ≡ acts.Absorb q → Waits held.accepted q s.process
   no_absorption a never q is = absurd (never q is)
 
   absorbed_id : (q : Name) (e : Event) → status root h q ≡ Retired e s.process → IsNormal s.stamp.id → AreTogether b.id e.id s.stamp.id
@@ -112,7 +112,7 @@ module _ (root : Name) (h : History) (b : Event) (s : Step) (held : Held) (tied 
   abbrev IsUntested : Report → Type 0
   IsUntested r = IsReportReply held held.epoch r answer ↔ FitsOrNot held r answer
 
-  pub fits_by : (d : Deed) → (r : Report) → report_by root h s d ≡ Some r → IsAllowed root h b s d → HasBornTarget root h d → HasLine r → IsUntested r
+  pub fits_by : (d : StepKind) → (r : Report) → report_by root h s d ≡ Some r → IsAllowed root h b s d → HasBornTarget root h d → HasLine r → IsUntested r
   fits_by Work r is w target = absurd (none_report r is)
   fits_by (Send m) r is w target = absurd (none_report r is)
   fits_by (Receive m) r is w target = absurd (none_report r is)

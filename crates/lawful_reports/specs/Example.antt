@@ -2,11 +2,11 @@
 use Rattle.std.specs.Prelude.{ℕ, List, [], ◌∷◌, drop}
 use Rattle.id_tree.specs.IdTree.{IdTree, One}
 use Rattle.event_tree.specs.EventTree.{EventTree, Leaf}
-use Rattle.report_line.specs.declared.report.Action.{Action}
-use Rattle.report_line.specs.declared.report.Action.TheVariants as acts
+use Rattle.report_line.specs.declared.report.ReportKind.{ReportKind}
+use Rattle.report_line.specs.declared.report.ReportKind.TheVariants as acts
 use Rattle.report_line.specs.declared.report.Report.{Report}
 use Rattle.report_line.specs.declared.report.Report.TheVariants.{Begin, Numbered}
-use Rattle.report_line.specs.declared.step.Deed.TheVariants.{Retire}
+use Rattle.report_line.specs.declared.step.StepKind.TheVariants.{Retire}
 use Rattle.report_line.specs.histories.History.{Name, History}
 use Rattle.histories.specs.Example.{a, b, c, left, right, halves, act, every_step}
 
@@ -14,11 +14,11 @@ use Rattle.histories.specs.Example.{a, b, c, left, right, halves, act, every_ste
 abbrev pub reported_steps : History
 reported_steps = act c (Retire a) right (halves 7 0 1) ∷ drop 1 every_step
 
-abbrev pub told : Name → ℕ → IdTree → EventTree → Action → Report
+abbrev pub told : Name → ℕ → IdTree → EventTree → ReportKind → Report
 told process number id values action =
     Numbered (record { process = process; number = number; stamp = record { id = id; events = values }; action = action })
 
-abbrev pub forked : Name → Action
+abbrev pub forked : Name → ReportKind
 forked child = acts.Fork (record { kept = left; child = child; given = right })
 
 -- what is handed over of it

@@ -5,8 +5,8 @@ use Rattle.report_line.specs.Spelling.{HasSpelling}
 use Rattle.report_line.specs.declared.call.Call.TheVariants as calls
 use Rattle.report_line.specs.declared.report.Report.{Report}
 use Rattle.report_line.specs.declared.report.Report.TheVariants.{Begin}
-use Rattle.report_line.specs.declared.step.Deed.{Deed}
-use Rattle.report_line.specs.declared.step.Deed.TheVariants.{Retire}
+use Rattle.report_line.specs.declared.step.StepKind.{StepKind}
+use Rattle.report_line.specs.declared.step.StepKind.TheVariants.{Retire}
 use Rattle.report_line.specs.histories.History.{Name, History, Unborn, status}
 use Rattle.report_line.specs.histories.Lawful.{IsLawful}
 use Rattle.report_line.specs.histories.StepReports.{report_of, reports}
@@ -20,7 +20,7 @@ abbrev pub IsNext : Name → History → List Report → Report → Type 0
 IsNext root h front r = (rest : List Report) × (handed_over root h ≡ front ++ r ∷ rest)
 
 -- the target of a retirement is born before it
-abbrev pub HasBornTarget : Name → History → Deed → Type 0
+abbrev pub HasBornTarget : Name → History → StepKind → Type 0
 HasBornTarget root h (Retire target) = status root h target ≢ Unborn
 HasBornTarget root h _ = ⊤
 

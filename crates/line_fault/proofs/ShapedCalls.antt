@@ -5,8 +5,8 @@ use Rattle.std.proofs.lemmas.List.{append-nil}
 use Rattle.std.specs.Fmt.{decimal}
 use Rattle.id_tree.specs.Spelling as ids
 use Rattle.stamp.specs.Stamps.{stamp_text}
-use Rattle.report_line.specs.declared.report.Action.{Action}
-use Rattle.report_line.specs.declared.report.Action.TheVariants.{Check, Present, Fork, Retire, Absorb}
+use Rattle.report_line.specs.declared.report.ReportKind.{ReportKind}
+use Rattle.report_line.specs.declared.report.ReportKind.TheVariants.{Check, Present, Fork, Retire, Absorb}
 use Rattle.report_line.specs.declared.report.NumberedReport.{NumberedReport}
 use Rattle.report_line.specs.declared.report.Report.{Report}
 use Rattle.report_line.specs.declared.report.Report.TheVariants as reports
@@ -35,21 +35,21 @@ pub record IsShaped (words : List (List ℕ)) : Type 0 where
   pub fit : FitAll (wanted_in shape) fields
 
 -- the shape of reports of an action
-abbrev shape_of : Action → Shape
+abbrev shape_of : ReportKind → Shape
 shape_of Check = Reported
 shape_of Present = Reported
 shape_of (Fork forked) = Forking
 shape_of (Retire target) = Handing
 shape_of (Absorb retired) = Handing
 
-markable_word : (a : Action) → IsMarkable (shape_of a) (action_word a)
+markable_word : (a : ReportKind) → IsMarkable (shape_of a) (action_word a)
 markable_word Check = inl refl
 markable_word Present = inr refl
 markable_word (Fork forked) = refl
 markable_word (Retire target) = inl refl
 markable_word (Absorb retired) = inr refl
 
-fields_fit : (r : NumberedReport) (a : Action) → IsAction a → AreFields r → FitAll (wanted_in (shape_of a)) (r.process ∷ decimal r.number ∷ stamp_text r.stamp ∷ action_fields a)
+fields_fit : (r : NumberedReport) (a : ReportKind) → IsAction a → AreFields r → FitAll (wanted_in (shape_of a)) (r.process ∷ decimal r.number ∷ stamp_text r.stamp ∷ action_fields a)
 fields_fit r Check acts are = (are.name, ((r.number, are.count, refl), ((r.stamp, are.stamped, refl), tt)))
 fields_fit r Present acts are = (are.name, ((r.number, are.count, refl), ((r.stamp, are.stamped, refl), tt)))
 fields_fit r (Fork f) acts are = (are.name, ((r.number, are.count, refl), ((r.stamp, are.stamped, refl), ((f.kept, acts.0, refl), (acts.1, ((f.given, acts.2, refl), tt))))))
@@ -129,10 +129,10 @@ head_of kinds fields fit =
     }
 
 -- the same report with another action
-abbrev doing : NumberedReport → Action → NumberedReport
+abbrev doing : NumberedReport → ReportKind → NumberedReport
 doing r a = record { process = r.process; number = r.number; stamp = r.stamp; action = a }
 
-reported : (kind : List ℕ) (fields : List (List ℕ)) (kinds : List Wanted) (epoch : ℕ) (a : Action) (head : IsHead kinds fields) → epoch < 2 ^ 32 → IsAction a → kind ≡ action_word a ++ mark_text epoch → head.more ≡ action_fields a
+reported : (kind : List ℕ) (fields : List (List ℕ)) (kinds : List Wanted) (epoch : ℕ) (a : ReportKind) (head : IsHead kinds fields) → epoch < 2 ^ 32 → IsAction a → kind ≡ action_word a ++ mark_text epoch → head.more ≡ action_fields a
     → AreOfCall (kind ∷ fields)
 reported kind fields kinds epoch a head small acts kind_is more_is =
     called kind fields (calls.Report (record { epoch = epoch; report = reports.Numbered (doing head.report a) })) (small, record { name = head.are.name; count = head.are.count; stamped = head.are.stamped; acted = acts })

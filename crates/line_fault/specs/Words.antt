@@ -1,8 +1,8 @@
 -- The text of an explanation: one line without LF. Of the line itself it has only names and numbers that were read.
 use Rattle.std.specs.Prelude.{ℕ, List, ◌++◌, codes, length}
 use Rattle.std.specs.Fmt.{decimal}
-use Rattle.report_line.specs.declared.report.Action.{Action}
-use Rattle.report_line.specs.declared.report.Action.TheVariants as actions
+use Rattle.report_line.specs.declared.report.ReportKind.{ReportKind}
+use Rattle.report_line.specs.declared.report.ReportKind.TheVariants as actions
 use Rattle.report_line.specs.declared.report.Report.{Report}
 use Rattle.report_line.specs.declared.report.Report.TheVariants as reports
 use Rattle.report_line.specs.declared.call.Call.{Call}
@@ -51,7 +51,7 @@ why_text (why.Id fault) = id_text fault
 
 -- ---- which call it is
 
-abbrev pub action_text : Action → List ℕ
+abbrev pub action_text : ReportKind → List ℕ
 action_text actions.Check = codes ": CHECK"
 action_text actions.Present = codes ": PRESENT"
 action_text (actions.Fork forked) = codes ": FORK of " ++ forked.child

@@ -20,4 +20,3 @@ pub use explaining::explain;
 pub use fault::{TreeFault, Why, WrongWord};
 pub use stream::Explanations;
 pub use wanted::Wanted;
-

@@ -11,7 +11,7 @@ ghost use Rattle.line_fault.specs.declared.explained.Explained.TheVariants as ex
 use crate::fault::{TreeFault, Why, WrongWord};
 use crate::wanted::Wanted;
 use itoa::Buffer;
-use report_line::{ActionView, Call, Names, NumberedView, PackedReport, ReportView};
+use report_line::{Call, Names, NumberedView, PackedReport, ReportKindView, ReportView};
 use std::alloc::AllocError;
 
 // Appends the pieces, or nothing.
@@ -103,15 +103,15 @@ pub(crate) fn push_wrong(out: &mut Vec<u8>, found: WrongWord) -> Result<(), Allo
 }
 
 // What a report says that its process did, by the word for it and a name.
-fn action_parts<'a>(action: ActionView<'a>) -> (&'a [u8], &'a [u8])
+fn action_parts<'a>(action: ReportKindView<'a>) -> (&'a [u8], &'a [u8])
     ensures { result.0.now ++ result.1.now ≡ action_text (action_of action.entry) }
 {
     match action {
-        ActionView::Check => (b": CHECK", b""),
-        ActionView::Present => (b": PRESENT", b""),
-        ActionView::Fork(forked) => (b": FORK of ", forked.child.as_bytes()),
-        ActionView::Retire { target } => (b": RETIRE into ", target.as_bytes()),
-        ActionView::Absorb { retired } => (b": ABSORB of ", retired.as_bytes()),
+        ReportKindView::Check => (b": CHECK", b""),
+        ReportKindView::Present => (b": PRESENT", b""),
+        ReportKindView::Fork(forked) => (b": FORK of ", forked.child.as_bytes()),
+        ReportKindView::Retire { target } => (b": RETIRE into ", target.as_bytes()),
+        ReportKindView::Absorb { retired } => (b": ABSORB of ", retired.as_bytes()),
     }
 }
 

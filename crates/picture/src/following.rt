@@ -4,7 +4,7 @@ use crate::ending::Ending;
 use crate::scripted::Scripted;
 use crate::telling::Said;
 use chains::{Chains, No};
-use driver::{Act, Step, StepFault, World};
+use driver::{Step, StepFault, StepRequest, World};
 use propagate::settle_named;
 use report_line::{Code, Name, Names, PackedReport};
 use script::{Cause, cut_line, line_for, read_root, read_settle, read_step};
@@ -201,7 +201,7 @@ fn note_report(
     }
     let said = scripted.scene.texts.report(epoch, report)?;
     let child = match step.act {
-        Act::Fork { .. } => scripted.scene.texts.child(epoch, report)?,
+        StepRequest::Fork { .. } => scripted.scene.texts.child(epoch, report)?,
         _ => Said::nothing(),
     };
     scripted.note(step, said, child)

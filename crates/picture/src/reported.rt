@@ -3,7 +3,7 @@
 use crate::lane::counted;
 use crate::mark::Kind;
 use chains::Chains;
-use report_line::{ActionView, PackedReport, ReportView};
+use report_line::{PackedReport, ReportKindView, ReportView};
 use std::alloc::{AllocError, Global};
 
 /// What a report is the first one of its process to know: what another process did after its element of this number.
@@ -48,27 +48,27 @@ pub(crate) struct Reports {
 }
 
 /// What a report did.
-fn kind_of(action: ActionView<'_>) -> Kind {
+fn kind_of(action: ReportKindView<'_>) -> Kind {
     match action {
-        ActionView::Check => Kind::Checkpoint,
-        ActionView::Present => Kind::Present,
-        ActionView::Retire { .. } => Kind::Retirement,
-        ActionView::Fork(_) | ActionView::Absorb { .. } => Kind::Report,
+        ReportKindView::Check => Kind::Checkpoint,
+        ReportKindView::Present => Kind::Present,
+        ReportKindView::Retire { .. } => Kind::Retirement,
+        ReportKindView::Fork(_) | ReportKindView::Absorb { .. } => Kind::Report,
     }
 }
 
 /// The child of this name, whose birth a report is.
-fn child_of(chains: &Chains, action: ActionView<'_>) -> Option<u32> {
+fn child_of(chains: &Chains, action: ReportKindView<'_>) -> Option<u32> {
     match action {
-        ActionView::Fork(forked) => chains.number_of(&forked.child),
+        ReportKindView::Fork(forked) => chains.number_of(&forked.child),
         _ => None,
     }
 }
 
 /// The process that a report took up.
-fn absorbed_by(chains: &Chains, action: ActionView<'_>) -> Option<u32> {
+fn absorbed_by(chains: &Chains, action: ReportKindView<'_>) -> Option<u32> {
     match action {
-        ActionView::Absorb { retired } => chains.number_of(retired),
+        ReportKindView::Absorb { retired } => chains.number_of(retired),
         _ => None,
     }
 }

@@ -4,7 +4,7 @@ use crate::lane::counted;
 use crate::mark::Kind;
 use crate::scene::{Arrow, Scene, Sent, Spot, Tie};
 use crate::telling::Said;
-use driver::{Act, NamedPosition, Step};
+use driver::{NamedPosition, Step, StepRequest};
 use indexmap::IndexMap;
 use report_line::{Name, PackedReport};
 use std::alloc::{AllocError, Global};
@@ -74,19 +74,19 @@ impl Scripted {
     }
 
     /// The step that this one comes right behind, of another process.
-    fn behind(&self, act: &Act) -> Option<Spot> {
+    fn behind(&self, act: &StepRequest) -> Option<Spot> {
         match act {
-            Act::Receive { message } => {
+            StepRequest::Receive { message } => {
                 let (_, sent) = self.message(message)?;
                 Some(sent.spot)
             }
-            Act::Absorb { retired } => self.last_of(retired),
-            Act::Work
-            | Act::Check
-            | Act::Present
-            | Act::Send { .. }
-            | Act::Fork { .. }
-            | Act::Retire { .. } => None,
+            StepRequest::Absorb { retired } => self.last_of(retired),
+            StepRequest::Work
+            | StepRequest::Check
+            | StepRequest::Present
+            | StepRequest::Send { .. }
+            | StepRequest::Fork { .. }
+            | StepRequest::Retire { .. } => None,
         }
     }
 
@@ -135,19 +135,22 @@ impl Scripted {
     fn join(
         &mut self,
         spot: Spot,
-        act: &Act,
+        act: &StepRequest,
         behind: Option<Spot>,
         child: Said,
     ) -> Result<(), AllocError> {
         match act {
-            Act::Send { message } => self.send(message, spot),
-            Act::Receive { message } => self.receive(message, spot),
-            Act::Fork { child: name } => self.fork(name, spot, child),
-            Act::Absorb { .. } => match behind {
+            StepRequest::Send { message } => self.send(message, spot),
+            StepRequest::Receive { message } => self.receive(message, spot),
+            StepRequest::Fork { child: name } => self.fork(name, spot, child),
+            StepRequest::Absorb { .. } => match behind {
                 None => Ok(()),
                 Some(from) => self.scene.tie(Tie::Absorption, from, spot),
             },
-            Act::Work | Act::Check | Act::Present | Act::Retire { .. } => Ok(()),
+            StepRequest::Work
+            | StepRequest::Check
+            | StepRequest::Present
+            | StepRequest::Retire { .. } => Ok(()),
         }
     }
 
@@ -177,12 +180,12 @@ fn column_of(spot: Option<Spot>) -> u32 {
 }
 
 /// What a step is.
-fn kind_of(act: &Act) -> Kind {
+fn kind_of(act: &StepRequest) -> Kind {
     match act {
-        Act::Check => Kind::Checkpoint,
-        Act::Present => Kind::Present,
-        Act::Retire { .. } => Kind::Retirement,
-        Act::Fork { .. } | Act::Absorb { .. } => Kind::Report,
-        Act::Work | Act::Send { .. } | Act::Receive { .. } => Kind::Event,
+        StepRequest::Check => Kind::Checkpoint,
+        StepRequest::Present => Kind::Present,
+        StepRequest::Retire { .. } => Kind::Retirement,
+        StepRequest::Fork { .. } | StepRequest::Absorb { .. } => Kind::Report,
+        StepRequest::Work | StepRequest::Send { .. } | StepRequest::Receive { .. } => Kind::Event,
     }
 }

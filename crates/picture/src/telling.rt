@@ -1,6 +1,6 @@
 //! What a picture tells of its steps, where one points at them.
 
-use report_line::{ActionView, Name, PackedReport, ReportView, write_marked};
+use report_line::{Name, PackedReport, ReportKindView, ReportView, write_marked};
 use std::alloc::{AllocError, Global};
 
 /// A part of the texts.
@@ -76,7 +76,7 @@ impl Texts {
     pub(crate) fn child(&mut self, epoch: u32, fork: &PackedReport) -> Result<Said, AllocError> {
         let from = self.bytes.len();
         if let ReportView::Numbered(fields) = fork.view()
-            && let ActionView::Fork(forked) = fields.action
+            && let ReportKindView::Fork(forked) = fields.action
         {
             forked.given.write_to(&mut self.bytes)?;
             self.bytes.push(b';')?;

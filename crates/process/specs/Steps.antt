@@ -8,8 +8,8 @@ use Rattle.event_tree.specs.Values.{IsAtOrBelow}
 use Rattle.stamp.specs.declared.stamp.Stamp.{Stamp}
 use Rattle.stamp.specs.Operations.{IsEvent, IsReceive, IsAbsorb}
 use Rattle.report_line.specs.declared.call.Call.TheVariants as calls
-use Rattle.report_line.specs.declared.report.Action.{Action}
-use Rattle.report_line.specs.declared.report.Action.TheVariants as actions
+use Rattle.report_line.specs.declared.report.ReportKind.{ReportKind}
+use Rattle.report_line.specs.declared.report.ReportKind.TheVariants as actions
 use Rattle.report_line.specs.declared.report.Report.{Report}
 use Rattle.report_line.specs.declared.report.Report.TheVariants.{Numbered}
 use Rattle.report_line.specs.histories.History.{Name}
@@ -24,7 +24,7 @@ abbrev pub IsLineOf : ℕ → Report → List ℕ → Type 0
 IsLineOf epoch report line = Spells (calls.Report (record { epoch = epoch; report = report })) line
 
 -- the next report of the process, with this stamp and action
-abbrev pub next_report : Process → Stamp → Action → Report
+abbrev pub next_report : Process → Stamp → ReportKind → Report
 next_report p stamp action = Numbered (record { process = p.name; number = p.reports + 1; stamp = stamp; action = action })
 
 -- The next report of the process, of a fork: the process keeps this stamp, and the child is given this part. The stamp of the report is the
@@ -63,7 +63,7 @@ pub record HandsOver (p : Process) (message again : Message) : Type 0 where
   pub events : again.events ≡ message.events
 
 -- a step of its own that it reports: a check, or its present state
-pub record Tells (old new : Process) (action : Action) (line : List ℕ) : Type 0 where
+pub record Tells (old new : Process) (action : ReportKind) (line : List ℕ) : Type 0 where
   pub goes : GoesOn old new 1
   pub stamped : Counts old.stamp new.stamp
   pub reported : IsLineOf old.epoch (next_report old new.stamp action) line

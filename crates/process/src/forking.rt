@@ -1,7 +1,7 @@
 //! Forks: a child is given a part of the id.
 
 ghost use Rattle.std.specs.Prelude.{◌≡◌, ◌+◌, ◌<◌, IfOk, IfErr, IsErr, OnErr};
-ghost use Rattle.report_line.specs.declared.report.Action.TheVariants as actions;
+ghost use Rattle.report_line.specs.declared.report.ReportKind.TheVariants as actions;
 ghost use Rattle.id_tree.specs.NormalForm.{depth_limit};
 ghost use Rattle.id_tree.specs.Split.{parts_depth};
 ghost use Rattle.event_tree.specs.Event.{PassesLimit};
@@ -17,13 +17,13 @@ use crate::process::{Process, after_event, fault_of};
 use crate::reporting::{line_of, next_number};
 use event_tree::Events;
 use id_tree::Id;
-use report_line::{Action, Name};
+use report_line::{Name, ReportKind};
 use stamp::Stamp;
 use std::alloc::{AllocError, Global};
 
 /// What a fork leaves behind: the number and the line of its report, and both stamps after it.
 #[derive(Drop)]
-pub(crate) struct Parted {
+pub(crate) struct ForkResult {
     pub(crate) number: u32,
     pub(crate) kept: Stamp,
     pub(crate) given: Stamp,
@@ -71,7 +71,7 @@ impl Process {
     }
 
     // Goes on behind a fork.
-    fn part(&mut self, child: &Name, parted: Parted) -> (Vec<u8>, Start)
+    fn part(&mut self, child: &Name, parted: ForkResult) -> (Vec<u8>, Start)
         ensures process { self.new ≡ record { name = self.old.name; epoch = self.old.epoch; reports = parted.number; stamp = parted.kept } }
         ensures line { result.0 ≡ parted.line }
         ensures start { result.1 ≡ record { child = child.now; epoch = self.old.epoch; stamp = parted.given } }
@@ -97,12 +97,12 @@ fn of_both(alloc: Global, id: &Id, events: &Events) -> Result<Stamp, AllocError>
 }
 
 // What a fork reports.
-fn fork_action(alloc: Global, kept: &Id, child: &Name, given: &Id) -> Result<Action, AllocError>
+fn fork_action(alloc: Global, kept: &Id, child: &Name, given: &Id) -> Result<ReportKind, AllocError>
     ensures { IfOk result (λ a. a ≡ actions.Fork (record { kept = kept.now; child = child.now; given = given.now })) }
 {
     let kept = kept.copy(alloc)?;
     let given = given.copy(alloc)?;
-    Action::fork(alloc, kept, child.copy(), given)
+    ReportKind::fork(alloc, kept, child.copy(), given)
 }
 
 // The line of a fork's report.
@@ -132,7 +132,7 @@ fn reported_fork(
     number: u32,
     child: &Name,
     parts: (Stamp, Stamp),
-) -> Result<Parted, ProcessFault>
+) -> Result<ForkResult, ProcessFault>
     requires { number ≡ process.now.reports + 1 }
     ensures ok { IfOk result (λ parted. IsForkTold process.now child.now parts.0 parts.1 parted) }
     ensures err { IfErr result (λ fault. fault ≡ ProcessFault.Memory) }
@@ -143,7 +143,7 @@ fn reported_fork(
         drop(given);
         return Err(ProcessFault::Memory);
     };
-    Ok(Parted {
+    Ok(ForkResult {
         number,
         kept,
         given,
@@ -166,7 +166,7 @@ fn halves(alloc: Global, stamp: &Stamp) -> Result<(Stamp, Stamp), ProcessFault>
 }
 
 // A fork by halves.
-fn forked(alloc: Global, process: &Process, child: &Name) -> Result<Parted, ProcessFault>
+fn forked(alloc: Global, process: &Process, child: &Name) -> Result<ForkResult, ProcessFault>
     ensures ok { IfOk result (λ parted. IsParted process.now child.now parted) }
     ensures halves { IfOk result (λ parted. Halves process.now.stamp.id parted.kept.id parted.given.id) }
     ensures err { IfErr result (λ fault. RefusesFork fault process.now child.now) }
@@ -252,7 +252,7 @@ fn forked_small(
     process: &Process,
     child: &Name,
     depth: u8,
-) -> Result<Parted, ProcessFault>
+) -> Result<ForkResult, ProcessFault>
     ensures ok { IfOk result (λ parted. IsParted process.now child.now parted) }
     ensures leaf { IfOk result (λ parted. IsLeafAt depth parted.given.id) }
     ensures deepest { IfOk result (λ parted. IsFromDeepest process.now.stamp.id depth parted.given.id) }

@@ -4,7 +4,7 @@ ghost use Rattle.std.specs.Prelude.{◌≡◌, ◌≢◌, ◌≤◌, ◌<◌, �
 ghost use Rattle.id_tree.specs.IdTree.{One};
 ghost use Rattle.event_tree.specs.EventTree.{EventTree, Leaf};
 ghost use Rattle.event_tree.specs.Event.{PassesLimit};
-ghost use Rattle.report_line.specs.declared.report.Action.TheVariants as actions;
+ghost use Rattle.report_line.specs.declared.report.ReportKind.TheVariants as actions;
 ghost use Rattle.report_line.specs.declared.report.Report.TheVariants.{Begin};
 ghost use Rattle.process.specs.Steps.{Works, Sends, HandsOver, Tells, Receives, Retires, Absorbs, Returns, Counts, IsLineOf};
 ghost use Rattle.process.specs.Faults.{RefusesEvent, RefusesReport, RefusesAgain, RefusesReceipt, RefusesRetirement, RefusesAbsorption, RefusesKept, RefusesStamp, RefusesSum, RefusesReturn, IsWorn, fault_of};
@@ -13,9 +13,9 @@ ghost use Rattle.stamp.specs.Operations.{IsNormalJoin, IsReceive, IsAbsorb};
 
 use crate::fault::ProcessFault;
 use crate::handed::{Message, Retirement, Start};
-use crate::reporting::{Told, line_of_root, next_number, reported};
+use crate::reporting::{ReportedStep, line_of_root, next_number, reported};
 use event_tree::Events;
-use report_line::{Action, Name, Shared};
+use report_line::{Name, ReportKind, Shared};
 use stamp::{Stamp, StampFault};
 use std::alloc::{AllocError, Global};
 
@@ -154,7 +154,7 @@ impl Process {
         ensures full { PassesLimit self.old.stamp.id self.old.stamp.events → IsErr result }
         ensures unchanged { OnErr result (self.new ≡ self.old) }
     {
-        let told = told(alloc, self, Action::Check)?;
+        let told = told(alloc, self, ReportKind::Check)?;
         Ok(self.go_on(told))
     }
 
@@ -166,7 +166,7 @@ impl Process {
         ensures full { PassesLimit self.old.stamp.id self.old.stamp.events → IsErr result }
         ensures unchanged { OnErr result (self.new ≡ self.old) }
     {
-        let told = told(alloc, self, Action::Present)?;
+        let told = told(alloc, self, ReportKind::Present)?;
         Ok(self.go_on(told))
     }
 
@@ -282,7 +282,7 @@ impl Process {
     }
 
     // Goes on behind a reporting step.
-    pub(crate) fn go_on(&mut self, told: Told) -> Vec<u8>
+    pub(crate) fn go_on(&mut self, told: ReportedStep) -> Vec<u8>
         ensures process { self.new ≡ after_told self.old told }
         ensures line { result ≡ told.line }
     {
@@ -370,7 +370,7 @@ fn counted(alloc: Global, process: &Process) -> Result<(u32, Stamp), ProcessFaul
 }
 
 // A step of its own, and its report with this action.
-fn told(alloc: Global, process: &Process, action: Action) -> Result<Told, ProcessFault>
+fn told(alloc: Global, process: &Process, action: ReportKind) -> Result<ReportedStep, ProcessFault>
     ensures ok { IfOk result (λ told. IsTold process.now action told) }
     ensures err { IfErr result (λ fault. RefusesReport fault process.now) }
     ensures worn { IsWorn process.now → IsErr result }
@@ -389,7 +389,7 @@ fn told(alloc: Global, process: &Process, action: Action) -> Result<Told, Proces
 }
 
 // A retirement into the target, and its report.
-fn retired(alloc: Global, process: &Process, target: &Name) -> Result<Told, ProcessFault>
+fn retired(alloc: Global, process: &Process, target: &Name) -> Result<ReportedStep, ProcessFault>
     ensures ok { IfOk result (λ told. (target.now ≢ process.now.name) × IsTold process.now (actions.Retire target.now) told) }
     ensures err { IfErr result (λ fault. RefusesRetirement fault process.now target.now) }
     ensures itself { target.now ≡ process.now.name → IsErr result }
@@ -400,7 +400,7 @@ fn retired(alloc: Global, process: &Process, target: &Name) -> Result<Told, Proc
         return Err(ProcessFault::SelfTarget);
     }
     match Shared::new(alloc, target.copy()) {
-        Ok(target) => told(alloc, process, Action::Retire { target }),
+        Ok(target) => told(alloc, process, ReportKind::Retire { target }),
         Err(_) => Err(ProcessFault::Memory),
     }
 }
@@ -446,7 +446,7 @@ fn reported_absorption(
     number: u32,
     stamp: Stamp,
     retired: &Name,
-) -> Result<Told, ProcessFault>
+) -> Result<ReportedStep, ProcessFault>
     requires { number ≡ process.now.reports + 1 }
     ensures ok { IfOk result (λ told. IsReported process.now stamp (actions.Absorb retired.now) told) }
     ensures err { IfErr result (λ fault. fault ≡ ProcessFault.Memory) }
@@ -455,14 +455,24 @@ fn reported_absorption(
         drop(stamp);
         return Err(ProcessFault::Memory);
     };
-    match reported(alloc, process, number, stamp, Action::Absorb { retired }) {
+    match reported(
+        alloc,
+        process,
+        number,
+        stamp,
+        ReportKind::Absorb { retired },
+    ) {
         Ok(told) => Ok(told),
         Err(_) => Err(ProcessFault::Memory),
     }
 }
 
 // An event on the own stamp, and then that of a retired process joins it; with the report.
-fn absorbed(alloc: Global, process: &Process, retirement: &Retirement) -> Result<Told, ProcessFault>
+fn absorbed(
+    alloc: Global,
+    process: &Process,
+    retirement: &Retirement,
+) -> Result<ReportedStep, ProcessFault>
     ensures ok { IfOk result (λ told. IsAbsorbTold process.now retirement.now told) }
     ensures err { IfErr result (λ fault. RefusesStamp fault process.now retirement.now) }
     ensures worn { IsWorn process.now → IsErr result }

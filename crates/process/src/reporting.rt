@@ -6,13 +6,13 @@ ghost use Rattle.process.specs.Steps.{IsLineOf, next_report};
 ghost use Rattle.process.specs.Telling.{IsReported};
 
 use crate::process::Process;
-use report_line::{Action, Name, NumberedReport, PackedReport, Report, write_marked};
+use report_line::{Name, NumberedReport, PackedReport, Report, ReportKind, write_marked};
 use stamp::Stamp;
 use std::alloc::{AllocError, Global};
 
 /// What a reporting step leaves behind: the number and the line of its report, and the stamp after it.
 #[derive(Drop)]
-pub(crate) struct Told {
+pub(crate) struct ReportedStep {
     pub(crate) number: u32,
     pub(crate) stamp: Stamp,
     pub(crate) line: Vec<u8>,
@@ -42,7 +42,7 @@ pub(crate) fn line_of(
     process: &Process,
     number: u32,
     stamp: Stamp,
-    action: Action,
+    action: ReportKind,
 ) -> Result<Vec<u8>, AllocError>
     requires { number ≡ process.now.reports + 1 }
     ensures { IfOk result (λ line. IsLineOf process.now.epoch (next_report process.now stamp action) line.items) }
@@ -63,8 +63,8 @@ pub(crate) fn reported(
     process: &Process,
     number: u32,
     stamp: Stamp,
-    action: Action,
-) -> Result<Told, AllocError>
+    action: ReportKind,
+) -> Result<ReportedStep, AllocError>
     requires { number ≡ process.now.reports + 1 }
     ensures { IfOk result (λ told. IsReported process.now stamp action told) }
 {
@@ -77,7 +77,7 @@ pub(crate) fn reported(
         drop(stamp);
         return Err(AllocError);
     };
-    Ok(Told {
+    Ok(ReportedStep {
         number,
         stamp,
         line,

@@ -3,7 +3,7 @@ use Rattle.std.specs.Prelude.{◌≡◌, ◌≤◌, ◌<◌, ℕ, List, [], ◌�
 use Rattle.id_tree.specs.IdTree.{One}
 use Rattle.event_tree.specs.EventTree.{Leaf}
 use Rattle.report_line.specs.histories.History.{Name}
-use Rattle.report_line.specs.declared.report.Action.{Action}
+use Rattle.report_line.specs.declared.report.ReportKind.{ReportKind}
 use Rattle.report_line.specs.declared.report.Report.TheVariants.{Begin}
 use Rattle.process.specs.declared.process.Process.{Process}
 use Rattle.process.specs.declared.handed.Message.{Message}
@@ -24,7 +24,7 @@ state_and p texts = lines_of (process_text p ∷ texts)
 abbrev pub IsWork : Process → Process → List (List ℕ) → Type 0
 IsWork p q texts = Works p q × (texts ≡ [])
 
-abbrev pub IsTelling : Action → Process → Process → List (List ℕ) → Type 0
+abbrev pub IsTelling : ReportKind → Process → Process → List (List ℕ) → Type 0
 IsTelling action p q texts = (line : List ℕ) × Tells p q action line × (texts ≡ line ∷ [])
 
 abbrev pub IsSending : Process → Process → List (List ℕ) → Type 0

@@ -14,7 +14,7 @@ mod stepping;
 mod writing;
 
 ghost use Rattle.std.specs.Prelude.{◌≡◌};
-ghost use Rattle.report_line.specs.declared.report.Action.TheVariants as actions;
+ghost use Rattle.report_line.specs.declared.report.ReportKind.TheVariants as actions;
 ghost use Rattle.process.specs.Faults.{RefusesEvent, RefusesReport, RefusesAgain, RefusesReceipt, RefusesFork, RefusesLeaf, RefusesRetirement, RefusesAbsorption, RefusesKept, RefusesReturn};
 ghost use Rattle.process_c.specs.Texts.{IsStateOf, IsMessageOf, IsRetirementOf};
 ghost use Rattle.process_c.specs.Answers.{IsAnswer};

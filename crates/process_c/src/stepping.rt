@@ -1,7 +1,7 @@
 //! What each call does to a process that was read.
 
 ghost use Rattle.std.specs.Prelude.{◌≡◌, IfOk, IfErr, MatchResult};
-ghost use Rattle.report_line.specs.declared.report.Action.TheVariants as actions;
+ghost use Rattle.report_line.specs.declared.report.ReportKind.TheVariants as actions;
 ghost use Rattle.process.specs.Faults.{RefusesEvent, RefusesReport, RefusesAgain, RefusesReceipt, RefusesFork, RefusesLeaf, RefusesRetirement, RefusesAbsorption, RefusesKept, RefusesReturn};
 ghost use Rattle.process_c.specs.Texts.{IsStateOf, IsMessageOf, IsRetirementOf};
 ghost use Rattle.process_c.specs.Given.{IsWork, IsTelling, IsSending, IsHandingOver, IsReceipt, IsHalving, IsCarving, IsAbsorption, IsKeptAbsorption, IsReturn, IsReturned, Becomes, Handed, IsEnd};

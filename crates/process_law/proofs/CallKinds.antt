@@ -2,8 +2,8 @@
 use Rattle.std.proofs.Common.{◌≡◌, ℕ, ◌≤◌, Option, Some, None, List, [], ◌∷◌, length, refl, ap, subst}
 use Rattle.std.specs.Prelude.{⊤}
 use Rattle.id_tree.specs.IdTree.{IdTree}
-use Rattle.report_line.specs.declared.step.Deed.{Deed}
-use Rattle.report_line.specs.declared.step.Deed.TheVariants as deeds
+use Rattle.report_line.specs.declared.step.StepKind.{StepKind}
+use Rattle.report_line.specs.declared.step.StepKind.TheVariants as deeds
 use Rattle.report_line.specs.histories.History.{Name}
 use Rattle.settled_lists.specs.Runs.{Run, epoch}
 use Rattle.process.specs.declared.process.Process.{Process}
@@ -16,15 +16,15 @@ use Rattle.process_law.specs.Handing.{Past, GoesFromNewest, WasOnce, IsUnbegun, 
 use Rattle.process_law.proofs.Calls.{GaveStart}
 
 -- it holds of the deed, where there is one
-abbrev pub OnDeed : Option Deed → (Deed → Type 0) → Type 0
+abbrev pub OnDeed : Option StepKind → (StepKind → Type 0) → Type 0
 OnDeed None P = ⊤
 OnDeed (Some deed) P = P deed
 
-pub on_deed : (o : Option Deed) (deed : Deed) (P : Deed → Type 0) → o ≡ Some deed → OnDeed o P → P deed
-on_deed o deed P is holds = subst (λ (k : Option Deed). OnDeed k P) is holds
+pub on_deed : (o : Option StepKind) (deed : StepKind) (P : StepKind → Type 0) → o ≡ Some deed → OnDeed o P → P deed
+on_deed o deed P is holds = subst (λ (k : Option StepKind). OnDeed k P) is holds
 
 pub data Kind (root : Name) (run : Run) (past : Past) (a : Act) (old new : Process) : Type 0 where
-  steps : (deed : Deed) → deed_of (length past) a ≡ Some deed → new.name ≡ old.name → new.epoch ≡ old.epoch → GoesFromNewest root past old
+  steps : (deed : StepKind) → deed_of (length past) a ≡ Some deed → new.name ≡ old.name → new.epoch ≡ old.epoch → GoesFromNewest root past old
       → Kind root run past a old new
   begins : (from : ℕ) → (s : Start) → a ≡ Begin from s → new ≡ begun_by s → GaveStart past from s → IsUnbegun past from → Kind root run past a old new
   hands : (from : ℕ) → (sent again : Message) → a ≡ Again from sent again → new ≡ old → HandsOver old sent again → GoesFromNewest root past old
@@ -48,7 +48,7 @@ kind_of root run past (Return now) old new does may = returns now refl does may.
 
 -- ---- which deed it is
 
-pub same_deed : (c d : Deed) → Some c ≡ Some d → c ≡ d
+pub same_deed : (c d : StepKind) → Some c ≡ Some d → c ≡ d
 same_deed c d is = cc
 
 pub first_byte : (n k : ℕ) → n ∷ [] ≡ k ∷ [] → n ≡ k

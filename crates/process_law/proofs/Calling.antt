@@ -2,7 +2,7 @@
 use Rattle.std.proofs.Common.{◌≡◌, ℕ, ◌+◌, ◌≤◌, Option, Some, None, List, [], ◌∷◌, ◌++◌, length, refl, sym, ◌∙◌, ap, subst, append-nil, append_assoc, arith}
 use Rattle.std.specs.List.{cons_option}
 use Rattle.report_line.specs.declared.report.Report.{Report}
-use Rattle.report_line.specs.declared.step.Deed.{Deed}
+use Rattle.report_line.specs.declared.step.StepKind.{StepKind}
 use Rattle.report_line.specs.histories.History.{Name, History}
 use Rattle.report_line.specs.histories.Lawful.{IsLawful}
 use Rattle.report_line.specs.histories.StepReports.{report_of, reports}
@@ -26,12 +26,12 @@ pub record Makes (root : Name) (run : Run) (trace : Trace) (lines : List (List �
   pub lines_are : AreLinesOf lines rest
 
 -- the trace behind a call
-extends_behind : (root : Name) (o : Option Deed) (d : Doing) (run later : Run) (trace : Trace) → Extends root (run_with o d run) trace later → Extends root run (steps_by o d ++ trace) later
+extends_behind : (root : Name) (o : Option StepKind) (d : Doing) (run later : Run) (trace : Trace) → Extends root (run_with o d run) trace later → Extends root run (steps_by o d ++ trace) later
 extends_behind root None d run later trace extends = extends
 extends_behind root (Some deed) d run later trace extends = extends
 
 module _ (root : Name) (run : Run) (past : Past) (d : Doing) (zero_epoch : epoch run ≡ 0) (w : Holds root run past) (done : IsDone d) (may : MayDo root run past d.act d.old) where
-  makes_more : (o : Option Deed) → deed_of (length past) d.act ≡ o → (trace : Trace) (lines : List (List ℕ)) → Makes root (run_with o d run) trace lines
+  makes_more : (o : Option StepKind) → deed_of (length past) d.act ≡ o → (trace : Trace) (lines : List (List ℕ)) → Makes root (run_with o d run) trace lines
       → Makes root run (steps_by o d ++ trace) (line_given d.act ++ lines)
   makes_more None is trace lines m =
       subst (λ (l : List (List ℕ)). Makes root run trace (l ++ lines)) (sym (silent (length past) d.act is)) (record {
@@ -64,7 +64,7 @@ module _ (root : Name) (run : Run) (past : Past) (d : Doing) (zero_epoch : epoch
             (subst (λ (e : ℕ). IsTold e (report_of root (current run) s) (line_given d.act)) (now ∙ zero_epoch) told) m.lines_are;
       }
 
-epoch_with : (o : Option Deed) (d : Doing) (run : Run) → epoch (run_with o d run) ≡ epoch run
+epoch_with : (o : Option StepKind) (d : Doing) (run : Run) → epoch (run_with o d run) ≡ epoch run
 epoch_with None d run = refl
 epoch_with (Some deed) d run = epoch_made run d.old.epoch (step_of d.old deed d.new)
 

@@ -7,9 +7,9 @@ use Rattle.event_tree.specs.Event.{IsEventStep}
 use Rattle.report_line.specs.declared.call.Call.TheVariants as calls
 use Rattle.report_line.specs.declared.marked.MarkedReport.{MarkedReport}
 use Rattle.report_line.specs.declared.reply.Reply.TheVariants.{Accepted}
-use Rattle.report_line.specs.declared.report.Action.TheVariants as reported
+use Rattle.report_line.specs.declared.report.ReportKind.TheVariants as reported
 use Rattle.report_line.specs.declared.report.Report.TheVariants as reports
-use Rattle.report_line.specs.declared.step.Deed.TheVariants as deeds
+use Rattle.report_line.specs.declared.step.StepKind.TheVariants as deeds
 use Rattle.report_line.specs.histories.History.{History, Event, event_of, Living, status}
 use Rattle.report_line.specs.histories.Lawful.{IsLawful, start, next}
 use Rattle.report_line.specs.histories.StepReports.{reporting_steps}

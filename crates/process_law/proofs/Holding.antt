@@ -5,7 +5,7 @@ use Rattle.std.proofs.lemmas.Bool.{cases_Bool, cond-true, cond-false}
 use Rattle.id_tree.specs.IdTree.{IdTree}
 use Rattle.history_law.proofs.Listed.{first_in, later_in, in_cases, none_in}
 use Rattle.histories.proofs.Status.{root_holds}
-use Rattle.report_line.specs.declared.step.Deed.TheVariants as deeds
+use Rattle.report_line.specs.declared.step.StepKind.TheVariants as deeds
 use Rattle.report_line.specs.declared.step.Step.{Step}
 use Rattle.report_line.specs.histories.History.{Name, History, Event, event_of, birth_of_root, Retired, Absorbed, status}
 use Rattle.settled_histories.specs.Kept.{Cut, kept}

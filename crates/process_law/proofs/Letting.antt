@@ -10,8 +10,8 @@ use Rattle.event_tree.specs.Join.{IsJoin}
 use Rattle.stamp.specs.declared.stamp.Stamp.{Stamp}
 use Rattle.stamp.specs.Operations.{IsReceive, IsAbsorb}
 use Rattle.histories.proofs.Rules.{retired_waits}
-use Rattle.report_line.specs.declared.step.Deed.{Deed}
-use Rattle.report_line.specs.declared.step.Deed.TheVariants as deeds
+use Rattle.report_line.specs.declared.step.StepKind.{StepKind}
+use Rattle.report_line.specs.declared.step.StepKind.TheVariants as deeds
 use Rattle.report_line.specs.declared.step.Step.{Step}
 use Rattle.report_line.specs.histories.History.{Name, History, Event, Unborn, Retired, status}
 use Rattle.report_line.specs.histories.Lawful.{IsSameId, IsOwnWork, IsLawfulReceive, IsLawfulFork, IsLawfulAbsorption, IsAllowed, IsLawful}
@@ -32,7 +32,7 @@ use Rattle.process_law.proofs.Holding.{AreCurrent}
 same_ids : (i j : IdTree) → i ≡ j → IsSameId i j
 same_ids i j same t = ap (λ (k : IdTree). owns k t) same
 
-own_work : (x : Event) (old new : Process) (deed : Deed) → stamp_of x ≡ old.stamp → Counts old.stamp new.stamp → IsOwnWork x x.values (step_of old deed new)
+own_work : (x : Event) (old new : Process) (deed : StepKind) → stamp_of x ≡ old.stamp → Counts old.stamp new.stamp → IsOwnWork x x.values (step_of old deed new)
 own_work x old new deed same counts =
     let w = subst (λ (t : Stamp). Counts t new.stamp) (sym same) counts in
     record { same_id = same_ids new.stamp.id x.id w.event.id; grown = w.grown }

@@ -2,8 +2,8 @@
 use Rattle.std.proofs.Common.{◌≡◌, ℕ, ◌<◌, Some, List, [], ◌∷◌, length, inl, inr, sym, ◌∙◌, ap, subst, arith}
 use Rattle.std.proofs.lemmas.Option.{none-some}
 use Rattle.histories.proofs.Rules.{newest_lives}
-use Rattle.report_line.specs.declared.step.Deed.{Deed}
-use Rattle.report_line.specs.declared.step.Deed.TheVariants as deeds
+use Rattle.report_line.specs.declared.step.StepKind.{StepKind}
+use Rattle.report_line.specs.declared.step.StepKind.TheVariants as deeds
 use Rattle.report_line.specs.histories.History.{Name}
 use Rattle.report_line.specs.histories.Lawful.{IsLawful}
 use Rattle.settled_lists.specs.Runs.{Run, epoch, current}
@@ -39,7 +39,7 @@ same_again k n q sent r m is = (cc, cc, cc)
 
 module _ (root : Name) (run : Run) (past : Past) (a : Act) (old new : Process) (lawful : IsLawful root (current run))
     (holds : AreCurrent root past (current run) (epoch run)) (does : DoesSo a old new) (kind : Kind root run past a old new)
-    (rests : (deed : Deed) → deed_of (length past) a ≡ Some deed → old.epoch < epoch run) where
+    (rests : (deed : StepKind) → deed_of (length past) a ≡ Some deed → old.epoch < epoch run) where
   still_lives : Kind root run past a old new → new.epoch ≡ epoch run → LivesAs root (current run) new
   still_lives (steps deed is name same from) now = (let less : old.epoch < epoch run = rests deed is in absurd (omega arith))
   still_lives (begins n s is new_is gave none) now =
@@ -50,7 +50,7 @@ module _ (root : Name) (run : Run) (past : Past) (a : Act) (old new : Process) (
   still_lives (returns now_at is does_so once within at) now =
       at_position root run old new now_at lawful does_so.new_is (at (sym (ap (λ (p : Process). p.epoch) does_so.new_is) ∙ now))
 
-  not_now : (deed : Deed) (k : ℕ) → deed_of (length past) a ≡ Some deed → k ≡ old.epoch → k ≡ epoch run → ⊥
+  not_now : (deed : StepKind) (k : ℕ) → deed_of (length past) a ≡ Some deed → k ≡ old.epoch → k ≡ epoch run → ⊥
   not_now deed k is same now = (let less : old.epoch < epoch run = rests deed is in omega arith)
 
   -- what it hands over once more now was sent in the current history

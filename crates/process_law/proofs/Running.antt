@@ -4,7 +4,7 @@ use Rattle.std.specs.Prelude.{⊤}
 use Rattle.std.proofs.lemmas.Bool.{cases_lt}
 use Rattle.std.proofs.lemmas.Option.{none-some}
 use Rattle.histories.proofs.Rules.{living_is_newest, law_obeys}
-use Rattle.report_line.specs.declared.step.Deed.{Deed}
+use Rattle.report_line.specs.declared.step.StepKind.{StepKind}
 use Rattle.report_line.specs.declared.step.Step.{Step}
 use Rattle.report_line.specs.histories.History.{Name, History}
 use Rattle.report_line.specs.histories.Lawful.{IsAllowed, IsLawful, start, next}
@@ -72,11 +72,11 @@ first_holds root = holds_as root [] [] [] 0 first_history first_epoch start (fir
 -- ---- one call
 
 -- the step of a call is right
-abbrev pub IsRight : Name → Run → Option Deed → Doing → Type 0
+abbrev pub IsRight : Name → Run → Option StepKind → Doing → Type 0
 IsRight root run None d = ⊤
 IsRight root run (Some deed) d = IsRightStep root run d.old.epoch (step_of d.old deed d.new)
 
-own_step : (root : Name) (run : Run) (past : Past) (a : Act) (old new : Process) (deed : Deed) → deed_of (length past) a ≡ Some deed → Kind root run past a old new
+own_step : (root : Name) (run : Run) (past : Past) (a : Act) (old new : Process) (deed : StepKind) → deed_of (length past) a ≡ Some deed → Kind root run past a old new
     → (new.name ≡ old.name) × GoesFromNewest root past old
 own_step root run past a old new deed is (steps other as_deed name epoch from) = (name, from)
 own_step root run past a old new deed is (begins n s act new_is gave none) = absurd (none-some deed (sym (ap (deed_of (length past)) act) ∙ is))
@@ -87,10 +87,10 @@ module _ (root : Name) (run : Run) (past : Past) (a : Act) (old new : Process) (
   kind : Kind root run past a old new
   kind = kind_of root run past a old new does may
 
-  pub own_within : (deed : Deed) → deed_of (length past) a ≡ Some deed → old.epoch ≤ epoch run
+  pub own_within : (deed : StepKind) → deed_of (length past) a ≡ Some deed → old.epoch ≤ epoch run
   own_within deed is = old_within root run past w.order old (own_step root run past a old new deed is kind).1
 
-  pub step_now : (deed : Deed) → deed_of (length past) a ≡ Some deed → old.epoch ≡ epoch run → IsStepNow root run past a old new deed
+  pub step_now : (deed : StepKind) → deed_of (length past) a ≡ Some deed → old.epoch ≡ epoch run → IsStepNow root run past a old new deed
   step_now deed is now =
       let own = own_step root run past a old new deed is kind in
       let living = w.holding.lives old.name old own.1 now in
@@ -117,7 +117,7 @@ module _ (root : Name) (run : Run) (past : Past) (a : Act) (old new : Process) (
   }
 
   -- a step of a process that has not returned
-  left_on : (deed : Deed) → deed_of (length past) a ≡ Some deed → old.epoch < epoch run → Holds root (Made old.epoch (step_of old deed new) ∷ run) (made a old new ∷ past)
+  left_on : (deed : StepKind) → deed_of (length past) a ≡ Some deed → old.epoch < epoch run → Holds root (Made old.epoch (step_of old deed new) ∷ run) (made a old new ∷ past)
   left_on deed is less =
       let s = step_of old deed new in
       holds_as root (Made old.epoch s ∷ run) (made a old new ∷ past) (current run) (epoch run) (current_left run old.epoch s less) (epoch_made run old.epoch s) w.lawful order
@@ -125,7 +125,7 @@ module _ (root : Name) (run : Run) (past : Past) (a : Act) (old new : Process) (
       (marked_more root run (Made old.epoch s ∷ run) past (made a old new) w.marked (λ mark r was. earlier was) (marked_left root run a old new deed does less))
 
   -- a step of a process that has returned
-  next_on : (deed : Deed) → deed_of (length past) a ≡ Some deed → old.epoch ≡ epoch run → Holds root (Made old.epoch (step_of old deed new) ∷ run) (made a old new ∷ past)
+  next_on : (deed : StepKind) → deed_of (length past) a ≡ Some deed → old.epoch ≡ epoch run → Holds root (Made old.epoch (step_of old deed new) ∷ run) (made a old new ∷ past)
   next_on deed is now =
       let s = step_of old deed new in
       let own = own_step root run past a old new deed is kind in
@@ -138,7 +138,7 @@ module _ (root : Name) (run : Run) (past : Past) (a : Act) (old new : Process) (
       (on_deed (deed_of (length past) a) deed (λ c. IsTold old.epoch (report_of root (current run) (step_of old c new)) (line_given a)) is
       (tells root (current run) (length past) a old new does step.living))))
 
-  right_now : (deed : Deed) → deed_of (length past) a ≡ Some deed → old.epoch ≡ epoch run → IsRightStep root run old.epoch (step_of old deed new)
+  right_now : (deed : StepKind) → deed_of (length past) a ≡ Some deed → old.epoch ≡ epoch run → IsRightStep root run old.epoch (step_of old deed new)
   right_now deed is now =
       let step = step_now deed is now in
       inl (
@@ -150,7 +150,7 @@ module _ (root : Name) (run : Run) (past : Past) (a : Act) (old new : Process) (
         ),
       )
 
-  some_on : (deed : Deed) → deed_of (length past) a ≡ Some deed
+  some_on : (deed : StepKind) → deed_of (length past) a ≡ Some deed
       → IsRight root run (Some deed) (made a old new) × Holds root (Made old.epoch (step_of old deed new) ∷ run) (made a old new ∷ past)
   some_on deed is =
       elim (cases_lt old.epoch (epoch run)) [
@@ -161,6 +161,6 @@ module _ (root : Name) (run : Run) (past : Past) (a : Act) (old new : Process) (
             (right_now deed is now, next_on deed is now))
       ]
 
-  pub call_on : (o : Option Deed) → deed_of (length past) a ≡ o → IsRight root run o (made a old new) × Holds root (run_with o (made a old new) run) (made a old new ∷ past)
+  pub call_on : (o : Option StepKind) → deed_of (length past) a ≡ o → IsRight root run o (made a old new) × Holds root (run_with o (made a old new) run) (made a old new ∷ past)
   call_on None is = (tt, none_on is)
   call_on (Some deed) is = some_on deed is

@@ -10,8 +10,8 @@ use Rattle.histories.proofs.Status.{status_acts, status_others}
 use Rattle.histories.proofs.Steps.{fork_of}
 use Rattle.histories.proofs.Rules.{retired_not_living}
 use Rattle.histories.proofs.Reported.{others_step, unborn_reports}
-use Rattle.report_line.specs.declared.step.Deed.{Deed}
-use Rattle.report_line.specs.declared.step.Deed.TheVariants.{Work, Check, Present, Send, Receive, Fork, Retire, Absorb}
+use Rattle.report_line.specs.declared.step.StepKind.{StepKind}
+use Rattle.report_line.specs.declared.step.StepKind.TheVariants.{Work, Check, Present, Send, Receive, Fork, Retire, Absorb}
 use Rattle.report_line.specs.declared.step.Step.{Step}
 use Rattle.report_line.specs.histories.History.{Name, History, Event, event_of, birth_by, Status, Unborn, Living, Retired, Absorbed, status_of_actor, status_of_other, status, sends, sending}
 use Rattle.report_line.specs.histories.Lawful.{IsAllowed, IsLawful, start, next}
@@ -23,7 +23,7 @@ use Rattle.process_law.specs.EachCall.{LivesAs, step_of}
 
 -- ---- how a process stands
 
-others_stay : (h : History) (s : Step) (p : Name) (a : Deed) (before : Status) → ((i : IdTree) → a ≢ Fork p i) → a ≢ Absorb p → status_of_other h s a p before ≡ before
+others_stay : (h : History) (s : Step) (p : Name) (a : StepKind) (before : Status) → ((i : IdTree) → a ≢ Fork p i) → a ≢ Absorb p → status_of_other h s a p before ≡ before
 others_stay h s p Work before forks absorbs = refl
 others_stay h s p Check before forks absorbs = refl
 others_stay h s p Present before forks absorbs = refl
@@ -58,7 +58,7 @@ module _ (root : Name) (h : History) (b : Event) (s : Step) (living : status roo
   forks_unborn p i is = (fork_of root h b s p i allowed is).new_name
 
   absorbs_retired : (p : Name) → s.deed ≡ Absorb p → (x : Event) × (status root h p ≡ Retired x s.process)
-  absorbs_retired p is = (let w = subst (λ (a : Deed). IsAllowed root h b s a) is allowed in (w.retirement, w.into_this))
+  absorbs_retired p is = (let w = subst (λ (a : StepKind). IsAllowed root h b s a) is allowed in (w.retirement, w.into_this))
 
   pub living_stays : (p : Name) (x : Event) → p ≢ s.process → status root h p ≡ Living x → status root (s ∷ h) p ≡ Living x
   living_stays p x differs there =
@@ -82,7 +82,7 @@ module _ (root : Name) (h : History) (b : Event) (s : Step) (living : status roo
   pub retired_ends : (p q : Name) (x : Event) → s.deed ≡ Absorb p → status root h p ≡ Retired x q → status root (s ∷ h) p ≡ Absorbed
   retired_ends p q x absorbs there =
       status_others root h s p (retired_not_actor p q x there)
-      ∙ (ap (λ (a : Deed). status_of_other h s a p (status root h p)) absorbs ∙ cond-true (bytes_eq p p) _ _ (bytes_same p p refl))
+      ∙ (ap (λ (a : StepKind). status_of_other h s a p (status root h p)) absorbs ∙ cond-true (bytes_eq p p) _ _ (bytes_same p p refl))
 
   pub absorbed_stays : (p : Name) → status root h p ≡ Absorbed → status root (s ∷ h) p ≡ Absorbed
   absorbed_stays p there =
@@ -134,7 +134,7 @@ uncounted h s is =
     ∙ sym up
 
 -- it lives by its own step
-pub lives_by : (root : Name) (h : History) (old new : Process) (deed : Deed) (k : ℕ) → ((x : Event) → status_of_actor deed x ≡ Living x)
+pub lives_by : (root : Name) (h : History) (old new : Process) (deed : StepKind) (k : ℕ) → ((x : Event) → status_of_actor deed x ≡ Living x)
     → reporting_steps old.name (step_of old deed new ∷ h) ≡ reporting_steps old.name h + k → GoesOn old new k → LivesAs root h old
     → LivesAs root (step_of old deed new ∷ h) new
 lives_by root h old new deed k actor count goes w =
@@ -158,14 +158,14 @@ child_lives root h b s c i living allowed is stamp none =
       event = birth_by h s c.name i;
       lives =
           status_others root h s c.name differs
-          ∙ (ap (λ (a : Deed). status_of_other h s a c.name (status root h c.name)) is ∙ cond-true (bytes_eq c.name c.name) _ _ (bytes_same c.name c.name refl));
+          ∙ (ap (λ (a : StepKind). status_of_other h s a c.name (status root h c.name)) is ∙ cond-true (bytes_eq c.name c.name) _ _ (bytes_same c.name c.name refl));
       stamp = stamp;
       reports = none ∙ sym (others_step c.name s h differs ∙ unborn_reports root h c.name unborn);
     }
 
 -- who retires stands retired
 pub retires_by : (root : Name) (h : History) (s : Step) (p q : Name) → p ≡ s.process → s.deed ≡ Retire q → status root (s ∷ h) p ≡ Retired (event_of h s) q
-retires_by root h s p q same is = status_acts root h s p same ∙ ap (λ (a : Deed). status_of_actor a (event_of h s)) is
+retires_by root h s p q same is = status_acts root h s p same ∙ ap (λ (a : StepKind). status_of_actor a (event_of h s)) is
 
 -- ---- a message
 
@@ -174,13 +174,13 @@ unfolding sending
 sending_now h s m is = cond-true (sends s.deed m) (Some (event_of h s)) (sending h m) is
 
 pub sends_now : (h : History) (s : Step) (m : Name) → s.deed ≡ Send m → sending (s ∷ h) m ≡ Some (event_of h s)
-sends_now h s m is = sending_now h s m (ap (λ (a : Deed). sends a m) is ∙ bytes_same m m refl)
+sends_now h s m is = sending_now h s m (ap (λ (a : StepKind). sends a m) is ∙ bytes_same m m refl)
 
 pub sending_before : (h : History) (s : Step) (m : Name) → sends s.deed m ≡ false → sending (s ∷ h) m ≡ sending h m
 unfolding sending
 sending_before h s m is = cond-false (sends s.deed m) (Some (event_of h s)) (sending h m) is
 
-sends_other : (a : Deed) (m : Name) → a ≢ Send m → sends a m ≡ false
+sends_other : (a : StepKind) (m : Name) → a ≢ Send m → sends a m ≡ false
 sends_other Work m differs = refl
 sends_other Check m differs = refl
 sends_other Present m differs = refl

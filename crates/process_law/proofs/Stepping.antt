@@ -5,8 +5,8 @@ use Rattle.event_tree.specs.EventTree.{EventTree}
 use Rattle.history_law.proofs.Listed.{first_in, in_cases}
 use Rattle.histories.proofs.Bytes.{cases_name}
 use Rattle.histories.proofs.Rules.{retired_not_living}
-use Rattle.report_line.specs.declared.step.Deed.{Deed}
-use Rattle.report_line.specs.declared.step.Deed.TheVariants as deeds
+use Rattle.report_line.specs.declared.step.StepKind.{StepKind}
+use Rattle.report_line.specs.declared.step.StepKind.TheVariants as deeds
 use Rattle.report_line.specs.declared.step.Step.{Step}
 use Rattle.report_line.specs.histories.History.{Name, History, Event, Living, event_of, sending, status}
 use Rattle.report_line.specs.histories.Lawful.{IsAllowed}
@@ -26,14 +26,14 @@ use Rattle.process_law.proofs.Holding.{HasRetired, AreCurrent, message_of, start
 use Rattle.stamp.specs.declared.stamp.Stamp.{Stamp}
 use Rattle.std.proofs.lemmas.Option.{none-some}
 
-sent_twice : (root : Name) (h : History) (x : Event) (s : Step) (deed : Deed) (m : Name) (y : Event) → IsAllowed root h x s deed → deed ≡ deeds.Send m
+sent_twice : (root : Name) (h : History) (x : Event) (s : Step) (deed : StepKind) (m : Name) (y : Event) → IsAllowed root h x s deed → deed ≡ deeds.Send m
     → sending h m ≡ Some y → ⊥
 sent_twice root h x s deed m y allowed is sent =
     let w : IsAllowed root h x s (deeds.Send m) = subst (IsAllowed root h x s) is allowed in
     none-some y (sym w.1 ∙ sent)
 
 -- what is known of it
-pub record IsStepNow (root : Name) (run : Run) (past : Past) (a : Act) (old new : Process) (deed : Deed) : Type 0 where
+pub record IsStepNow (root : Name) (run : Run) (past : Past) (a : Act) (old new : Process) (deed : StepKind) : Type 0 where
   pub is_deed : deed_of (length past) a ≡ Some deed
   pub now : old.epoch ≡ epoch run
   pub from : GoesFromNewest root past old
@@ -88,7 +88,7 @@ gives_now root h n (Return epoch) old new x does living ok = tt
 absorbed_name : (r p : Name) → deeds.Absorb r ≡ deeds.Absorb p → r ≡ p
 absorbed_name r p is = cc
 
-cases_absorbs : (a : Deed) (p : Name) → (a ≡ deeds.Absorb p) ⊎ (a ≢ deeds.Absorb p)
+cases_absorbs : (a : StepKind) (p : Name) → (a ≡ deeds.Absorb p) ⊎ (a ≢ deeds.Absorb p)
 cases_absorbs deeds.Work p = inr (λ is. cc)
 cases_absorbs deeds.Check p = inr (λ is. cc)
 cases_absorbs deeds.Present p = inr (λ is. cc)
@@ -101,7 +101,7 @@ cases_absorbs (deeds.Absorb r) p = elim (cases_name r p) [ inl same ↦ inl (ap 
 abbrev stamp_with : IdTree → EventTree → Stamp
 stamp_with i e = record { id = i; events = e }
 
-module _ (root : Name) (run : Run) (past : Past) (a : Act) (old new : Process) (deed : Deed) (order : AreInOrder root past (epoch run))
+module _ (root : Name) (run : Run) (past : Past) (a : Act) (old new : Process) (deed : StepKind) (order : AreInOrder root past (epoch run))
     (holds : AreCurrent root past (current run) (epoch run)) (does : DoesSo a old new) (may : MayDo root run past a old) (name : new.name ≡ old.name)
     (w : IsStepNow root run past a old new deed) where
   -- an older call's process that stands retired: so it does, unless it is absorbed now
@@ -119,7 +119,7 @@ module _ (root : Name) (run : Run) (past : Past) (a : Act) (old new : Process) (
           | inr other ↦ inl (waits.0, retired_stays root h w.living.event s w.living.lives w.allowed r.process r.target waits.0 other waits.1, waits.2)
           | inl is ↦ inr (
             retired_ends root h w.living.event s w.living.lives w.allowed r.process r.target waits.0 is waits.1,
-            absorbed_by n r gave now (absorbed_of (length past) a r.process (w.is_deed ∙ ap (λ (c : Deed). Some c) is)),
+            absorbed_by n r gave now (absorbed_of (length past) a r.process (w.is_deed ∙ ap (λ (c : StepKind). Some c) is)),
           )
         ]
       ]
@@ -168,14 +168,14 @@ module _ (root : Name) (run : Run) (past : Past) (a : Act) (old new : Process) (
     forked = λ s c i at is.
         elim (in_cases (step_of old deed new) s (current run) at) [
           | inl same ↦
-              (let v = forked_child (length past) a c i (w.is_deed ∙ ap (λ (x : Deed). Some x) (ap (λ (t : Step). t.deed) same ∙ is)) in
+              (let v = forked_child (length past) a c i (w.is_deed ∙ ap (λ (x : StepKind). Some x) (ap (λ (t : Step). t.deed) same ∙ is)) in
               (made a old new, v.0, v.1, first_in (made a old new) past, v.2, v.3))
           | inr before ↦ forked_later past (made a old new) c (holds.forked s c i before is)
         ];
     numbered = λ s m at is.
         elim (in_cases (step_of old deed new) s (current run) at) [
           | inl same ↦
-              (length past, sent_name (length past) a m (w.is_deed ∙ ap (λ (x : Deed). Some x) (ap (λ (t : Step). t.deed) same ∙ is)), omega arith)
+              (length past, sent_name (length past) a m (w.is_deed ∙ ap (λ (x : StepKind). Some x) (ap (λ (t : Step). t.deed) same ∙ is)), omega arith)
           | inr before ↦ (let v = holds.numbered s m before is in let lt : v.0 < length past = v.2 in (v.0, v.1, omega arith))
         ];
     sent = λ n m gave now.
@@ -234,7 +234,7 @@ module _ (root : Name) (run : Run) (past : Past) (a : Act) (old new : Process) (
           let lt : n < length past = call_within past n gave.0 gave.1 in (
             v.0,
             sent_stays (current run) (step_of old deed new) (n ∷ [])
-                (λ is. let same : n ≡ length past = first_byte n (length past) (sent_name (length past) a (n ∷ []) (w.is_deed ∙ ap (λ (x : Deed). Some x) is)) in omega arith)
+                (λ is. let same : n ≡ length past = first_byte n (length past) (sent_name (length past) a (n ∷ []) (w.is_deed ∙ ap (λ (x : StepKind). Some x) is)) in omega arith)
                 ∙ v.1,
             v.2,
           )

@@ -7,12 +7,12 @@ use Rattle.stamp.specs.declared.stamp.Stamp.{Stamp}
 use Rattle.history_law.proofs.Listed.{in_cases, none_in}
 use Rattle.report_line.specs.declared.call.Call.TheVariants as calls
 use Rattle.report_line.specs.declared.marked.MarkedReport.{MarkedReport}
-use Rattle.report_line.specs.declared.report.Action.{Action}
-use Rattle.report_line.specs.declared.report.Action.TheVariants as actions
+use Rattle.report_line.specs.declared.report.ReportKind.{ReportKind}
+use Rattle.report_line.specs.declared.report.ReportKind.TheVariants as actions
 use Rattle.report_line.specs.declared.report.Report.{Report}
 use Rattle.report_line.specs.declared.report.Report.TheVariants.{Numbered}
-use Rattle.report_line.specs.declared.step.Deed.{Deed}
-use Rattle.report_line.specs.declared.step.Deed.TheVariants as deeds
+use Rattle.report_line.specs.declared.step.StepKind.{StepKind}
+use Rattle.report_line.specs.declared.step.StepKind.TheVariants as deeds
 use Rattle.report_line.specs.histories.History.{Name, History, status}
 use Rattle.report_line.specs.Reading.{Spells}
 use Rattle.report_line.specs.histories.StepReports.{id_of, numbered, report_of}
@@ -28,7 +28,7 @@ use Rattle.process_law.proofs.CallKinds.{OnDeed}
 
 -- ---- each call tells its report
 
-numbered_is : (root : Name) (h : History) (old new : Process) (deed : Deed) (i : IdTree) (action : Action) → LivesAs root h old
+numbered_is : (root : Name) (h : History) (old new : Process) (deed : StepKind) (i : IdTree) (action : ReportKind) → LivesAs root h old
     → numbered h (step_of old deed new) i action ≡ next_report old (record { id = i; events = new.stamp.events }) action
 numbered_is root h old new deed i action w =
     ap (λ (k : ℕ). Numbered (record { process = old.name; number = k + 1; stamp = record { id = i; events = new.stamp.events }; action = action })) (sym w.reports)
@@ -147,14 +147,14 @@ marked_more root run later past d marked keeps now x line m at has spells =
 pub marked_silent : (root : Name) (run : Run) (n : ℕ) (a : Act) → deed_of n a ≡ None → IsMarkedNow root run a
 marked_silent root run n a none line m has spells = (let both : line ∷ [] ≡ [] = sym (line_is a line has) ∙ silent n a none in absurd (cc))
 
-pub marked_left : (root : Name) (run : Run) (a : Act) (old new : Process) (deed : Deed) → DoesSo a old new → old.epoch < epoch run
+pub marked_left : (root : Name) (run : Run) (a : Act) (old new : Process) (deed : StepKind) → DoesSo a old new → old.epoch < epoch run
     → IsMarkedNow root (Made old.epoch (step_of old deed new) ∷ run) a
 marked_left root run a old new deed does less line m has spells =
     let w = epoch_told a old new line does has in
     subst (λ (k : MarkedReport). IsMarkedReport root (Made old.epoch (step_of old deed new) ∷ run) k.epoch k.report)
     (sym (one_report m (record { epoch = old.epoch; report = w.0 }) line spells w.1)) (of_left_behind less)
 
-pub marked_now : (root : Name) (run : Run) (a : Act) (old new : Process) (deed : Deed) → old.epoch ≡ epoch run
+pub marked_now : (root : Name) (run : Run) (a : Act) (old new : Process) (deed : StepKind) → old.epoch ≡ epoch run
     → IsTold old.epoch (report_of root (current run) (step_of old deed new)) (line_given a) → IsMarkedNow root (Made old.epoch (step_of old deed new) ∷ run) a
 marked_now root run a old new deed now told line m has spells =
     let s = step_of old deed new in

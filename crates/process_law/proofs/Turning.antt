@@ -6,7 +6,7 @@ use Rattle.report_line.specs.declared.marked.MarkedReport.{MarkedReport}
 use Rattle.report_line.specs.declared.reply.Reply.{Reply}
 use Rattle.report_line.specs.declared.reply.Reply.TheVariants.{Accepted, Settled}
 use Rattle.report_line.specs.declared.report.Report.{Report}
-use Rattle.report_line.specs.declared.step.Deed.{Deed}
+use Rattle.report_line.specs.declared.step.StepKind.{StepKind}
 use Rattle.report_line.specs.histories.History.{Name, History}
 use Rattle.report_line.specs.histories.Lawful.{IsLawful}
 use Rattle.chains.specs.declared.position.Position.{Position}
@@ -79,16 +79,16 @@ turn_on root run later past _ _ w obeyed adds = same_on root run later past w ad
 
 -- ---- the whole account
 
-turns_behind : (o : Option Deed) (d : Doing) (trace : Trace) (held after : Held) → AreTurns held (steps_by o d ++ trace) after → AreTurns held trace after
+turns_behind : (o : Option StepKind) (d : Doing) (trace : Trace) (held after : Held) → AreTurns held (steps_by o d ++ trace) after → AreTurns held trace after
 turns_behind None d trace held after turns = turns
 turns_behind (Some deed) d trace held after turns = turns
 
-obey_from : (root : Name) (run : Run) (o : Option Deed) (d : Doing) (trace : Trace) → IsRight root run o d → ProcessesObey root (run_with o d run) trace → ProcessesObey root run (steps_by o d ++ trace)
+obey_from : (root : Name) (run : Run) (o : Option StepKind) (d : Doing) (trace : Trace) → IsRight root run o d → ProcessesObey root (run_with o d run) trace → ProcessesObey root run (steps_by o d ++ trace)
 obey_from root run None d trace right obey = obey
 obey_from root run (Some deed) d trace right obey = (right, obey)
 
 -- a run with a step that is right is obeyed, with what is held
-call_grows : (root : Name) (run : Run) (held : Held) (o : Option Deed) (d : Doing) → IsObeyed root run → IsHeldAfter run held → IsRight root run o d
+call_grows : (root : Name) (run : Run) (held : Held) (o : Option StepKind) (d : Doing) → IsObeyed root run → IsHeldAfter run held → IsRight root run o d
     → IsObeyed root (run_with o d run) × IsHeldAfter (run_with o d run) held
 call_grows root run held None d obeyed holds right = (obeyed, holds)
 call_grows root run held (Some deed) d obeyed holds right = step_grows root run held d.old.epoch (step_of d.old deed d.new) obeyed holds right

@@ -13,11 +13,11 @@ use Rattle.event_tree.specs.Join.{IsJoin}
 use Rattle.event_tree.proofs.Steps.{step_grown}
 use Rattle.stamp.specs.declared.stamp.Stamp.{Stamp}
 use Rattle.report_line.specs.declared.call.Call.TheVariants as calls
-use Rattle.report_line.specs.declared.report.Action.{Action}
-use Rattle.report_line.specs.declared.report.Action.TheVariants as reported
+use Rattle.report_line.specs.declared.report.ReportKind.{ReportKind}
+use Rattle.report_line.specs.declared.report.ReportKind.TheVariants as reported
 use Rattle.report_line.specs.Names.{is_letter, is_name_byte, is_name}
 use Rattle.report_line.specs.Spelling.{IsCount, IsAction}
-use Rattle.report_line.specs.declared.step.Deed.TheVariants as deeds
+use Rattle.report_line.specs.declared.step.StepKind.TheVariants as deeds
 use Rattle.report_line.specs.histories.History.{Name, History, event_of, sending}
 use Rattle.report_line.specs.Reading.{Spells}
 use Rattle.histories.specs.Example.{a, b, left, right, halves, act}
@@ -58,7 +58,7 @@ flat n few = record { normal = tt; shallow = omega arith; small = few }
 pub halved : (n x y : ℕ) → min x y ≡ 0 → (x == y) ≡ false → n + max x y ≤ value_limit → IsEvents (halves n x y)
 halved n x y least differs few = record { normal = (tt, tt, least, differs); shallow = omega arith; small = few }
 
-pub spells : (epoch : ℕ) (p : Name) (n : ℕ) (i : IdTree) (e : EventTree) (x : Action) → epoch < 2 ^ 32 → IsTrue (is_name p) → IsCount n → IsId i → IsEvents e → IsAction x
+pub spells : (epoch : ℕ) (p : Name) (n : ℕ) (i : IdTree) (e : EventTree) (x : ReportKind) → epoch < 2 ^ 32 → IsTrue (is_name p) → IsCount n → IsId i → IsEvents e → IsAction x
     → Spells (calls.Report (record { epoch = epoch; report = told p n i e x })) (line_of epoch (told p n i e x))
 spells epoch p n i e x low name count id events action =
     ((low, record { name = name; count = count; stamped = record { id = id; events = events }; acted = action }), refl)

@@ -2,9 +2,9 @@
 use Rattle.std.specs.Prelude.{◌≡◌, ℕ, ◌+◌, List, [], ◌∷◌, ◌++◌, Option, Some, None}
 use Rattle.report_line.specs.declared.call.Call.{Call}
 use Rattle.report_line.specs.declared.reply.Reply.{Reply}
-use Rattle.report_line.specs.declared.report.Action.TheVariants as actions
-use Rattle.report_line.specs.declared.step.Deed.{Deed}
-use Rattle.report_line.specs.declared.step.Deed.TheVariants as deeds
+use Rattle.report_line.specs.declared.report.ReportKind.TheVariants as actions
+use Rattle.report_line.specs.declared.step.StepKind.{StepKind}
+use Rattle.report_line.specs.declared.step.StepKind.TheVariants as deeds
 use Rattle.report_line.specs.histories.History.{Name}
 use Rattle.settled_turns.specs.Traces.{Trace, Stepped, Turned}
 use Rattle.process.specs.declared.process.Process.{Process}
@@ -62,7 +62,7 @@ abbrev pub IsDone : Doing → Type 0
 IsDone d = DoesSo d.act d.old d.new
 
 -- The deed of a call behind so many others, where it is a step of the history. A message is named by the number of the call that sent it.
-abbrev pub deed_of : ℕ → Act → Option Deed
+abbrev pub deed_of : ℕ → Act → Option StepKind
 deed_of n Work = Some deeds.Work
 deed_of n (Send message) = Some (deeds.Send (n ∷ []))
 deed_of n (Again from message again) = None
@@ -76,7 +76,7 @@ deed_of n (Absorb from retirement line) = Some (deeds.Absorb retirement.process)
 deed_of n (Return epoch) = None
 
 -- its step, with the epoch of the process
-abbrev pub steps_by : Option Deed → Doing → Trace
+abbrev pub steps_by : Option StepKind → Doing → Trace
 steps_by None d = []
 steps_by (Some deed) d = Stepped d.old.epoch (record { process = d.old.name; deed = deed; stamp = d.new.stamp }) ∷ []
 

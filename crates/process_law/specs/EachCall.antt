@@ -2,7 +2,7 @@
 use Rattle.std.specs.Prelude.{◌≡◌, ◌≢◌, ℕ, Option, Some, None, List, [], ◌∷◌, ⊤}
 use Rattle.report_line.specs.declared.call.Call.TheVariants as calls
 use Rattle.report_line.specs.declared.report.Report.{Report}
-use Rattle.report_line.specs.declared.step.Deed.{Deed}
+use Rattle.report_line.specs.declared.step.StepKind.{StepKind}
 use Rattle.report_line.specs.declared.step.Step.{Step}
 use Rattle.report_line.specs.histories.History.{Name, History, Event, Unborn, Living, Retired, status, sending}
 use Rattle.report_line.specs.histories.Lawful.{IsAllowed}
@@ -24,7 +24,7 @@ pub record LivesAs (root : Name) (h : History) (s : Process) : Type 0 where
   pub reports : s.reports ≡ reporting_steps s.name h
 
 -- the step of a call
-abbrev pub step_of : Process → Deed → Process → Step
+abbrev pub step_of : Process → StepKind → Process → Step
 step_of old deed new = record { process = old.name; deed = deed; stamp = new.stamp }
 
 -- the message of this call is sent, with what it tells
@@ -58,7 +58,7 @@ IsTold e o (line ∷ []) = (r : Report) × (o ≡ Some r) × Spells (calls.Repor
 IsTold e o (line ∷ other ∷ lines) = ⊥
 
 -- The step is allowed from the process's last event; its line is that of the report; and the process lives on as the call left it, if it does.
-pub record IsAllowedCall (root : Name) (h : History) (n : ℕ) (d : Doing) (deed : Deed) (before : Event) : Type 0 where
+pub record IsAllowedCall (root : Name) (h : History) (n : ℕ) (d : Doing) (deed : StepKind) (before : Event) : Type 0 where
   pub allowed : IsAllowed root h before (step_of d.old deed d.new) deed
   pub told : IsTold d.old.epoch (report_of root h (step_of d.old deed d.new)) (line_given d.act)
   pub lives : (s : Process) → goes_on d.act d.new ≡ Some s → LivesAs root (step_of d.old deed d.new ∷ h) s
@@ -67,7 +67,7 @@ pub record IsAllowedCall (root : Name) (h : History) (n : ℕ) (d : Doing) (deed
 
 abbrev pub EachCallIsAllowed : Type 0
 EachCallIsAllowed =
-    (root : Name) (h : History) (n : ℕ) (d : Doing) (deed : Deed) (w : LivesAs root h d.old) → IsDone d → deed_of n d.act ≡ Some deed → IsFrom root h n d.act d.old
+    (root : Name) (h : History) (n : ℕ) (d : Doing) (deed : StepKind) (w : LivesAs root h d.old) → IsDone d → deed_of n d.act ≡ Some deed → IsFrom root h n d.act d.old
     → IsAllowedCall root h n d deed w.event
 
 -- A message that is handed over once more is sent where the one that was handed in is: it may be received over the same histories.

@@ -10,7 +10,7 @@ use Rattle.report_line.specs.declared.call.Call.TheVariants as calls
 use Rattle.report_line.specs.declared.reply.Reply.{Reply}
 use Rattle.report_line.specs.declared.reply.Reply.TheVariants.{Accepted}
 use Rattle.report_line.specs.declared.report.Report.TheVariants as reports
-use Rattle.report_line.specs.declared.step.Deed.{Deed}
+use Rattle.report_line.specs.declared.step.StepKind.{StepKind}
 use Rattle.report_line.specs.histories.History.{Name, Event, sending}
 use Rattle.report_line.specs.Reading.{Spells}
 use Rattle.report_line.specs.histories.StepReports.{reporting_steps}
@@ -137,7 +137,7 @@ IsHandedIn root past (calls.Report m) (Accepted front) =
 IsHandedIn root past call reply = ⊤
 
 -- the run with the step of a call
-abbrev pub run_with : Option Deed → Doing → Run → Run
+abbrev pub run_with : Option StepKind → Doing → Run → Run
 run_with None d run = run
 run_with (Some deed) d run = Made d.old.epoch (record { process = d.old.name; deed = deed; stamp = d.new.stamp }) ∷ run
 

@@ -4,8 +4,8 @@ use Rattle.std.specs.Prelude.{slice_index, Contains}
 use Rattle.std.specs.Option.{option_map_or, is_some}
 use Rattle.std.proofs.lemmas.Bool.{cases_lt, true≢false}
 use Rattle.std.proofs.lemmas.List.{ext_get_or, append-nil}
-use Rattle.report_line.specs.declared.report.Action.{Action}
-use Rattle.report_line.specs.declared.report.Action.TheVariants.{Present}
+use Rattle.report_line.specs.declared.report.ReportKind.{ReportKind}
+use Rattle.report_line.specs.declared.report.ReportKind.TheVariants.{Present}
 use Rattle.report_line.specs.declared.report.Report.{Report}
 use Rattle.report_line.specs.declared.report.Report.TheVariants.{Begin, Numbered}
 use Rattle.stamp.specs.declared.stamp.Stamp.{Stamp}
@@ -23,7 +23,7 @@ use Rattle.propagate.proofs.Ranked.{rank_at, rank_at_below, chosen_position, pos
 
 -- ---- a retired process has no present state
 
-no_present_by : (s : Stamp) (a : Action) → is_some (target_in a) ≡ true → present_by s a ≡ []
+no_present_by : (s : Stamp) (a : ReportKind) → is_some (target_in a) ≡ true → present_by s a ≡ []
 no_present_by s Present e = absurd (true≢false (sym e))
 no_present_by s _ e = refl
 

@@ -8,10 +8,10 @@ use Rattle.report_line.specs.declared.report.Report.{Report}
 use Rattle.chains.specs.declared.position.Position.{Position}
 use Rattle.chains.specs.declared.position.Position.TheVariants.{At, Retired}
 use Rattle.stamp.specs.declared.stamp.Stamp.{Stamp}
-use Rattle.report_line.specs.declared.report.Action.{Action}
+use Rattle.report_line.specs.declared.report.ReportKind.{ReportKind}
 use Rattle.chains.specs.Processes.{Name, known, target_of, last_report, target_in, target_after}
 use Rattle.report_line.specs.declared.report.Report.TheVariants.{Begin, Numbered}
-use Rattle.report_line.specs.declared.report.Action.TheVariants.{Check, Present, Fork, Retire, Absorb}
+use Rattle.report_line.specs.declared.report.ReportKind.TheVariants.{Check, Present, Fork, Retire, Absorb}
 use Rattle.chains.specs.Elements.{name_of, elements, elements_of, lasting_of, present_by, present_in}
 use Rattle.chains.specs.Positions.{IsSurviving, IsLastSurviving, IsChosen, is_retired, rank}
 
@@ -51,7 +51,7 @@ element_at accepted failed p m k h one = (
   λ le. (one, omega (arith, h.surviving.1), λ there. let last = h.surviving.2 there in omega arith),
 )
 
-present_by_none : (s : Stamp) (a : Action) → is_some (target_in a) ≡ true → length (present_by s a) ≡ 0
+present_by_none : (s : Stamp) (a : ReportKind) → is_some (target_in a) ≡ true → length (present_by s a) ≡ 0
 present_by_none s Check e = absurd (true≢false (sym e))
 present_by_none s Present e = absurd (true≢false (sym e))
 present_by_none s (Fork f) e = absurd (true≢false (sym e))

@@ -11,8 +11,8 @@ use Rattle.report_line.specs.Spelling.{spelling, HasSpelling, action_word, actio
 use Rattle.std.specs.List.{join_with_byte}
 use Rattle.std.specs.Fmt.{decimal}
 use Rattle.stamp.specs.Stamps.{stamp_text}
-use Rattle.report_line.specs.declared.report.Action.{Action}
-use Rattle.report_line.specs.declared.report.Action.TheVariants.{Check, Present, Fork, Retire, Absorb}
+use Rattle.report_line.specs.declared.report.ReportKind.{ReportKind}
+use Rattle.report_line.specs.declared.report.ReportKind.TheVariants.{Check, Present, Fork, Retire, Absorb}
 use Rattle.report_line.specs.declared.report.Report.{Report}
 use Rattle.report_line.specs.declared.report.Report.TheVariants as reports
 use Rattle.report_line.specs.declared.call.Call.{Call}
@@ -30,8 +30,8 @@ use Rattle.session.specs.Turned.{AreExchanges, EachLineIsChosen, IsExchange, Sho
 use Rattle.session.specs.Ends.{Ended, Leaves}
 use Rattle.session.specs.declared.handing.HandOn.{HandOn}
 use Rattle.session.specs.declared.handing.HandOn.TheVariants as hand_ons
-use Rattle.session.specs.declared.kind.Kind.{Kind}
-use Rattle.session.specs.declared.kind.Kind.TheVariants as kinds
+use Rattle.session.specs.declared.kind.SessionEndKind.{SessionEndKind}
+use Rattle.session.specs.declared.kind.SessionEndKind.TheVariants as kinds
 use Rattle.recline.specs.Driving.{WritesAll}
 use Rattle.recline.specs.Outcome.{IsOpened, Tells}
 use Rattle.recline.specs.Asking.{AsksDesk, AsksOn, AsksOpened, AsksOver, IsAnswered, IsAnsweredByLine, IsAsked, IsAskedOf, IsRefused, IsReplied, HandsOver, HasReply, ShowsRight, asked_fault, asked_status, asking, is_line, keeps_always, question_line, refusal_line}
@@ -84,7 +84,7 @@ no_letter : (n k : ℕ) → IsLetter n → n ≡ k → k ≢ 76 → k ≢ 71 →
 no_letter n k (inl is) same no_l no_g = no_l (sym same ∙ is)
 no_letter n k (inr is) same no_l no_g = no_g (sym same ∙ is)
 
-action_letter : (n : ℕ) (a : Action) (mark rest : List ℕ) → IsLetter n → n ≡ letter ((action_word a ++ mark) ++ rest) → ⊥
+action_letter : (n : ℕ) (a : ReportKind) (mark rest : List ℕ) → IsLetter n → n ≡ letter ((action_word a ++ mark) ++ rest) → ⊥
 action_letter n Check mark rest is same = no_letter n 67 is same (λ e. omega (arith, e)) (λ e. omega (arith, e))
 action_letter n Present mark rest is same = no_letter n 80 is same (λ e. omega (arith, e)) (λ e. omega (arith, e))
 action_letter n (Fork f) mark rest is same = no_letter n 70 is same (λ e. omega (arith, e)) (λ e. omega (arith, e))
@@ -122,7 +122,7 @@ all_read None line read consumed ends = absurd consumed
 all_read (Some more) line read consumed ends = consumed ∙ ap (λ (l : List ℕ). read ++ l) ends ∙ append-nil read
 
 -- a session with a client that sends this line alone
-abbrev IsOne : {D : Type 0} → (D → Type 0) → HandOn → List ℕ → LinkState → DeskState D → DeskState D → Kind → ℕ → Type 0
+abbrev IsOne : {D : Type 0} → (D → Type 0) → HandOn → List ℕ → LinkState → DeskState D → DeskState D → SessionEndKind → ℕ → Type 0
 IsOne keeps when line link desk after kind count = Ended keeps (λ (state : LinkState). state) when (asking (ended line)) link desk after kind count
 
 -- the line took one turn over what is held, and the reply is what is shown for it
@@ -209,7 +209,7 @@ by_letter_4 reply true is status = absurd (omega (arith, status))
 by_letter_4 reply false is status = is
 
 -- a whole reply: the session ended with its input, or the line was too long
-ends_whole : (kind : Kind) → HasReply kind → (kind ≡ kinds.End) ⊎ (kind ≡ kinds.TooLong)
+ends_whole : (kind : SessionEndKind) → HasReply kind → (kind ≡ kinds.End) ⊎ (kind ≡ kinds.TooLong)
 ends_whole kinds.End whole = inl refl
 ends_whole kinds.TooLong whole = inr refl
 ends_whole kinds.Bye whole = absurd whole
@@ -239,15 +239,15 @@ replied held line reply old new writes s = record {
 shown_by : {F : Type 0} (faults_told : F → LinkState) (question : Question) (desk after : DeskState MemoryDisk) (client client_after : LinkState) (faults faults_after : F) (status : ℕ)
     → IsLine (question_line question) → (a : IsAskedOf faults_told (ended (question_line question)) desk after client client_after faults faults_after status) → a.kind ≡ kinds.End → IsShownBy desk.held (question_line question) a.reply
 shown_by faults_told question desk after client client_after faults faults_after status is a ends =
-    let session = subst (λ (k : Kind). Ended keeps_always (λ (state : LinkState). state) hand_ons.EachRead (asking (ended (question_line question))) a.link desk after k a.replies) ends a.session in
-    let leaves = subst (λ (k : Kind). Leaves k (asking (ended (question_line question))) a.link) ends a.leaves in
+    let session = subst (λ (k : SessionEndKind). Ended keeps_always (λ (state : LinkState). state) hand_ons.EachRead (asking (ended (question_line question))) a.link desk after k a.replies) ends a.session in
+    let leaves = subst (λ (k : SessionEndKind). Leaves k (asking (ended (question_line question))) a.link) ends a.leaves in
     reply_at_end keeps_always hand_ons.EachRead question a.link desk after a.replies a.reply is session leaves a.reply_is
 
 not_too_long : {F : Type 0} (faults_told : F → LinkState) (question : Question) (desk after : DeskState MemoryDisk) (client client_after : LinkState) (faults faults_after : F) (status : ℕ)
     → IsLine (question_line question) → (a : IsAskedOf faults_told (ended (question_line question)) desk after client client_after faults faults_after status) → a.kind ≡ kinds.TooLong → ⊥
 not_too_long faults_told question desk after client client_after faults faults_after status is a ends =
     no_limit_end keeps_always hand_ons.EachRead (question_line question) a.link desk after a.replies is
-    (subst (λ (k : Kind). Ended keeps_always (λ (state : LinkState). state) hand_ons.EachRead (asking (ended (question_line question))) a.link desk after k a.replies) ends a.session)
+    (subst (λ (k : SessionEndKind). Ended keeps_always (λ (state : LinkState). state) hand_ons.EachRead (asking (ended (question_line question))) a.link desk after k a.replies) ends a.session)
 
 -- so the session ended with its input
 at_end : {F : Type 0} (faults_told : F → LinkState) (question : Question) (desk after : DeskState MemoryDisk) (client client_after : LinkState) (faults faults_after : F) (status : ℕ)

@@ -23,8 +23,8 @@ use Rattle.session.specs.Exchanges.{Exchange}
 use Rattle.session.specs.SessionText.{Means, exchange_line}
 use Rattle.session.specs.Turned.{IsExchange, ShowsChosen}
 use Rattle.session.specs.declared.handing.HandOn.TheVariants as hand_ons
-use Rattle.session.specs.declared.kind.Kind.{Kind}
-use Rattle.session.specs.declared.kind.Kind.TheVariants as kinds
+use Rattle.session.specs.declared.kind.SessionEndKind.{SessionEndKind}
+use Rattle.session.specs.declared.kind.SessionEndKind.TheVariants as kinds
 use Rattle.recline.specs.Driving.{WritesAll, WritesPart}
 use Rattle.recline.specs.Outcome.{IsNotOpened, IsOpened, Tells, open_fault_line}
 use Rattle.recline.specs.declared.asking.Question.{Question}
@@ -76,7 +76,7 @@ HandsOver faults_told reply client client_after faults faults_after status =
 
 -- A session with a question has its whole reply: it ended with its input, or with a line that is too long. One line in memory ends no session
 -- otherwise, unless memory is missing.
-abbrev pub HasReply : Kind → Type 0
+abbrev pub HasReply : SessionEndKind → Type 0
 HasReply kinds.End = ⊤
 HasReply kinds.TooLong = ⊤
 HasReply _ = ⊥
@@ -95,7 +95,7 @@ keeps_always disk = Unit {0}
 -- over.
 pub record IsAskedOf {F : Type 0} (faults_told : F → LinkState) (sent : List ℕ) (desk after : DeskState MemoryDisk) (client client_after : LinkState) (faults faults_after : F) (status : ℕ) : Type 0 where
   pub link : LinkState
-  pub kind : Kind
+  pub kind : SessionEndKind
   pub replies : ℕ
   pub session : Ended keeps_always (λ (state : LinkState). state) hand_ons.EachRead (asking sent) link desk after kind replies
   pub leaves : Leaves kind (asking sent) link

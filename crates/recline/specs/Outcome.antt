@@ -12,15 +12,15 @@ use Rattle.desk.specs.Openings.{CountsDeskFault, RefusesFile, LeavesFile}
 use Rattle.desk.specs.declared.fault.DeskFault.{DeskFault}
 use Rattle.desk.specs.declared.fault.DeskFault.TheVariants as opening
 use Rattle.report_line.specs.Cutting.{ended}
-use Rattle.session.specs.declared.kind.Kind.{Kind}
+use Rattle.session.specs.declared.kind.SessionEndKind.{SessionEndKind}
 use Rattle.session.specs.declared.handing.HandOn.{HandOn}
-use Rattle.session.specs.declared.kind.Kind.TheVariants as kinds
+use Rattle.session.specs.declared.kind.SessionEndKind.TheVariants as kinds
 use Rattle.client_link.specs.Links.{LinkState, IsSound, IsFault}
 use Rattle.session.specs.Ends.{Ended, Leaves}
 
 -- The status of the process: the client's input was answered to an end that is its own; or a device or memory failed, be it in a
 -- turn, so that the store is stopped; or all turns were made, or the input had no end.
-abbrev pub status_of : Kind → Bool → ℕ
+abbrev pub status_of : SessionEndKind → Bool → ℕ
 status_of kinds.End stopped = if stopped then 3 else 0
 status_of kinds.Bye stopped = if stopped then 3 else 0
 status_of kinds.TooLong stopped = if stopped then 3 else 0
@@ -29,7 +29,7 @@ status_of kinds.Endless stopped = if stopped then 3 else 5
 status_of _ stopped = 3
 
 -- the fault line; most ends have none
-abbrev pub fault_line : Kind → List ℕ
+abbrev pub fault_line : SessionEndKind → List ℕ
 fault_line kinds.Memory = ended (codes "recline: memory")
 fault_line kinds.ReadFailed = ended (codes "recline: device")
 fault_line kinds.WriteFailed = ended (codes "recline: device")
@@ -56,7 +56,7 @@ pub record Tells (old new : LinkState) (line : List ℕ) : Type 0 where
 
 -- A session with the client ended so over a desk; the status and the fault line say how.
 pub record Runs {D K F : Type 0} (keeps : D → Type 0) (client_told : K → LinkState) (faults_told : F → LinkState) (when : HandOn) (client client_after : K) (faults faults_after : F) (desk after : DeskState D) (status : ℕ) : Type 0 where
-  pub kind : Kind
+  pub kind : SessionEndKind
   pub replies : ℕ
   pub session : Ended keeps client_told when client client_after desk after kind replies
   pub leaves : Leaves kind (client_told client) (client_told client_after)

@@ -10,8 +10,8 @@ use Rattle.coordinator.specs.Closing.{IsEnded, IsRemainder}
 use Rattle.coordinator.specs.declared.fault.CloseFault.{CloseFault}
 use Rattle.coordinator.specs.declared.fault.CloseFault.TheVariants as faults
 use Rattle.report_line.specs.Cutting.{ended}
-use Rattle.session.specs.declared.kind.Kind.{Kind}
-use Rattle.session.specs.declared.kind.Kind.TheVariants as ways
+use Rattle.session.specs.declared.kind.SessionEndKind.{SessionEndKind}
+use Rattle.session.specs.declared.kind.SessionEndKind.TheVariants as ways
 use Rattle.client_link.specs.Links.{LinkState, IsSound}
 use Rattle.session.specs.Sessions.{WasServed}
 use Rattle.recline.specs.Outcome.{IsOpened, IsNotOpened, Tells}
@@ -48,31 +48,31 @@ stopped_by (faults.Missing shares turns) = stops.Foreign
 
 -- A session was served with this pass, from when it was new, and ended so. The link is one that a worker handed back: a value of
 -- the type of links, and not only what some link tells.
-pub record IsOfSession {D K : Type 0} (keeps : D → Type 0) (view : D → View) (client_told : K → LinkState) (pass : PassState) (kind : Kind) : Type 0 where
+pub record IsOfSession {D K : Type 0} (keeps : D → Type 0) (view : D → View) (client_told : K → LinkState) (pass : PassState) (kind : SessionEndKind) : Type 0 where
   pub link : K
   pub replies : ℕ
   pub served : WasServed keeps view client_told link pass kind replies
 
 -- a session each
-abbrev pub AreOfSessions : {D K : Type 0} → (D → Type 0) → (D → View) → (K → LinkState) → List PassState → List Kind → Type 0
+abbrev pub AreOfSessions : {D K : Type 0} → (D → Type 0) → (D → View) → (K → LinkState) → List PassState → List SessionEndKind → Type 0
 AreOfSessions keeps view client_told [] [] = ⊤
 AreOfSessions keeps view client_told (pass ∷ passes) (kind ∷ kinds) = ∥ IsOfSession keeps view client_told pass kind ∥₁ × AreOfSessions keeps view client_told passes kinds
 AreOfSessions keeps view client_told [] (kind ∷ kinds) = ⊥
 AreOfSessions keeps view client_told (pass ∷ passes) [] = ⊥
 
 -- a client whose session ends so is dropped, since memory was wanting
-abbrev pub drops : Kind → ℕ
+abbrev pub drops : SessionEndKind → ℕ
 drops ways.Memory = 1
 drops _ = 0
 
 -- how many clients were dropped
-abbrev pub dropped_in : List Kind → ℕ
+abbrev pub dropped_in : List SessionEndKind → ℕ
 dropped_in [] = 0
 dropped_in (kind ∷ kinds) = drops kind + dropped_in kinds
 
 -- a session was served with each pass, and so many clients were dropped
 abbrev pub AreServed : {D K : Type 0} → (D → Type 0) → (D → View) → (K → LinkState) → List PassState → ℕ → Type 0
-AreServed keeps view client_told passes dropped = (kinds : List Kind) × AreOfSessions keeps view client_told passes kinds × (dropped ≡ dropped_in kinds)
+AreServed keeps view client_told passes dropped = (kinds : List SessionEndKind) × AreOfSessions keeps view client_told passes kinds × (dropped ≡ dropped_in kinds)
 
 -- Over what was held at the opening so many sessions were served, each with a pass of its own, and so many clients were dropped. The
 -- coordinator ended with just these passes, and left the disk so. The port and the front were printed.

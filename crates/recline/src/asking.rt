@@ -10,7 +10,7 @@ use crate::telling::{tell, tell_all, tell_unopened, write_all};
 use client_link::{Link, MemoryLink};
 use desk::{Desk, DeskFault};
 use line_disk::MemoryDisk;
-use session::{HandOn, Kind, run};
+use session::{HandOn, SessionEndKind, run};
 use std::alloc::{AllocError, Global};
 
 /// What may be asked. A report or a settlement is no question: over a copy that is thrown away its `OK` would be untrue.
@@ -137,18 +137,18 @@ fn hand_over<K: Link, F: Link>(client: &mut K, faults: &mut F, reply: &[u8]) -> 
 }
 
 /// Whether a session that ended so has its whole reply. One line in memory ends no session otherwise, unless memory is missing.
-fn has_reply(kind: Kind) -> bool
+fn has_reply(kind: SessionEndKind) -> bool
     ensures { IsTrue result ↔ HasReply kind }
 {
     match kind {
-        Kind::End | Kind::TooLong => true,
-        Kind::Bye
-        | Kind::Worn
-        | Kind::Memory
-        | Kind::ReadFailed
-        | Kind::WriteFailed
-        | Kind::Endless
-        | Kind::Foreign => false,
+        SessionEndKind::End | SessionEndKind::TooLong => true,
+        SessionEndKind::Bye
+        | SessionEndKind::Worn
+        | SessionEndKind::Memory
+        | SessionEndKind::ReadFailed
+        | SessionEndKind::WriteFailed
+        | SessionEndKind::Endless
+        | SessionEndKind::Foreign => false,
     }
 }
 

@@ -5,6 +5,6 @@ use std::thread::Threads;
 use std::time::Clock;
 
 /// What a service runs on: threads that wait for each other and for clients, by a clock.
-pub trait Host: Threads + Wait + Clock + Clone + Drop + Send + Sync {}
+pub trait ServiceRuntime: Threads + Wait + Clock + Clone + Drop + Send + Sync {}
 
-impl<R: Threads + Wait + Clock + Clone + Drop + Send + Sync> Host for R {}
+impl<R: Threads + Wait + Clock + Clone + Drop + Send + Sync> ServiceRuntime for R {}

@@ -29,7 +29,7 @@ pub use drawing::{draw_on, draw_records_on};
 pub use driving::drive_on;
 pub use earlier::at_front;
 pub use explaining::explain_on;
-pub use host::Host;
+pub use host::ServiceRuntime;
 pub use notices::{MOST_LINES, MOST_PROCESSES, is_near};
 pub use running::{run_handing_on, run_on, run_over};
 pub use serving::{Service, serve_on};

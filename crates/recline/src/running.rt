@@ -8,30 +8,41 @@ use crate::telling::{tell, tell_unopened};
 use client_link::Link;
 use desk::Desk;
 use line_disk::Disk;
-use session::{HandOn, Kind, Unwatched, Watch, run_watched};
+use session::{HandOn, SessionEndKind, Unwatched, Watch, run_watched};
 use std::alloc::Global;
 
 /// The status of the process for a session that ended so over a desk, which may be stopped.
-fn status_for(kind: Kind, stopped: bool) -> u8
+fn status_for(kind: SessionEndKind, stopped: bool) -> u8
     ensures { result ≡ status_of kind stopped }
 {
     match kind {
         // No session over a desk ends as Foreign.
-        Kind::Memory | Kind::ReadFailed | Kind::WriteFailed | Kind::Foreign => 3,
-        Kind::End | Kind::Bye | Kind::TooLong => if stopped { 3 } else { 0 },
-        Kind::Worn | Kind::Endless => if stopped { 3 } else { 5 },
+        SessionEndKind::Memory
+        | SessionEndKind::ReadFailed
+        | SessionEndKind::WriteFailed
+        | SessionEndKind::Foreign => 3,
+        SessionEndKind::End | SessionEndKind::Bye | SessionEndKind::TooLong => if stopped {
+            3
+        } else {
+            0
+        },
+        SessionEndKind::Worn | SessionEndKind::Endless => if stopped { 3 } else { 5 },
     }
 }
 
 /// The fault line for a session that ended so, if it has one.
-fn fault_for(kind: Kind) -> &'static [u8]
+fn fault_for(kind: SessionEndKind) -> &'static [u8]
     ensures { result.now ≡ fault_line kind }
 {
     match kind {
-        Kind::Memory => b"recline: memory\n".as_slice(),
-        Kind::ReadFailed | Kind::WriteFailed => b"recline: device\n".as_slice(),
-        Kind::End | Kind::Bye | Kind::TooLong | Kind::Worn | Kind::Endless | Kind::Foreign =>
-            b"".as_slice(),
+        SessionEndKind::Memory => b"recline: memory\n".as_slice(),
+        SessionEndKind::ReadFailed | SessionEndKind::WriteFailed => b"recline: device\n".as_slice(),
+        SessionEndKind::End
+        | SessionEndKind::Bye
+        | SessionEndKind::TooLong
+        | SessionEndKind::Worn
+        | SessionEndKind::Endless
+        | SessionEndKind::Foreign => b"".as_slice(),
     }
 }
 

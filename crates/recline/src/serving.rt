@@ -8,7 +8,7 @@ ghost use Rattle.recline.specs.Serving.{AreLimited, AreServed, EndsNot, EndsShor
 ghost use Rattle.coordinator.specs.Closing.{IsEnded, IsRemainder};
 ghost use Rattle.coordinator.specs.Passes.{ledger_parts};
 
-use crate::host::Host;
+use crate::host::ServiceRuntime;
 use crate::telling::{tell, tell_all, tell_unopened, write_pieces};
 use crate::watching::{Door, watch, watch_end};
 use client_link::{ClientConnection, Link, LinkFault};
@@ -18,7 +18,7 @@ use desk::Desk;
 use itoa::Buffer;
 use line_disk::Disk;
 use report_line::Reply;
-use session::{Kind, Served, workers};
+use session::{Served, SessionEndKind, workers};
 use std::alloc::{AllocError, Global};
 use std::io::{self, ErrorKind};
 use std::marker::Brand;
@@ -243,7 +243,7 @@ fn serve_sessions<
     D: Disk + Send + Drop,
     T: OpenListener<Stream = TcpStream> + Sync,
     W: Link + Send + Drop,
-    R: Host,
+    R: ServiceRuntime,
 >(
     rt: &R,
     alloc: Global,
@@ -326,20 +326,20 @@ fn serve_sessions<
 }
 
 /// How many clients were dropped once a session more ended so.
-fn dropped_by(dropped: u64, kind: Kind) -> Result<u64, AllocError>
+fn dropped_by(dropped: u64, kind: SessionEndKind) -> Result<u64, AllocError>
     ensures { IfOk result (λ n. n ≡ dropped + drops kind) }
 {
     match kind {
         // There are never so many sessions that this fails.
-        Kind::Memory => dropped.checked_add(1).ok_or(AllocError),
-        Kind::End
-        | Kind::Bye
-        | Kind::TooLong
-        | Kind::Worn
-        | Kind::ReadFailed
-        | Kind::WriteFailed
-        | Kind::Endless
-        | Kind::Foreign => Ok(dropped),
+        SessionEndKind::Memory => dropped.checked_add(1).ok_or(AllocError),
+        SessionEndKind::End
+        | SessionEndKind::Bye
+        | SessionEndKind::TooLong
+        | SessionEndKind::Worn
+        | SessionEndKind::ReadFailed
+        | SessionEndKind::WriteFailed
+        | SessionEndKind::Endless
+        | SessionEndKind::Foreign => Ok(dropped),
     }
 }
 
@@ -410,7 +410,7 @@ fn serve_clients<
     T: OpenListener<Stream = TcpStream> + Sync,
     O: Link,
     W: Link + Send + Drop,
-    R: Host,
+    R: ServiceRuntime,
 >(
     rt: &R,
     alloc: Global,
@@ -488,7 +488,12 @@ fn lines_in<L: Ledger>(passes: &[Pass<L>]) -> u64 {
 
 /// Ends a coordinator with these passes. If that takes longer than a second, it is printed how many lines are checked, provided that there is
 /// a link of notices and a thread for it.
-fn finish_watched<L: Ledger + Send + Sync, D: Disk + Send + Drop, W: Link + Send + Drop, R: Host>(
+fn finish_watched<
+    L: Ledger + Send + Sync,
+    D: Disk + Send + Drop,
+    W: Link + Send + Drop,
+    R: ServiceRuntime,
+>(
     rt: &R,
     alloc: Global,
     coordinator: Coordinator<L, D>,
@@ -564,7 +569,7 @@ fn serve_over<
     T: OpenListener<Stream = TcpStream> + Sync,
     O: Link,
     W: Link + Send + Drop,
-    R: Host,
+    R: ServiceRuntime,
 >(
     rt: &R,
     alloc: Global,
@@ -608,7 +613,7 @@ fn serve_desk<
     T: OpenListener<Stream = TcpStream> + Sync,
     O: Link,
     W: Link + Send + Drop,
-    R: Host,
+    R: ServiceRuntime,
 >(
     rt: &R,
     alloc: Global,
@@ -677,7 +682,7 @@ pub fn serve_on<
     O: Link,
     F: Link,
     W: Link + Send + Drop,
-    R: Host,
+    R: ServiceRuntime,
 >(
     rt: &R,
     alloc: Global,

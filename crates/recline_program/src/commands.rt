@@ -12,8 +12,8 @@ use client_link::{Link, Streams};
 use crossbeam_channel::{Receiver, Sender, bounded};
 use line_disk::{FileDisk, Modelled, NullDisk};
 use recline::{
-    Form, HandOn, Host, Question, ScriptForm, Service, ask_on, check_on, copy_of, draw_on,
-    draw_records_on, run_handing_on, serve_on, show_front_on, show_on,
+    Form, HandOn, Question, ScriptForm, Service, ServiceRuntime, ask_on, check_on, copy_of,
+    draw_on, draw_records_on, run_handing_on, serve_on, show_front_on, show_on,
 };
 use std::alloc::{AllocError, Global};
 use std::io::{self, BufWriter};
@@ -76,7 +76,7 @@ fn listener_on(teller: Teller<'_>, port: u16) -> Result<TcpListener, u8> {
 
 /// Serves clients that connect to this port of the machine itself over the record file of this path, and answers the status and the output. The
 /// numbers are those of sessions, of workers, and of the seconds that a client may rest.
-pub(crate) fn serve_over_file<T: Host, O: Link + Drop, F: Link + Drop>(
+pub(crate) fn serve_over_file<T: ServiceRuntime, O: Link + Drop, F: Link + Drop>(
     teller: Teller<'_>,
     threads: &T,
     path: &str,
@@ -120,7 +120,7 @@ const ROOM_BESIDE_PATH: usize = 256;
 
 /// What a service that tells why something fails has beside its disk and its listener.
 #[derive(Drop)]
-struct Explaining<T: Host> {
+struct Explaining<T: ServiceRuntime> {
     /// Hands over why the disk fails.
     of_disk: Reporter<T>,
     /// Hands over why the listener fails.
@@ -136,7 +136,10 @@ struct Explaining<T: Host> {
 }
 
 /// Two reporters of one channel, if there is memory for them.
-fn reporters<T: Host>(threads: &T, whys: Sender<Why>) -> Option<(Reporter<T>, Reporter<T>)> {
+fn reporters<T: ServiceRuntime>(
+    threads: &T,
+    whys: Sender<Why>,
+) -> Option<(Reporter<T>, Reporter<T>)> {
     let more: Result<Sender<Why>, AllocError> = whys.clone();
     let handle: Result<T, AllocError> = threads.clone();
     let another: Result<T, AllocError> = threads.clone();
@@ -149,7 +152,7 @@ fn reporters<T: Host>(threads: &T, whys: Sender<Why>) -> Option<(Reporter<T>, Re
 }
 
 /// Two reporters and the other end of their channel, if there is memory for them.
-fn reporters_with_end<T: Host>(
+fn reporters_with_end<T: ServiceRuntime>(
     alloc: Global,
     threads: &T,
 ) -> Option<(Reporter<T>, Reporter<T>, Receiver<Why>)> {
@@ -158,7 +161,7 @@ fn reporters_with_end<T: Host>(
     Some((of_disk, of_listener, told))
 }
 
-impl<T: Host> Explaining<T> {
+impl<T: ServiceRuntime> Explaining<T> {
     /// All of it, with room for lines that name this path, if there is memory for it.
     fn new(alloc: Global, threads: &T, path: &str) -> Option<Explaining<T>> {
         let line = String::with_capacity(alloc, path.len().saturating_add(ROOM_BESIDE_PATH)).ok()?;
@@ -176,7 +179,7 @@ impl<T: Host> Explaining<T> {
 }
 
 /// Serves clients over this disk and this listener, and tells why one of these fails while it goes on, where a thread is to be had for that.
-fn serve_with_reasons<T: Host, O: Link + Drop, F: Link + Drop>(
+fn serve_with_reasons<T: ServiceRuntime, O: Link + Drop, F: Link + Drop>(
     teller: Teller<'_>,
     threads: &T,
     path: &str,
@@ -229,7 +232,7 @@ fn serve_with_reasons<T: Host, O: Link + Drop, F: Link + Drop>(
 }
 
 /// Serves the clients of this listener over this disk.
-fn serve<T: Host, O: Link + Drop, F: Link + Drop>(
+fn serve<T: ServiceRuntime, O: Link + Drop, F: Link + Drop>(
     teller: Teller<'_>,
     threads: &T,
     disk: ReportedDisk<Modelled, T>,

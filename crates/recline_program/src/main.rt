@@ -17,7 +17,7 @@ use commands::{
 };
 use files::explain_damage;
 use hearing::Heard;
-use recline::{Form, Host, Question, drive_on, explain_on};
+use recline::{Form, Question, ServiceRuntime, drive_on, explain_on};
 use std::env;
 use std::io::{self, BufWriter, Read};
 use std::process::ExitCode;
@@ -36,7 +36,7 @@ fn words_of(rt: &HostRuntime) -> io::Result<Vec<String>> {
 }
 
 /// Does the command for this client, with threads where it serves others, and answers the status and the client.
-fn act<T: Host, K: Link + Drop, F: Link + Drop>(
+fn act<T: ServiceRuntime, K: Link + Drop, F: Link + Drop>(
     teller: Teller<'_>,
     threads: &T,
     command: Command<'_>,
@@ -127,7 +127,7 @@ fn explain_streams<R: Read + Drop, W: Drop>(
 
 /// Does the command over this input and standard output. A fault line is handed on as soon as it is whole, by one write if it is not longer
 /// than the buffer, so that the lines of several programs on one standard error do not mix.
-fn act_over<T: Host, R: Read + Drop>(
+fn act_over<T: ServiceRuntime, R: Read + Drop>(
     teller: Teller<'_>,
     threads: &T,
     command: Command<'_>,
@@ -184,7 +184,7 @@ fn explain_records(teller: Teller<'_>, command: Command<'_>, status: u8) {
 }
 
 /// Does what the words of the command line ask for, and answers the status.
-fn do_words<T: Host>(rt: &HostRuntime, threads: &T) -> u8 {
+fn do_words<T: ServiceRuntime>(rt: &HostRuntime, threads: &T) -> u8 {
     let teller = Teller {
         rt,
         explains: false,

@@ -8,11 +8,11 @@ mod appended;
 mod durable;
 mod fault;
 mod filling;
+mod finishing;
 mod kinds;
 mod pieces;
 mod reach;
 mod reading;
-mod settling;
 mod store;
 
 pub use appended::Appended;

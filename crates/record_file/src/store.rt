@@ -11,8 +11,8 @@ use crate::appended::Appended;
 use crate::durable::write_durably;
 use crate::fault::OpenFault;
 use crate::filling::fill;
+use crate::finishing::{SECOND_VERSION, finish_opening};
 use crate::reading::{FIRST_VERSION, MAX_RECORD, OPEN};
-use crate::settling::{SECOND_VERSION, settle};
 use line_disk::{Disk, DiskFault};
 use std::alloc::{AllocError, Global};
 
@@ -82,7 +82,7 @@ impl<D: Disk> Store<D> {
         if disk.sync().is_err() {
             return Err((OpenFault::Device, disk));
         }
-        match settle(alloc, &mut disk) {
+        match finish_opening(alloc, &mut disk) {
             Ok((version, records, end)) => Ok(Store {
                 disk,
                 records,

@@ -11,8 +11,8 @@ use Rattle.id_tree.proofs.Texts as ids_texts
 use Rattle.stamp.specs.declared.stamp.Stamp.{Stamp}
 use Rattle.stamp.specs.Stamps.{stamp_text}
 use Rattle.stamp.proofs.Texts.{one_text}
-use Rattle.report_line.specs.declared.report.Action.{Action}
-use Rattle.report_line.specs.declared.report.Action.TheVariants.{Check, Present, Fork, Retire, Absorb}
+use Rattle.report_line.specs.declared.report.ReportKind.{ReportKind}
+use Rattle.report_line.specs.declared.report.ReportKind.TheVariants.{Check, Present, Fork, Retire, Absorb}
 use Rattle.report_line.specs.declared.report.NumberedReport.{NumberedReport}
 use Rattle.report_line.specs.declared.report.Report.{Report}
 use Rattle.report_line.specs.declared.report.Report.TheVariants as reports
@@ -60,7 +60,7 @@ kind_of calls.Bye = 4
 kind_of (calls.Bad n) = 0
 kind_of calls.Unread = 0
 
-numbered_kind : (a : Action) (text : List ℕ) (words : List (List ℕ)) → kind_in ((action_word a ++ text) ∷ words) ≡ 5
+numbered_kind : (a : ReportKind) (text : List ℕ) (words : List (List ℕ)) → kind_in ((action_word a ++ text) ∷ words) ≡ 5
 numbered_kind Check text words = refl
 numbered_kind Present text words = refl
 numbered_kind (Fork f) text words = refl
@@ -90,7 +90,7 @@ same_fork : (i k : IdTree) (c d : List ℕ) (j l : IdTree) → i ≡ k → c ≡
     → Fork (record { kept = i; child = c; given = j }) ≡ Fork (record { kept = k; child = d; given = l })
 same_fork i k c d j l e f g = cc
 
-same_action : (a b : Action) → mark (action_word a) ≡ mark (action_word b) → action_fields a ≡ action_fields b → a ≡ b
+same_action : (a b : ReportKind) → mark (action_word a) ≡ mark (action_word b) → action_fields a ≡ action_fields b → a ≡ b
 same_action Check Check k e = refl
 same_action Present Present k e = refl
 same_action (Fork f) (Fork g) is e =
@@ -101,7 +101,7 @@ same_action (Retire p) (Retire q) k e = ap Retire (parts p q [] [] e).0
 same_action (Absorb p) (Absorb q) k e = ap Absorb (parts p q [] [] e).0
 same_action a b k e = absurd (omega (arith, k))
 
-same_fields : (p q : List ℕ) (n m : ℕ) (s t : Stamp) (a b : Action) → p ≡ q → n ≡ m → s ≡ t → a ≡ b
+same_fields : (p q : List ℕ) (n m : ℕ) (s t : Stamp) (a b : ReportKind) → p ≡ q → n ≡ m → s ≡ t → a ≡ b
     → reports.Numbered (record { process = p; number = n; stamp = s; action = a }) ≡ reports.Numbered (record { process = q; number = m; stamp = t; action = b })
 same_fields p q n m s t a b e f g h = cc
 
@@ -118,7 +118,7 @@ same_marked : (k l : ℕ) (r t : Report) → k ≡ l → r ≡ t → calls.Repor
 same_marked k l r t e f = cc
 
 -- a word of an action has no `@`
-pub unmarked_word : (a : Action) → Lacks 64 (action_word a)
+pub unmarked_word : (a : ReportKind) → Lacks 64 (action_word a)
 unmarked_word Check = (refl, (refl, (refl, (refl, (refl, tt)))))
 unmarked_word Present = (refl, (refl, (refl, (refl, (refl, (refl, (refl, tt)))))))
 unmarked_word (Fork f) = (refl, (refl, (refl, (refl, tt))))
@@ -216,7 +216,7 @@ none_reading bytes (Err Memory) reads is c h e = absurd cc
 
 -- no action that is a fork has these fields behind its word
 abbrev NoFork : List (List ℕ) → Type 0
-NoFork fields = (a : Action) → IsAction a → mark (codes "FORK") ≡ mark (action_word a) → fields ≢ action_fields a
+NoFork fields = (a : ReportKind) → IsAction a → mark (codes "FORK") ≡ mark (action_word a) → fields ≢ action_fields a
 
 no_fork : (fields behind rest : List (List ℕ)) (kept : IdTree) (child : List ℕ) → fields ≡ ids.spelling kept ∷ behind → behind ≡ child ∷ rest
     → ((i : IdTree) → IsId i → (more : List (List ℕ)) → rest ≢ ids.spelling i ∷ more) → NoFork fields
@@ -227,7 +227,7 @@ no_fork fields behind rest kept child e f none (Fork made) is k g =
 no_fork fields behind rest kept child e f none a is k g = absurd (omega (arith, k))
 
 pub no_second_id : (fault : LineFault) (fields behind rest new : List (List ℕ)) (kept : IdTree) (child : List ℕ) → fields ≡ ids.spelling kept ∷ behind → behind ≡ child ∷ rest
-    → Takes {X = IdTree} (Err fault) IsId ids.spelling rest new → Finds {X = Action} (Err fault) (IsActionOf (codes "FORK") fields)
+    → Takes {X = IdTree} (Err fault) IsId ids.spelling rest new → Finds {X = ReportKind} (Err fault) (IsActionOf (codes "FORK") fields)
 no_second_id Grammar fields behind rest new kept child e f none = λ a is. no_fork fields behind rest kept child e f none a is.0 (ap mark is.1) is.2
 no_second_id Memory fields behind rest new kept child e f none = tt
 

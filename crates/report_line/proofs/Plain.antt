@@ -9,8 +9,8 @@ use Rattle.id_tree.proofs.Texts as ids_texts
 use Rattle.stamp.specs.declared.stamp.Stamp.{Stamp}
 use Rattle.stamp.specs.Stamps.{IsStamp, stamp_text, is_stamp_byte}
 use Rattle.stamp.proofs.Texts as stamps_texts
-use Rattle.report_line.specs.declared.report.Action.{Action}
-use Rattle.report_line.specs.declared.report.Action.TheVariants.{Check, Present, Fork, Retire, Absorb}
+use Rattle.report_line.specs.declared.report.ReportKind.{ReportKind}
+use Rattle.report_line.specs.declared.report.ReportKind.TheVariants.{Check, Present, Fork, Retire, Absorb}
 use Rattle.report_line.specs.declared.report.Report.{Report}
 use Rattle.report_line.specs.declared.report.Report.TheVariants as reports
 use Rattle.report_line.specs.declared.call.Call.{Call}
@@ -72,7 +72,7 @@ plain_names [] are = (refl, tt)
 plain_names (n ∷ []) are = plain_name n are.0
 plain_names (n ∷ m ∷ ns) are = plain_cut n (names_text (m ∷ ns)) (plain_name n are.0) (plain_names (m ∷ ns) are.1)
 
-plain_kind : (a : Action) → Lacks 32 (action_word a)
+plain_kind : (a : ReportKind) → Lacks 32 (action_word a)
 plain_kind Check = (refl, (refl, (refl, (refl, (refl, tt)))))
 plain_kind Present = (refl, (refl, (refl, (refl, (refl, (refl, (refl, tt)))))))
 plain_kind (Fork f) = (refl, (refl, (refl, (refl, tt))))
@@ -83,7 +83,7 @@ plain_kind (Absorb retired) = (refl, (refl, (refl, (refl, (refl, (refl, tt))))))
 abbrev pub ArePlain : List (List ℕ) → Type 0
 ArePlain words = AllByRecursion (Lacks 32) words
 
-plain_fields : (a : Action) → IsAction a → ArePlain (action_fields a)
+plain_fields : (a : ReportKind) → IsAction a → ArePlain (action_fields a)
 plain_fields Check is = tt
 plain_fields Present is = tt
 plain_fields (Fork f) is = (plain_id f.kept, (plain_name f.child is.1, (plain_id f.given, tt)))

@@ -5,7 +5,7 @@ use Rattle.std.specs.List.{flat_map, concat, AllByRecursion}
 use Rattle.std.proofs.lemmas.Bool.{lt-ltb, le-ltb, cases_lt, cases_eq, eqb-true}
 use Rattle.std.proofs.lemmas.List.{append-nil, length-append}
 use Rattle.report_line.proofs.Cutting.{not_true}
-use Rattle.report_line.specs.Cutting.{Stand, onto, cut_from, cut_of, fed, NoBreak, IsLine, ended, Stands, IsCut}
+use Rattle.report_line.specs.Cutting.{Stand, onto, cut_from, cut_of, fed, NoBreak, IsLine, ended, Stands, IsLineSplit}
 
 NoBreak-append : (xs ys : List ℕ) → NoBreak xs → NoBreak ys → NoBreak (xs ++ ys)
 NoBreak-append [] ys p q = q
@@ -34,7 +34,7 @@ at_nothing rest = refl
 -- ---- what is cut is the stream
 
 abbrev CutOf : List ℕ → List (List ℕ) × Stand → Type 0
-CutOf stream cut = IsCut stream cut.0 cut.1
+CutOf stream cut = IsLineSplit stream cut.0 cut.1
 
 after_line : (rest bs : List ℕ) (cut : List (List ℕ) × Stand) → IsLine rest → CutOf bs cut → CutOf (rest ++ 10 ∷ bs) (onto (rest ∷ []) cut)
 after_line rest bs cut line c = (
@@ -85,7 +85,7 @@ rest_is bytes (Some rest) s =
     ap (cut_from (Some [])) (s.0 ∙ sym (append-nil rest)) ∙ line_on [] rest [] s.1.one (let h = s.1.short in omega arith) ∙ at_nothing rest
 rest_is bytes None s = ap (cut_from (Some [])) s.2 ∙ cut_long [] s.0 s.1 s.4 (omega arith) (omega (arith, s.3))
 
-pub only_cut : (lines : List (List ℕ)) (stream : List ℕ) (stand : Stand) → IsCut stream lines stand → cut_from (Some []) stream ≡ (lines, stand)
+pub only_cut : (lines : List (List ℕ)) (stream : List ℕ) (stand : Stand) → IsLineSplit stream lines stand → cut_from (Some []) stream ≡ (lines, stand)
 only_cut [] stream stand c = ap (cut_from (Some [])) c.2 ∙ rest_is c.0 stand c.3
 only_cut (line ∷ lines) stream stand c =
     let after : List ℕ = flat_map ended lines ++ c.0 in
@@ -94,7 +94,7 @@ only_cut (line ∷ lines) stream stand c =
     ap (cut_from (Some [])) split ∙ line_on [] line (10 ∷ after) first.one (let h = first.short in omega arith) ∙ at_break line after
     ∙ ap (onto (line ∷ [])) (only_cut lines after stand (c.0, c.1.1, refl, c.3))
 
-pub is_cut : (stream : List ℕ) → IsCut stream (cut_from (Some []) stream).0 (cut_from (Some []) stream).1
+pub is_cut : (stream : List ℕ) → IsLineSplit stream (cut_from (Some []) stream).0 (cut_from (Some []) stream).1
 is_cut stream = cut_is [] stream (record { short = omega arith; one = tt })
 
 -- ---- pieces do not matter

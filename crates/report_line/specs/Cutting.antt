@@ -29,8 +29,8 @@ Stands bytes (Some rest) = (bytes ≡ rest) × IsLine rest
 Stands bytes None = (long more : List ℕ) × (bytes ≡ long ++ more) × (length long ≡ line_limit + 1) × NoBreak long
 
 -- the stream is these lines, each with its LF, and then bytes that stand so
-abbrev pub IsCut : List ℕ → List (List ℕ) → Stand → Type 0
-IsCut stream lines stand = (bytes : List ℕ) × AllByRecursion IsLine lines × (stream ≡ flat_map ended lines ++ bytes) × Stands bytes stand
+abbrev pub IsLineSplit : List ℕ → List (List ℕ) → Stand → Type 0
+IsLineSplit stream lines stand = (bytes : List ℕ) × AllByRecursion IsLine lines × (stream ≡ flat_map ended lines ++ bytes) × Stands bytes stand
 
 -- these lines, and then those of the cut
 abbrev pub onto : List (List ℕ) → List (List ℕ) × Stand → List (List ℕ) × Stand
@@ -42,7 +42,7 @@ cut_from None bytes = ([], None)
 cut_from (Some rest) [] = ([], Some rest)
 cut_from (Some rest) (b ∷ bs) = if b == 10 then onto (rest ∷ []) (cut_from (Some []) bs) else if nat_lt (length rest) line_limit then cut_from (Some (rest ++ b ∷ [])) bs else ([], None)
 
--- the cut of a whole stream: the only one (see IsCut)
+-- the cut of a whole stream: the only one (see IsLineSplit)
 abbrev pub cut_of : List ℕ → List (List ℕ) × Stand
 cut_of stream = cut_from (Some []) stream
 

@@ -4,7 +4,7 @@ use Rattle.std.specs.Fmt.{decimal}
 use Rattle.stamp.specs.Stamps.{stamp_text}
 use Rattle.report_line.specs.declared.fault.LineFault.{LineFault}
 use Rattle.report_line.specs.declared.fault.LineFault.TheVariants.{Grammar, Memory}
-use Rattle.report_line.specs.declared.report.Action.{Action}
+use Rattle.report_line.specs.declared.report.ReportKind.{ReportKind}
 use Rattle.report_line.specs.declared.report.NumberedReport.{NumberedReport}
 use Rattle.report_line.specs.declared.call.Call.{Call}
 use Rattle.report_line.specs.Cuts.{Lacks}
@@ -38,7 +38,7 @@ abbrev pub IsCallOf : List (List ℕ) → Call → Type 0
 IsCallOf words c = HasSpelling c × (words ≡ words_of c)
 
 -- the action has this word, and these fields
-abbrev pub IsActionOf : List ℕ → List (List ℕ) → Action → Type 0
+abbrev pub IsActionOf : List ℕ → List (List ℕ) → ReportKind → Type 0
 IsActionOf kind fields a = IsAction a × (kind ≡ action_word a) × (fields ≡ action_fields a)
 
 -- the word is that of the report's action, and these are the words behind it

@@ -5,8 +5,8 @@ use Rattle.std.specs.Fmt.{decimal}
 use Rattle.id_tree.specs.NormalForm.{IsId}
 use Rattle.id_tree.specs.Spelling as ids
 use Rattle.stamp.specs.Stamps.{IsStamp, stamp_text}
-use Rattle.report_line.specs.declared.report.Action.{Action}
-use Rattle.report_line.specs.declared.report.Action.TheVariants.{Check, Present, Fork, Retire, Absorb}
+use Rattle.report_line.specs.declared.report.ReportKind.{ReportKind}
+use Rattle.report_line.specs.declared.report.ReportKind.TheVariants.{Check, Present, Fork, Retire, Absorb}
 use Rattle.report_line.specs.declared.report.NumberedReport.{NumberedReport}
 use Rattle.report_line.specs.declared.report.Report.{Report}
 use Rattle.report_line.specs.declared.report.Report.TheVariants as reports
@@ -25,7 +25,7 @@ names_text [] = codes "-"
 names_text (n ∷ ns) = join_with_byte 44 (n ∷ ns)
 
 -- the word that names an action
-abbrev pub action_word : Action → List ℕ
+abbrev pub action_word : ReportKind → List ℕ
 action_word Check = codes "CHECK"
 action_word Present = codes "PRESENT"
 action_word (Fork f) = codes "FORK"
@@ -33,7 +33,7 @@ action_word (Retire target) = codes "RETIRE"
 action_word (Absorb retired) = codes "ABSORB"
 
 -- the words behind the stamp
-abbrev pub action_fields : Action → List (List ℕ)
+abbrev pub action_fields : ReportKind → List (List ℕ)
 action_fields Check = []
 action_fields Present = []
 action_fields (Fork f) = ids.spelling f.kept ∷ f.child ∷ ids.spelling f.given ∷ []
@@ -66,7 +66,7 @@ unfoldable pub spelling : Call → List ℕ
 spelling c = join_with_byte 32 (words_of c)
 
 -- names are names, and ids are in normal form and within the limits
-abbrev pub IsAction : Action → Type 0
+abbrev pub IsAction : ReportKind → Type 0
 IsAction Check = ⊤
 IsAction Present = ⊤
 IsAction (Fork f) = IsId f.kept × IsTrue (is_name f.child) × IsId f.given

@@ -1,20 +1,20 @@
 -- The fields that are read off a kept report.
 use Rattle.std.specs.Prelude.{◌≡◌}
-use Rattle.report_line.specs.declared.packed.ActionView.{ActionView}
-use Rattle.report_line.specs.declared.packed.ActionView.TheVariants as shown
+use Rattle.report_line.specs.declared.packed.ReportKindView.{ReportKindView}
+use Rattle.report_line.specs.declared.packed.ReportKindView.TheVariants as shown
 use Rattle.report_line.specs.declared.packed.NumberedView.{NumberedView}
 use Rattle.report_line.specs.declared.packed.Packed.{Packed}
 use Rattle.report_line.specs.declared.packed.Packed.TheVariants as kinds
 use Rattle.report_line.specs.declared.packed.ReportView.{ReportView}
 use Rattle.report_line.specs.declared.packed.ReportView.TheVariants as views
-use Rattle.report_line.specs.declared.report.Action.{Action}
-use Rattle.report_line.specs.declared.report.Action.TheVariants.{Check, Present, Fork, Retire, Absorb}
+use Rattle.report_line.specs.declared.report.ReportKind.{ReportKind}
+use Rattle.report_line.specs.declared.report.ReportKind.TheVariants.{Check, Present, Fork, Retire, Absorb}
 use Rattle.report_line.specs.declared.report.NumberedReport.{NumberedReport}
 use Rattle.report_line.specs.declared.report.Report.{Report}
 use Rattle.report_line.specs.declared.report.Report.TheVariants.{Begin, Numbered}
 
 -- the action, read off a report
-abbrev pub action_of : ActionView → Action
+abbrev pub action_of : ReportKindView → ReportKind
 action_of shown.Check = Check
 action_of shown.Present = Present
 action_of (shown.Fork f) = Fork f.now

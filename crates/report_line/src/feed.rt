@@ -2,7 +2,7 @@
 
 ghost use Rattle.std.specs.Prelude.{◌≡◌, ◌≤◌, ◌<◌, ◌+◌, ◌↔◌, ℕ, List, [], ◌∷◌, ◌++◌, length, drop, map, slice_get, Some, None, IsTrue, ⊤, IfOk, OnErr, MatchOption};
 ghost use Rattle.std.specs.List.{concat, AllByRecursion};
-ghost use Rattle.report_line.specs.Cutting.{Stand, NoBreak, IsLine, IsCut, onto, cut_from, cut_of, fed, line_limit};
+ghost use Rattle.report_line.specs.Cutting.{Stand, NoBreak, IsLine, IsLineSplit, onto, cut_from, cut_of, fed, line_limit};
 ghost use Rattle.report_line.specs.working.Parts.{part_of, ArePartsOf, stand_from};
 
 use memchr::memchr;
@@ -207,8 +207,8 @@ impl Feed {
 /// The lines of a whole stream: it is these lines, each with its LF, and a rest that has no whole line; and no other
 /// lines are.
 pub fn lines_of_a_stream()
-    ensures cut { (stream : List ℕ) → IsCut stream (cut_of stream).0 (cut_of stream).1 }
-    ensures only { (stream : List ℕ) (lines : List (List ℕ)) (stand : Stand) → IsCut stream lines stand → cut_of stream ≡ (lines, stand) }
+    ensures cut { (stream : List ℕ) → IsLineSplit stream (cut_of stream).0 (cut_of stream).1 }
+    ensures only { (stream : List ℕ) (lines : List (List ℕ)) (stand : Stand) → IsLineSplit stream lines stand → cut_of stream ≡ (lines, stand) }
 {}
 
 /// A stream has the same lines whatever pieces it comes in.

@@ -7,7 +7,7 @@ ghost use Rattle.report_line.specs.Spelling.{IsAction, HasSpelling};
 ghost use Rattle.report_line.specs.View.{Shows, action_of, numbered_of};
 
 use crate::name::Name;
-use crate::report::{Action, Forked, NumberedReport, Report};
+use crate::report::{Forked, NumberedReport, Report, ReportKind};
 use crate::shared::Shared;
 use stamp::Stamp;
 use std::alloc::{AllocError, Global};
@@ -74,7 +74,7 @@ impl Model for PackedReport {
 
 /// An action by reference, read off a report.
 #[derive(Clone, Copy)]
-pub enum ActionView<'a> {
+pub enum ReportKindView<'a> {
     /// It took a checkpoint.
     Check,
     /// It is in this state, and stays in it until its next report.
@@ -97,7 +97,7 @@ pub struct NumberedView<'a> {
     /// The stamp after the event.
     pub stamp: &'a Stamp,
     /// What the process did.
-    pub action: ActionView<'a>,
+    pub action: ReportKindView<'a>,
 }
 
 /// The fields of a report, by reference.
@@ -109,40 +109,40 @@ pub enum ReportView<'a> {
     Numbered(NumberedView<'a>),
 }
 
-impl<'a> ActionView<'a> {
+impl<'a> ReportKindView<'a> {
     /// Tells a proof that what stands behind the stamp has a spelling.
     fn known(self)
         ensures { IsAction (action_of self.entry) }
     {
         match self {
-            ActionView::Check => {}
-            ActionView::Present => {}
-            ActionView::Fork(forked) => {
+            ReportKindView::Check => {}
+            ReportKindView::Present => {}
+            ReportKindView::Fork(forked) => {
                 forked.kept.known();
                 let _name = forked.child.as_bytes();
                 forked.given.known();
             }
-            ActionView::Retire { target } => {
+            ReportKindView::Retire { target } => {
                 let _name = target.as_bytes();
             }
-            ActionView::Absorb { retired } => {
+            ReportKindView::Absorb { retired } => {
                 let _name = retired.as_bytes();
             }
         }
     }
 
     /// Whether the two are one action.
-    pub fn equal(self, other: ActionView<'a>) -> bool
+    pub fn equal(self, other: ReportKindView<'a>) -> bool
         ensures { IsTrue result ↔ (action_of self.entry ≡ action_of other.entry) }
     {
         match (self, other) {
-            (ActionView::Check, ActionView::Check) => true,
-            (ActionView::Present, ActionView::Present) => true,
-            (ActionView::Fork(f), ActionView::Fork(g)) => f.equal(g),
-            (ActionView::Retire { target: p }, ActionView::Retire { target: q }) => {
+            (ReportKindView::Check, ReportKindView::Check) => true,
+            (ReportKindView::Present, ReportKindView::Present) => true,
+            (ReportKindView::Fork(f), ReportKindView::Fork(g)) => f.equal(g),
+            (ReportKindView::Retire { target: p }, ReportKindView::Retire { target: q }) => {
                 p.as_bytes() == q.as_bytes()
             }
-            (ActionView::Absorb { retired: p }, ActionView::Absorb { retired: q }) => {
+            (ReportKindView::Absorb { retired: p }, ReportKindView::Absorb { retired: q }) => {
                 p.as_bytes() == q.as_bytes()
             }
             _ => false,
@@ -178,29 +178,29 @@ impl PackedReport {
                     action,
                 },
             ) => match action {
-                Action::Check => Packed::Check {
+                ReportKind::Check => Packed::Check {
                     process,
                     number,
                     stamp,
                 },
-                Action::Present => Packed::Present {
+                ReportKind::Present => Packed::Present {
                     process,
                     number,
                     stamp,
                 },
-                Action::Fork(forked) => Packed::Fork {
+                ReportKind::Fork(forked) => Packed::Fork {
                     process,
                     number,
                     stamp,
                     forked,
                 },
-                Action::Retire { target } => Packed::Retire {
+                ReportKind::Retire { target } => Packed::Retire {
                     process,
                     number,
                     stamp,
                     target,
                 },
-                Action::Absorb { retired } => Packed::Absorb {
+                ReportKind::Absorb { retired } => Packed::Absorb {
                     process,
                     number,
                     stamp,
@@ -226,7 +226,7 @@ impl PackedReport {
                 process,
                 number: *number,
                 stamp,
-                action: ActionView::Check,
+                action: ReportKindView::Check,
             }),
             Packed::Present {
                 process,
@@ -236,7 +236,7 @@ impl PackedReport {
                 process,
                 number: *number,
                 stamp,
-                action: ActionView::Present,
+                action: ReportKindView::Present,
             }),
             Packed::Fork {
                 process,
@@ -247,7 +247,7 @@ impl PackedReport {
                 process,
                 number: *number,
                 stamp,
-                action: ActionView::Fork(forked),
+                action: ReportKindView::Fork(forked),
             }),
             Packed::Retire {
                 process,
@@ -258,7 +258,7 @@ impl PackedReport {
                 process,
                 number: *number,
                 stamp,
-                action: ActionView::Retire { target },
+                action: ReportKindView::Retire { target },
             }),
             Packed::Absorb {
                 process,
@@ -269,7 +269,7 @@ impl PackedReport {
                 process,
                 number: *number,
                 stamp,
-                action: ActionView::Absorb { retired },
+                action: ReportKindView::Absorb { retired },
             }),
         }
     }

@@ -18,7 +18,7 @@ use crate::name::Name;
 use crate::number::positive_in;
 use crate::packed::PackedReport;
 use crate::readers::{read_names, take_id, take_name, take_number, take_stamp};
-use crate::report::{Action, NumberedReport, Report};
+use crate::report::{NumberedReport, Report, ReportKind};
 use crate::shared::Shared;
 use crate::words::{Words, cut_once};
 use std::alloc::Global;
@@ -37,7 +37,7 @@ fn last_name(words: &mut Words<'_>) -> Result<Name, LineFault>
     }
 }
 
-fn read_fork(alloc: Global, words: &mut Words<'_>) -> Result<Action, LineFault>
+fn read_fork(alloc: Global, words: &mut Words<'_>) -> Result<ReportKind, LineFault>
     ensures { Finds result (IsActionOf (codes "FORK") words.old) }
 {
     let kept = take_id(alloc, words)?;
@@ -46,38 +46,38 @@ fn read_fork(alloc: Global, words: &mut Words<'_>) -> Result<Action, LineFault>
     };
     let given = take_id(alloc, words)?;
     if words.is_empty() {
-        Ok(Action::fork(alloc, kept, child, given)?)
+        Ok(ReportKind::fork(alloc, kept, child, given)?)
     } else {
         Err(LineFault::Grammar)
     }
 }
 
-fn read_retire(alloc: Global, words: &mut Words<'_>) -> Result<Action, LineFault>
+fn read_retire(alloc: Global, words: &mut Words<'_>) -> Result<ReportKind, LineFault>
     ensures { Finds result (IsActionOf (codes "RETIRE") words.old) }
 {
     let target = last_name(words)?;
-    Ok(Action::Retire {
+    Ok(ReportKind::Retire {
         target: Shared::new(alloc, target)?,
     })
 }
 
-fn read_absorb(alloc: Global, words: &mut Words<'_>) -> Result<Action, LineFault>
+fn read_absorb(alloc: Global, words: &mut Words<'_>) -> Result<ReportKind, LineFault>
     ensures { Finds result (IsActionOf (codes "ABSORB") words.old) }
 {
     let retired = last_name(words)?;
-    Ok(Action::Absorb {
+    Ok(ReportKind::Absorb {
         retired: Shared::new(alloc, retired)?,
     })
 }
 
 // The action of this word and of the fields behind the stamp.
-fn read_action(alloc: Global, kind: &[u8], words: &mut Words<'_>) -> Result<Action, LineFault>
+fn read_action(alloc: Global, kind: &[u8], words: &mut Words<'_>) -> Result<ReportKind, LineFault>
     ensures { Finds result (IsActionOf kind.now words.old) }
 {
     if kind == b"CHECK".as_slice() && words.is_empty() {
-        Ok(Action::Check)
+        Ok(ReportKind::Check)
     } else if kind == b"PRESENT".as_slice() && words.is_empty() {
-        Ok(Action::Present)
+        Ok(ReportKind::Present)
     } else if kind == b"FORK".as_slice() {
         read_fork(alloc, words)
     } else if kind == b"RETIRE".as_slice() {

@@ -21,7 +21,7 @@ pub struct Forked {
 
 /// What a process did, of which it reports. What only some reports have stands apart, so that all of them are short.
 #[derive(Drop)]
-pub enum Action {
+pub enum ReportKind {
     /// It took a checkpoint.
     Check,
     /// It is in this state, and stays in it until its next report.
@@ -44,7 +44,7 @@ pub struct NumberedReport {
     /// The stamp after the event: for a fork before the id is split, for an absorb behind the join.
     pub stamp: Stamp,
     /// What the process did.
-    pub action: Action,
+    pub action: ReportKind,
 }
 
 /// What a process reports of itself, as it is put together.
@@ -67,12 +67,12 @@ impl Forked {
     }
 }
 
-impl Action {
+impl ReportKind {
     /// A child is made: of the id one part is kept, and the other one is given to the child.
-    pub fn fork(alloc: Global, kept: Id, child: Name, given: Id) -> Result<Action, AllocError>
-        ensures { IfOk result (λ a. a ≡ Action.Fork (record { kept = kept; child = child; given = given })) }
+    pub fn fork(alloc: Global, kept: Id, child: Name, given: Id) -> Result<ReportKind, AllocError>
+        ensures { IfOk result (λ a. a ≡ ReportKind.Fork (record { kept = kept; child = child; given = given })) }
     {
         let forked = Shared::new(alloc, Forked { kept, child, given })?;
-        Ok(Action::Fork(forked))
+        Ok(ReportKind::Fork(forked))
     }
 }

@@ -6,7 +6,7 @@ use stamp::Stamp;
 
 /// What a process does in one step.
 #[derive(Drop)]
-pub enum Deed {
+pub enum StepKind {
     /// It works on.
     Work,
     /// It takes a checkpoint.
@@ -31,7 +31,7 @@ pub struct Step {
     /// The process.
     pub process: Name,
     /// What it does.
-    pub deed: Deed,
+    pub deed: StepKind,
     /// Its id and events after the step; after a fork the id is the part that it keeps.
     pub stamp: Stamp,
 }

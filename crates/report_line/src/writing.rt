@@ -11,7 +11,7 @@ ghost use Rattle.report_line.specs.Replies.{or_dash, outcome_word, live_word, re
 ghost use Rattle.report_line.specs.Cuts.{spaced};
 
 use crate::name::Name;
-use crate::packed::{ActionView, NumberedView, PackedReport, ReportView};
+use crate::packed::{NumberedView, PackedReport, ReportKindView, ReportView};
 use crate::reply::{Outcome, Reply};
 use crate::row::Names;
 use crate::text::Text;
@@ -28,15 +28,15 @@ fn push_number(out: &mut Vec<u8>, n: u32) -> Result<(), AllocError>
     out.extend_from_slice(digits.format(n).as_bytes())
 }
 
-fn push_kind(out: &mut Vec<u8>, action: ActionView<'_>) -> Result<(), AllocError>
+fn push_kind(out: &mut Vec<u8>, action: ReportKindView<'_>) -> Result<(), AllocError>
     ensures { OnOk result (out.new.items ≡ out.old.items ++ action_word (action_of action.entry)) }
 {
     match action {
-        ActionView::Check => out.extend_from_slice(b"CHECK"),
-        ActionView::Present => out.extend_from_slice(b"PRESENT"),
-        ActionView::Fork(_) => out.extend_from_slice(b"FORK"),
-        ActionView::Retire { .. } => out.extend_from_slice(b"RETIRE"),
-        ActionView::Absorb { .. } => out.extend_from_slice(b"ABSORB"),
+        ReportKindView::Check => out.extend_from_slice(b"CHECK"),
+        ReportKindView::Present => out.extend_from_slice(b"PRESENT"),
+        ReportKindView::Fork(_) => out.extend_from_slice(b"FORK"),
+        ReportKindView::Retire { .. } => out.extend_from_slice(b"RETIRE"),
+        ReportKindView::Absorb { .. } => out.extend_from_slice(b"ABSORB"),
     }
 }
 
@@ -64,12 +64,12 @@ fn push_head(out: &mut Vec<u8>, report: NumberedView<'_>) -> Result<(), AllocErr
 }
 
 // The words behind the stamp, each with a space in front of it.
-fn push_fields(out: &mut Vec<u8>, action: ActionView<'_>) -> Result<(), AllocError>
+fn push_fields(out: &mut Vec<u8>, action: ReportKindView<'_>) -> Result<(), AllocError>
     ensures { OnOk result (out.new.items ≡ out.old.items ++ spaced (action_fields (action_of action.entry))) }
 {
     match action {
-        ActionView::Check | ActionView::Present => {}
-        ActionView::Fork(forked) => {
+        ReportKindView::Check | ReportKindView::Present => {}
+        ReportKindView::Fork(forked) => {
             out.push(b' ')?;
             forked.kept.write_to(out)?;
             out.push(b' ')?;
@@ -77,7 +77,7 @@ fn push_fields(out: &mut Vec<u8>, action: ActionView<'_>) -> Result<(), AllocErr
             out.push(b' ')?;
             forked.given.write_to(out)?;
         }
-        ActionView::Retire { target: name } | ActionView::Absorb { retired: name } => {
+        ReportKindView::Retire { target: name } | ReportKindView::Absorb { retired: name } => {
             out.push(b' ')?;
             out.extend_from_slice(name.as_bytes())?;
         }

@@ -9,8 +9,8 @@ use Rattle.report_line.specs.declared.call.Call.TheVariants as calls
 use Rattle.report_line.proofs.Parting.{words_joined, joined_words}
 use Rattle.report_line.proofs.Plain.{Lacks-name, byte_32, letter_32, plain_words}
 use Rattle.report_line.proofs.Rows.{row_again}
-use Rattle.driver.specs.declared.step.Act.{Act}
-use Rattle.driver.specs.declared.step.Act.TheVariants.{Work, Check, Present, Send, Receive, Fork, Retire, Absorb}
+use Rattle.driver.specs.declared.step.StepRequest.{StepRequest}
+use Rattle.driver.specs.declared.step.StepRequest.TheVariants.{Work, Check, Present, Send, Receive, Fork, Retire, Absorb}
 use Rattle.driver.specs.declared.step.Step.{Step}
 use Rattle.script.specs.Spelling.{act_word, act_names, HasNames, step_words, root_words, settle_words, SpellsStep, SpellsRoot, SpellsSettle, FindsOne, IsStepOf, IsRootOf}
 
@@ -19,7 +19,7 @@ use Rattle.script.specs.Spelling.{act_word, act_names, HasNames, step_words, roo
 plain_name : (word : List ℕ) → IsTrue (is_name word) → Lacks 32 word
 plain_name word is = Lacks-name 32 word byte_32 letter_32 is
 
-plain_word : (a : Act) → Lacks 32 (act_word a)
+plain_word : (a : StepRequest) → Lacks 32 (act_word a)
 plain_word Work = (refl, (refl, (refl, (refl, tt))))
 plain_word Check = (refl, (refl, (refl, (refl, (refl, tt)))))
 plain_word Present = (refl, (refl, (refl, (refl, (refl, (refl, (refl, tt)))))))
@@ -29,7 +29,7 @@ plain_word (Fork c) = (refl, (refl, (refl, (refl, tt))))
 plain_word (Retire q) = (refl, (refl, (refl, (refl, (refl, (refl, tt))))))
 plain_word (Absorb r) = (refl, (refl, (refl, (refl, (refl, (refl, tt))))))
 
-plain_names : (a : Act) → HasNames a → AllByRecursion (Lacks 32) (act_names a)
+plain_names : (a : StepRequest) → HasNames a → AllByRecursion (Lacks 32) (act_names a)
 plain_names Work is = tt
 plain_names Check is = tt
 plain_names Present is = tt
@@ -72,7 +72,7 @@ mark (x ∷ y ∷ z ∷ zs) = (x * 256 + y) * 256 + z
 pub parts : (x y : List ℕ) (xs ys : List (List ℕ)) → x ∷ xs ≡ y ∷ ys → (x ≡ y) × (xs ≡ ys)
 parts x y xs ys e = (cc, cc)
 
-same_act : (a b : Act) → mark (act_word a) ≡ mark (act_word b) → act_word a ≡ act_word b → act_names a ≡ act_names b → a ≡ b
+same_act : (a b : StepRequest) → mark (act_word a) ≡ mark (act_word b) → act_word a ≡ act_word b → act_names a ≡ act_names b → a ≡ b
 same_act Work Work k w e = refl
 same_act Check Check k w e = refl
 same_act Present Present k w e = refl
@@ -83,10 +83,10 @@ same_act (Retire m) (Retire n) k w e = ap Retire (parts m n [] [] e).0
 same_act (Absorb m) (Absorb n) k w e = ap Absorb (parts m n [] [] e).0
 same_act a b k w e = absurd (omega (arith, k))
 
-abbrev step : List ℕ → Act → Step
+abbrev step : List ℕ → StepRequest → Step
 step p a = record { process = p; act = a }
 
-same_step : (p q : List ℕ) (a b : Act) → p ≡ q → a ≡ b → step p a ≡ step q b
+same_step : (p q : List ℕ) (a b : StepRequest) → p ≡ q → a ≡ b → step p a ≡ step q b
 same_step p q a b e f = cc
 
 pub one_step : (line : List ℕ) (s t : Step) → SpellsStep s line → SpellsStep t line → s ≡ t
@@ -95,7 +95,7 @@ one_step line s t is also =
     let behind = parts _ _ _ _ both.1 in
     same_step s.process t.process s.act t.act behind.0 (same_act s.act t.act (ap mark both.0) both.0 behind.1)
 
-no_root_word : (a : Act) → mark (codes "root") ≡ mark (act_word a) → ⊥
+no_root_word : (a : StepRequest) → mark (codes "root") ≡ mark (act_word a) → ⊥
 no_root_word Work k = omega (arith, k)
 no_root_word Check k = omega (arith, k)
 no_root_word Present k = omega (arith, k)
@@ -117,7 +117,7 @@ one_settle line names others is also =
     let both = parts _ _ _ _ (sym (words_of_settle line names is) ∙ words_of_settle line others also) in
     row_again names others is.0 also.0 (parts _ _ _ _ both.1).0
 
-no_settle_word : (a : Act) → mark (codes "settle") ≡ mark (act_word a) → ⊥
+no_settle_word : (a : StepRequest) → mark (codes "settle") ≡ mark (act_word a) → ⊥
 no_settle_word Work k = omega (arith, k)
 no_settle_word Check k = omega (arith, k)
 no_settle_word Present k = omega (arith, k)

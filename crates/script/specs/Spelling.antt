@@ -3,12 +3,12 @@ use Rattle.std.specs.Prelude.{◌≡◌, ℕ, List, [], ◌∷◌, IsTrue, codes
 use Rattle.std.specs.List.{join_with_byte}
 use Rattle.report_line.specs.Names.{is_name, AreNames}
 use Rattle.report_line.specs.Spelling.{names_text}
-use Rattle.driver.specs.declared.step.Act.{Act}
-use Rattle.driver.specs.declared.step.Act.TheVariants.{Work, Check, Present, Send, Receive, Fork, Retire, Absorb}
+use Rattle.driver.specs.declared.step.StepRequest.{StepRequest}
+use Rattle.driver.specs.declared.step.StepRequest.TheVariants.{Work, Check, Present, Send, Receive, Fork, Retire, Absorb}
 use Rattle.driver.specs.declared.step.Step.{Step}
 
 -- the word that names an act
-abbrev pub act_word : Act → List ℕ
+abbrev pub act_word : StepRequest → List ℕ
 act_word Work = codes "work"
 act_word Check = codes "check"
 act_word Present = codes "present"
@@ -19,7 +19,7 @@ act_word (Retire q) = codes "retire"
 act_word (Absorb r) = codes "absorb"
 
 -- the words behind the process
-abbrev pub act_names : Act → List (List ℕ)
+abbrev pub act_names : StepRequest → List (List ℕ)
 act_names Work = []
 act_names Check = []
 act_names Present = []
@@ -30,7 +30,7 @@ act_names (Retire q) = q ∷ []
 act_names (Absorb r) = r ∷ []
 
 -- what an act names is a name
-abbrev pub HasNames : Act → Type 0
+abbrev pub HasNames : StepRequest → Type 0
 HasNames Work = ⊤
 HasNames Check = ⊤
 HasNames Present = ⊤
@@ -72,7 +72,7 @@ FindsOne {X} None P = (x : X) → ¬ P x
 -- Working definitions from here on: a line is read word by word.
 
 -- the act has this word and these names
-abbrev pub IsActOf : List ℕ → List (List ℕ) → Act → Type 0
+abbrev pub IsActOf : List ℕ → List (List ℕ) → StepRequest → Type 0
 IsActOf kind names a = HasNames a × (kind ≡ act_word a) × (names ≡ act_names a)
 
 -- the step has these words

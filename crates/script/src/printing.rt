@@ -16,8 +16,8 @@ ghost use Rattle.script.specs.working.Driving.{IsPrinted, TakeTurns, PrintsRepor
 use chains::{Chains, No};
 use propagate::settle_named;
 use report_line::{
-    ActionView, Code, MarkedReport, Names, PackedReport, Report, ReportView, Shared, write_marked,
-    write_settle,
+    Code, MarkedReport, Names, PackedReport, Report, ReportKindView, ReportView, Shared,
+    write_marked, write_settle,
 };
 use std::alloc::{AllocError, Global};
 use std::mem;
@@ -173,7 +173,7 @@ fn add_line(text: &mut Vec<u8>, lines: &mut u32, line: &[u8]) -> Result<(), Allo
 fn is_birth(report: &PackedReport) -> bool {
     match report.view() {
         ReportView::Begin { .. } => true,
-        ReportView::Numbered(fields) => matches!(fields.action, ActionView::Fork(_)),
+        ReportView::Numbered(fields) => matches!(fields.action, ReportKindView::Fork(_)),
     }
 }
 

@@ -6,7 +6,7 @@ ghost use Rattle.report_line.specs.Cuts.{words_in};
 ghost use Rattle.driver.specs.declared.step.Step.{Step as AnyStep};
 ghost use Rattle.script.specs.Spelling.{FindsOne, SpellsRoot, SpellsStep, SpellsSettle, IsActOf, IsRootOf, IsStepOf};
 
-use driver::{Act, Step};
+use driver::{Step, StepRequest};
 use report_line::{Name, Words, take_name};
 
 // The name that is the only word left.
@@ -20,7 +20,7 @@ fn last_name(words: &mut Words<'_>) -> Option<Name>
 }
 
 // The act of this word and of the one name that is left.
-fn read_named(kind: &[u8], words: &mut Words<'_>) -> Option<Act>
+fn read_named(kind: &[u8], words: &mut Words<'_>) -> Option<StepRequest>
     requires work { kind.now ≢ codes "work" }
     requires check { kind.now ≢ codes "check" }
     requires present { kind.now ≢ codes "present" }
@@ -30,37 +30,37 @@ fn read_named(kind: &[u8], words: &mut Words<'_>) -> Option<Act>
         return None;
     };
     if kind == b"send".as_slice() {
-        Some(Act::Send { message: name })
+        Some(StepRequest::Send { message: name })
     } else if kind == b"receive".as_slice() {
-        Some(Act::Receive { message: name })
+        Some(StepRequest::Receive { message: name })
     } else if kind == b"fork".as_slice() {
-        Some(Act::Fork { child: name })
+        Some(StepRequest::Fork { child: name })
     } else if kind == b"retire".as_slice() {
-        Some(Act::Retire { target: name })
+        Some(StepRequest::Retire { target: name })
     } else if kind == b"absorb".as_slice() {
-        Some(Act::Absorb { retired: name })
+        Some(StepRequest::Absorb { retired: name })
     } else {
         None
     }
 }
 
 // This act, where no word is left.
-fn alone(act: Act, words: &Words<'_>) -> Option<Act>
+fn alone(act: StepRequest, words: &Words<'_>) -> Option<StepRequest>
     ensures { MatchOption result (words.now ≢ []) (λ a. (a ≡ act) × (words.now ≡ [])) }
 {
     if words.is_empty() { Some(act) } else { None }
 }
 
 // The act of this word and of the names that are left.
-fn read_act(kind: &[u8], words: &mut Words<'_>) -> Option<Act>
+fn read_act(kind: &[u8], words: &mut Words<'_>) -> Option<StepRequest>
     ensures { FindsOne result (IsActOf kind.now words.old) }
 {
     if kind == b"work".as_slice() {
-        alone(Act::Work, words)
+        alone(StepRequest::Work, words)
     } else if kind == b"check".as_slice() {
-        alone(Act::Check, words)
+        alone(StepRequest::Check, words)
     } else if kind == b"present".as_slice() {
-        alone(Act::Present, words)
+        alone(StepRequest::Present, words)
     } else {
         read_named(kind, words)
     }

@@ -9,10 +9,10 @@ use borrow.Author.Count.{below_more}
 use Rattle.report_line.specs.Cutting.{Stand, onto, cut_from, cut_of}
 use Rattle.report_line.proofs.Streams.{cut_append}
 use Rattle.session.specs.Exchanges.{Exchange}
-use Rattle.session.specs.declared.kind.Kind.{Kind}
-use Rattle.session.specs.declared.kind.Kind.TheVariants as kinds
+use Rattle.session.specs.declared.kind.SessionEndKind.{SessionEndKind}
+use Rattle.session.specs.declared.kind.SessionEndKind.TheVariants as kinds
 use Rattle.client_link.specs.Links.{up, LinkState, IsSound, IsFault, IsHandOn}
-use Rattle.session.specs.SessionText.{Mean, NoBye, exchange_line, session_text, joined, most_reads, Grounds, ending_line, ending_count, IsWhole, IsCutInReply, Reached, Ends, Gave, GaveAll}
+use Rattle.session.specs.SessionText.{Mean, NoBye, exchange_line, session_text, joined, most_reads, ServedOver, ending_line, ending_count, IsWhole, IsCutInReply, EndReason, Ends, AreNonEmptyReads, GaveAll}
 use Rattle.session.specs.declared.handing.HandOn.{HandOn}
 use Rattle.session.specs.declared.handing.HandOn.TheVariants as hand_ons
 use Rattle.session.specs.Ends.{IsReadAt, IsPrompt, EachHasGone, Leaves}
@@ -87,7 +87,7 @@ prompt_then {K} told link pieces piece turned more before here =
 
 -- ---- one read after the other
 
-pub going_none : {S K : Type 0} (makes : S → List Exchange → S → Type 0) (grounds : S → Grounds) (laws : AreLawful makes grounds) (told : K → LinkState) (when : HandOn) (link : K) (stand : Stand) (state : S) → stand ≡ Some [] → Going makes told when link link stand state state 0 0
+pub going_none : {S K : Type 0} (makes : S → List Exchange → S → Type 0) (grounds : S → ServedOver) (laws : AreLawful makes grounds) (told : K → LinkState) (when : HandOn) (link : K) (stand : Stand) (state : S) → stand ≡ Some [] → Going makes told when link link stand state state 0 0
 unfolding cut_from
 going_none makes grounds laws told when link stand state new =
     rw new record {
@@ -114,7 +114,7 @@ sound_hand_on : {E : Type 0} (old new : LinkState) (u : Unit {0}) → IsHandOn {
 sound_hand_on old new u hand = record { failures = hand.failures; stalls = hand.stalls; ended = hand.ended }
 
 -- the state in which the next read is made
-read_at : {S K E : Type 0} (makes : S → List Exchange → S → Type 0) (grounds : S → Grounds) (laws : AreLawful makes grounds) (told : K → LinkState) (when : HandOn) (link now reading : K) (stand : Stand) (state mid : S) (reads count : ℕ) (u : Unit {0}) (more : List Exchange) → (s : Going makes told when link now stand state mid reads count)
+read_at : {S K E : Type 0} (makes : S → List Exchange → S → Type 0) (grounds : S → ServedOver) (laws : AreLawful makes grounds) (told : K → LinkState) (when : HandOn) (link now reading : K) (stand : Stand) (state mid : S) (reads count : ℕ) (u : Unit {0}) (more : List Exchange) → (s : Going makes told when link now stand state mid reads count)
     → IsHandOn {E = E} (told now) (told reading) (Ok u) → IsReadAt told link (length s.pieces) (joined s.pieces) (s.turned ++ more)
 read_at makes grounds laws told when link now reading stand state mid reads count u more s hand =
     record {
@@ -134,11 +134,11 @@ read_at makes grounds laws told when link now reading stand state mid reads coun
 reads_more : (first now reading next n : ℕ) → now ≡ up n first → reading ≡ now → next ≡ up 1 reading → next ≡ up (n + 1) first
 reads_more first now reading next n a b c = omega arith
 
-all_more : (pieces : List (List ℕ)) (piece : List ℕ) → Gave pieces → 0 < length piece → Gave (pieces ++ piece ∷ [])
+all_more : (pieces : List (List ℕ)) (piece : List ℕ) → AreNonEmptyReads pieces → 0 < length piece → AreNonEmptyReads (pieces ++ piece ∷ [])
 all_more [] piece gave some = (some, tt)
 all_more (p ∷ ps) piece gave some = (gave.0, all_more ps piece gave.1 some)
 
-stop_gave : (kind : Kind) (pieces : List (List ℕ)) (piece : List ℕ) → Gave pieces → GaveBy (Some kind) piece → GaveAll kind (pieces ++ piece ∷ [])
+stop_gave : (kind : SessionEndKind) (pieces : List (List ℕ)) (piece : List ℕ) → AreNonEmptyReads pieces → GaveBy (Some kind) piece → GaveAll kind (pieces ++ piece ∷ [])
 stop_gave kinds.End pieces piece gave g = (pieces, ap (λ (p : List ℕ). pieces ++ p ∷ []) g, gave)
 stop_gave kinds.ReadFailed pieces piece gave g = (pieces, ap (λ (p : List ℕ). pieces ++ p ∷ []) g, gave)
 stop_gave kinds.Bye pieces piece gave g = all_more pieces piece gave g
@@ -149,7 +149,7 @@ stop_gave kinds.WriteFailed pieces piece gave g = all_more pieces piece gave g
 stop_gave kinds.Endless pieces piece gave g = all_more pieces piece gave g
 stop_gave kinds.Foreign pieces piece gave g = all_more pieces piece gave g
 
-pub going_on : {S K E : Type 0} (makes : S → List Exchange → S → Type 0) (grounds : S → Grounds) (laws : AreLawful makes grounds) (told : K → LinkState) (when : HandOn) (link now reading next : K) (stand stand_after : Stand) (state mid after : S) (reads count more : ℕ) (u : Unit {0}) → Going makes told when link now stand state mid reads count
+pub going_on : {S K E : Type 0} (makes : S → List Exchange → S → Type 0) (grounds : S → ServedOver) (laws : AreLawful makes grounds) (told : K → LinkState) (when : HandOn) (link now reading next : K) (stand stand_after : Stand) (state mid after : S) (reads count more : ℕ) (u : Unit {0}) → Going makes told when link now stand state mid reads count
     → IsHandOn {E = E} (told now) (told reading) (Ok u) → StepsOn makes grounds told when reading next stand stand_after mid after None more → Going makes told when link next stand_after state after (reads + 1) (count + more)
 going_on makes grounds laws told when link now reading next stand stand_after state mid after reads count more u s hand on =
     let t = on.steps in
@@ -182,19 +182,19 @@ going_on makes grounds laws told when link now reading next stand stand_after st
 -- ---- where it stops
 
 -- how far the lines of all reads were answered, before the ending line
-abbrev StopsTo : Kind → Grounds → List (List ℕ) → Stand → List (List ℕ) → List (List ℕ) → List Exchange → List ℕ → ℕ → Type 0
+abbrev StopsTo : SessionEndKind → ServedOver → List (List ℕ) → Stand → List (List ℕ) → List (List ℕ) → List Exchange → List ℕ → ℕ → Type 0
 StopsTo kinds.WriteFailed grounds pieces stand front later turned text count = IsCutInReply turned text count
-StopsTo kind grounds pieces stand front later turned text count = Reached kind grounds pieces stand front later turned × IsSaid turned text count
+StopsTo kind grounds pieces stand front later turned text count = EndReason kind grounds pieces stand front later turned × IsSaid turned text count
 
 -- what a link tells before the ending line
-abbrev LeftBy : Kind → LinkState → LinkState → Type 0
+abbrev LeftBy : SessionEndKind → LinkState → LinkState → Type 0
 LeftBy kinds.End old now = IsSound old now × (now.waiting ≡ []) × IsAtEnd now.left
 LeftBy kinds.ReadFailed old now = (now.failures ≡ up 1 old.failures) × (now.stalls ≡ old.stalls) × (now.waiting ≡ []) × (now.ended ≡ old.ended)
 LeftBy kinds.WriteFailed old now = IsFault old now
 LeftBy _ old now = IsSound old now
 
 -- a session before its ending line
-pub record Stopping {S K : Type 0} (makes : S → List Exchange → S → Type 0) (grounds : S → Grounds) (told : K → LinkState) (when : HandOn) (link now : K) (state after : S) (kind : Kind) (count : ℕ) : Type 0 where
+pub record Stopping {S K : Type 0} (makes : S → List Exchange → S → Type 0) (grounds : S → ServedOver) (told : K → LinkState) (when : HandOn) (link now : K) (state after : S) (kind : SessionEndKind) (count : ℕ) : Type 0 where
   pub pieces : List (List ℕ)
   pub front : List (List ℕ)
   pub later : List (List ℕ)
@@ -213,7 +213,7 @@ pub record Stopping {S K : Type 0} (makes : S → List Exchange → S → Type 0
   pub leaves : LeftBy kind (told link) (told now)
   pub gave : GaveAll kind pieces
 
-stops_then : {S : Type 0} (makes : S → List Exchange → S → Type 0) (grounds : S → Grounds) (laws : AreLawful makes grounds) (kind : Kind) (s mid : S) (pieces : List (List ℕ)) (piece : List ℕ) (stand : Stand) (front later : List (List ℕ)) (es fs : List Exchange)
+stops_then : {S : Type 0} (makes : S → List Exchange → S → Type 0) (grounds : S → ServedOver) (laws : AreLawful makes grounds) (kind : SessionEndKind) (s mid : S) (pieces : List (List ℕ)) (piece : List ℕ) (stand : Stand) (front later : List (List ℕ)) (es fs : List Exchange)
     (text line : List ℕ) (m n : ℕ) → makes s es mid → NoBye es → IsSaid es text m → StepsTo (Some kind) (grounds mid) stand front later fs line n
     → StopsTo kind (grounds s) (pieces ++ piece ∷ []) stand ((cut_of (joined pieces)).0 ++ front) later (es ++ fs) (text ++ line) (m + n)
 stops_then makes grounds laws kinds.Bye s mid pieces piece stand front later es fs text line m n made none said t = (bye_then es fs none t.0, said_then es fs text line m n said t.1)
@@ -233,7 +233,7 @@ stops_then makes grounds laws kinds.ReadFailed s mid pieces piece stand front la
 stops_then makes grounds laws kinds.WriteFailed s mid pieces piece stand front later es fs text line m n made none said t = cut_then es fs text line m n none said t
 stops_then makes grounds laws kinds.Endless s mid pieces piece stand front later es fs text line m n made none said t = absurd t
 
-left_by : (kind : Kind) (old now : LinkState) → FaultsAt (Some kind) old now → (kind ≡ kinds.End → (now.waiting ≡ []) × IsAtEnd now.left) → (kind ≡ kinds.ReadFailed → now.waiting ≡ []) → LeftBy kind old now
+left_by : (kind : SessionEndKind) (old now : LinkState) → FaultsAt (Some kind) old now → (kind ≡ kinds.End → (now.waiting ≡ []) × IsAtEnd now.left) → (kind ≡ kinds.ReadFailed → now.waiting ≡ []) → LeftBy kind old now
 left_by kinds.End old now faults quiet still = (faults, (quiet refl).0, (quiet refl).1)
 left_by kinds.ReadFailed old now faults quiet still = (faults.0, faults.1, still refl, faults.2)
 left_by kinds.WriteFailed old now faults quiet still = faults
@@ -244,13 +244,13 @@ left_by kinds.Memory old now faults quiet still = faults
 left_by kinds.Endless old now faults quiet still = faults
 left_by kinds.Foreign old now faults quiet still = faults
 
-quiet_end : (kind : Kind) (old now : LinkState) → old.waiting ≡ [] → IsQuiet (Some kind) old now → kind ≡ kinds.End → (now.waiting ≡ []) × IsAtEnd now.left
+quiet_end : (kind : SessionEndKind) (old now : LinkState) → old.waiting ≡ [] → IsQuiet (Some kind) old now → kind ≡ kinds.End → (now.waiting ≡ []) × IsAtEnd now.left
 quiet_end kind old now nothing quiet is = let q = rw is at quiet in (q.0 ∙ nothing, q.1)
 
-quiet_failed : (kind : Kind) (old now : LinkState) → old.waiting ≡ [] → IsQuiet (Some kind) old now → kind ≡ kinds.ReadFailed → now.waiting ≡ []
+quiet_failed : (kind : SessionEndKind) (old now : LinkState) → old.waiting ≡ [] → IsQuiet (Some kind) old now → kind ≡ kinds.ReadFailed → now.waiting ≡ []
 quiet_failed kind old now nothing quiet is = let q = rw is at quiet in q ∙ nothing
 
-pub stopping : {S K E : Type 0} (makes : S → List Exchange → S → Type 0) (grounds : S → Grounds) (laws : AreLawful makes grounds) (told : K → LinkState) (when : HandOn) (link now reading next : K) (kind : Kind) (stand stand_after : Stand) (state mid after : S) (reads count more : ℕ) (u : Unit {0}) → reads < most_reads
+pub stopping : {S K E : Type 0} (makes : S → List Exchange → S → Type 0) (grounds : S → ServedOver) (laws : AreLawful makes grounds) (told : K → LinkState) (when : HandOn) (link now reading next : K) (kind : SessionEndKind) (stand stand_after : Stand) (state mid after : S) (reads count more : ℕ) (u : Unit {0}) → reads < most_reads
     → Going makes told when link now stand state mid reads count → IsHandOn {E = E} (told now) (told reading) (Ok u) → StepsOn makes grounds told when reading next stand stand_after mid after (Some kind) more
     → Stopping makes grounds told when link next state after kind (count + more)
 stopping makes grounds laws told when link now reading next kind stand stand_after state mid after reads count more u few s hand on =
@@ -282,7 +282,7 @@ stopping makes grounds laws told when link now reading next kind stand stand_aft
     }
 
 -- all lines of all reads were answered
-said_all : {S K : Type 0} (makes : S → List Exchange → S → Type 0) (grounds : S → Grounds) (laws : AreLawful makes grounds) (told : K → LinkState) (when : HandOn) (link now : K) (stand : Stand) (state after : S) (reads count : ℕ) (kind : Kind) → (s : Going makes told when link now stand state after reads count) → reads ≤ most_reads
+said_all : {S K : Type 0} (makes : S → List Exchange → S → Type 0) (grounds : S → ServedOver) (laws : AreLawful makes grounds) (told : K → LinkState) (when : HandOn) (link now : K) (stand : Stand) (state after : S) (reads count : ℕ) (kind : SessionEndKind) → (s : Going makes told when link now stand state after reads count) → reads ≤ most_reads
     → StopsTo kind (grounds state) s.pieces (cut_of (joined s.pieces)).1 (cut_of (joined s.pieces)).0 [] s.turned (session_text s.turned) count → LeftBy kind (told link) (told now) → GaveAll kind s.pieces → Stopping makes grounds told when link now state after kind count
 said_all makes grounds laws told when link now stand state after reads count kind s few how leaves gave =
     record {
@@ -305,7 +305,7 @@ said_all makes grounds laws told when link now stand state after reads count kin
       gave = gave;
     }
 
-pub stopping_endless : {S K : Type 0} (makes : S → List Exchange → S → Type 0) (grounds : S → Grounds) (laws : AreLawful makes grounds) (told : K → LinkState) (when : HandOn) (link now : K) (stand : Stand) (state after : S) (reads count : ℕ) → reads ≡ most_reads → Going makes told when link now stand state after reads count
+pub stopping_endless : {S K : Type 0} (makes : S → List Exchange → S → Type 0) (grounds : S → ServedOver) (laws : AreLawful makes grounds) (told : K → LinkState) (when : HandOn) (link now : K) (stand : Stand) (state after : S) (reads count : ℕ) → reads ≡ most_reads → Going makes told when link now stand state after reads count
     → Stopping makes grounds told when link now state after kinds.Endless count
 stopping_endless makes grounds laws told when link now stand state after reads count all s =
     said_all makes grounds laws told when link now stand state after reads count kinds.Endless s (omega arith)
@@ -313,10 +313,10 @@ stopping_endless makes grounds laws told when link now stand state after reads c
 
 -- ---- the ending line
 
-whole_by : (kind : Kind) (turned : List Exchange) (text : List ℕ) (count total : ℕ) → IsSaid turned text count → total ≡ count + ending_count kind → IsWhole kind turned (text ++ ending_line kind) total
+whole_by : (kind : SessionEndKind) (turned : List Exchange) (text : List ℕ) (count total : ℕ) → IsSaid turned text count → total ≡ count + ending_count kind → IsWhole kind turned (text ++ ending_line kind) total
 whole_by kind turned text count total said sum = (ap (λ (l : List ℕ). l ++ ending_line kind) said.0, sum ∙ ap (λ (n : ℕ). n + ending_count kind) said.1)
 
-ends_by : (kind : Kind) (grounds : Grounds) (pieces : List (List ℕ)) (stand : Stand) (front later : List (List ℕ)) (turned : List Exchange) (text : List ℕ) (count : ℕ) → Reached kind grounds pieces stand front later turned → IsWhole kind turned text count
+ends_by : (kind : SessionEndKind) (grounds : ServedOver) (pieces : List (List ℕ)) (stand : Stand) (front later : List (List ℕ)) (turned : List Exchange) (text : List ℕ) (count : ℕ) → EndReason kind grounds pieces stand front later turned → IsWhole kind turned text count
     → Ends kind grounds pieces stand front later turned text count
 ends_by kinds.WriteFailed grounds pieces stand front later turned text count reached whole = absurd reached
 ends_by kinds.End grounds pieces stand front later turned text count reached whole = (reached, whole)
@@ -329,12 +329,12 @@ ends_by kinds.Endless grounds pieces stand front later turned text count reached
 ends_by kinds.Foreign grounds pieces stand front later turned text count reached whole = (reached, whole)
 
 -- how it ended, and what the link tells then
-pub record Finished {S K : Type 0} (makes : S → List Exchange → S → Type 0) (grounds : S → Grounds) (told : K → LinkState) (when : HandOn) (link final : K) (state after : S) (end : Kind) (total : ℕ) : Type 0 where
+pub record Finished {S K : Type 0} (makes : S → List Exchange → S → Type 0) (grounds : S → ServedOver) (told : K → LinkState) (when : HandOn) (link final : K) (state after : S) (end : SessionEndKind) (total : ℕ) : Type 0 where
   pub ended : Ran makes grounds told when link final state after end total
   pub leaves : Leaves end (told link) (told final)
 
 -- behind a session that stopped so, this more was written, and that is how it ends
-ended_then : {S K : Type 0} (makes : S → List Exchange → S → Type 0) (grounds : S → Grounds) (laws : AreLawful makes grounds) (told : K → LinkState) (when : HandOn) (link now final : K) (state after : S) (kind end : Kind) (count total : ℕ) (more : List ℕ) → (s : Stopping makes grounds told when link now state after kind count) → GaveAll end s.pieces → (length s.turned ≤ total → length s.turned ≤ count)
+ended_then : {S K : Type 0} (makes : S → List Exchange → S → Type 0) (grounds : S → ServedOver) (laws : AreLawful makes grounds) (told : K → LinkState) (when : HandOn) (link now final : K) (state after : S) (kind end : SessionEndKind) (count total : ℕ) (more : List ℕ) → (s : Stopping makes grounds told when link now state after kind count) → GaveAll end s.pieces → (length s.turned ≤ total → length s.turned ≤ count)
     → Ends end (grounds state) s.pieces (cut_of (joined s.pieces)).1 s.front s.later s.turned (s.text ++ more) total → Appends (told now).held (told final).held more → (told final).left ≡ (told now).left → (told final).reads ≡ (told now).reads
     → Ran makes grounds told when link final state after end total
 ended_then makes grounds laws told when link now final state after kind end count total more s gave counted ends sent left reads =
@@ -353,16 +353,16 @@ ended_then makes grounds laws told when link now final state after kind end coun
     }
 
 -- nothing more was written
-ended_so : {S K : Type 0} (makes : S → List Exchange → S → Type 0) (grounds : S → Grounds) (laws : AreLawful makes grounds) (told : K → LinkState) (when : HandOn) (link now final : K) (state after : S) (kind : Kind) (count : ℕ) → (s : Stopping makes grounds told when link now state after kind count)
+ended_so : {S K : Type 0} (makes : S → List Exchange → S → Type 0) (grounds : S → ServedOver) (laws : AreLawful makes grounds) (told : K → LinkState) (when : HandOn) (link now final : K) (state after : S) (kind : SessionEndKind) (count : ℕ) → (s : Stopping makes grounds told when link now state after kind count)
     → Ends kind (grounds state) s.pieces (cut_of (joined s.pieces)).1 s.front s.later s.turned s.text count → told final ≡ told now → Ran makes grounds told when link final state after kind count
 ended_so makes grounds laws told when link now final state after kind count s ends same =
     ended_then makes grounds laws told when link now final state after kind kind count count [] s s.gave (λ all. all)
     (subst (λ (l : List ℕ). Ends kind (grounds state) s.pieces (cut_of (joined s.pieces)).1 s.front s.later s.turned l count) (sym (append-nil s.text)) ends)
     (subst (λ (h : Option (List ℕ)). Appends (told now).held h []) (sym (ap (λ (x : LinkState). x.held) same)) (appends_none (told now).held)) (ap (λ (x : LinkState). x.left) same) (ap (λ (x : LinkState). x.reads) same)
 
-closed_by : {S K : Type 0} (makes : S → List Exchange → S → Type 0) (grounds : S → Grounds) (laws : AreLawful makes grounds) (told : K → LinkState) (when : HandOn) (link now final : K) (state after : S) (kind end : Kind) (count total : ℕ) → (s : Stopping makes grounds told when link now state after kind count)
-    → Reached kind (grounds state) s.pieces (cut_of (joined s.pieces)).1 s.front s.later s.turned × IsSaid s.turned s.text count → IsSound (told link) (told now) → (IsSound (told link) (told final) → (told final).waiting ≡ [] → Leaves kind (told link) (told final))
-    → (GaveAll kind s.pieces → Gave s.pieces) → Closing kind (told now) (told final) count end total → Finished makes grounds told when link final state after end total
+closed_by : {S K : Type 0} (makes : S → List Exchange → S → Type 0) (grounds : S → ServedOver) (laws : AreLawful makes grounds) (told : K → LinkState) (when : HandOn) (link now final : K) (state after : S) (kind end : SessionEndKind) (count total : ℕ) → (s : Stopping makes grounds told when link now state after kind count)
+    → EndReason kind (grounds state) s.pieces (cut_of (joined s.pieces)).1 s.front s.later s.turned × IsSaid s.turned s.text count → IsSound (told link) (told now) → (IsSound (told link) (told final) → (told final).waiting ≡ [] → Leaves kind (told link) (told final))
+    → (GaveAll kind s.pieces → AreNonEmptyReads s.pieces) → Closing kind (told now) (told final) count end total → Finished makes grounds told when link final state after end total
 closed_by makes grounds laws told when link now final state after kind end count total s how sound leaves plain c = elim c.closed [
   | inl w ↦ rw w.0 record {
     ended = ended_then makes grounds laws told when link now final state after kind kind count total (ending_line kind) s s.gave (λ all. omega (arith, how.1.1))
@@ -383,10 +383,10 @@ closed_by makes grounds laws told when link now final state after kind end count
 said_whole : (turned : List Exchange) (text : List ℕ) (count : ℕ) → IsSaid turned text count → (text ≡ session_text turned ++ []) × (count ≡ length turned + 0)
 said_whole turned text count said = (said.0 ∙ sym (append-nil (session_text turned)), omega (arith, said.1))
 
-same_leaves : (kind : Kind) (old now final : LinkState) → final ≡ now → Leaves kind old now → Leaves kind old final
+same_leaves : (kind : SessionEndKind) (old now final : LinkState) → final ≡ now → Leaves kind old now → Leaves kind old final
 same_leaves kind old now final same leaves = subst (λ (x : LinkState). Leaves kind old x) (sym same) leaves
 
-pub finished : {S K : Type 0} (makes : S → List Exchange → S → Type 0) (grounds : S → Grounds) (laws : AreLawful makes grounds) (told : K → LinkState) (when : HandOn) (link now final : K) (state after : S) (kind end : Kind) (count total : ℕ) → Stopping makes grounds told when link now state after kind count
+pub finished : {S K : Type 0} (makes : S → List Exchange → S → Type 0) (grounds : S → ServedOver) (laws : AreLawful makes grounds) (told : K → LinkState) (when : HandOn) (link now final : K) (state after : S) (kind end : SessionEndKind) (count total : ℕ) → Stopping makes grounds told when link now state after kind count
     → Closes kind (told now) (told final) count end total → Finished makes grounds told when link final state after end total
 finished makes grounds laws told when link now final state after kinds.End end count total s c =
     rw (c.0, c.1) record {
@@ -411,10 +411,10 @@ finished makes grounds laws told when link now final state after kinds.Endless e
 finished makes grounds laws told when link now final state after kinds.Foreign end count total s c = closed_by makes grounds laws told when link now final state after kinds.Foreign end count total s s.how s.leaves (λ sound nothing. (sound, nothing)) (λ g. g) c
 
 -- what was written could not be handed on before a read
-pub not_handed_on : {S K E : Type 0} (makes : S → List Exchange → S → Type 0) (grounds : S → Grounds) (laws : AreLawful makes grounds) (told : K → LinkState) (when : HandOn) (link now final : K) (stand : Stand) (state after : S) (reads count : ℕ) (e : E) → reads ≤ most_reads → Going makes told when link now stand state after reads count
+pub not_handed_on : {S K E : Type 0} (makes : S → List Exchange → S → Type 0) (grounds : S → ServedOver) (laws : AreLawful makes grounds) (told : K → LinkState) (when : HandOn) (link now final : K) (stand : Stand) (state after : S) (reads count : ℕ) (e : E) → reads ≤ most_reads → Going makes told when link now stand state after reads count
     → IsHandOn (told now) (told final) (Err e) → Finished makes grounds told when link final state after kinds.WriteFailed count
 not_handed_on makes grounds laws told when link now final stand state after reads count e few s hand =
-    let all : Reached kinds.End (grounds state) s.pieces (cut_of (joined s.pieces)).1 (cut_of (joined s.pieces)).0 [] s.turned = (s.no_bye, refl, subst (λ (x : Stand). IsSome x) (sym s.stands) s.is_open) in
+    let all : EndReason kinds.End (grounds state) s.pieces (cut_of (joined s.pieces)).1 (cut_of (joined s.pieces)).0 [] s.turned = (s.no_bye, refl, subst (λ (x : Stand). IsSome x) (sym s.stands) s.is_open) in
     record {
       ended = record {
         pieces = s.pieces;

@@ -18,8 +18,8 @@ use Rattle.report_line.specs.declared.reply.Reply.{Reply}
 use Rattle.report_line.specs.Cutting.{ended}
 use Rattle.report_line.specs.Replies.{reply_text}
 use Rattle.session.specs.Exchanges.{Exchange}
-use Rattle.session.specs.declared.kind.Kind.{Kind}
-use Rattle.session.specs.declared.kind.Kind.TheVariants as kinds
+use Rattle.session.specs.declared.kind.SessionEndKind.{SessionEndKind}
+use Rattle.session.specs.declared.kind.SessionEndKind.TheVariants as kinds
 use Rattle.session.specs.declared.handing.HandOn.TheVariants as hand_ons
 use Rattle.client_link.specs.Links.{LinkState, IsEnd, Puts}
 use Rattle.session.specs.SessionText.{Means, joined, at_pass, IsForeign}
@@ -124,7 +124,7 @@ module _ {D : Type 0} (keeps : D → Type 0) (view : D → View) where
       }
 
   -- what ran over a pass
-  pub link_served : {K : Type 0} (told : K → LinkState) (link final now : K) (pass after : PassState) (kind : Kind) (count : ℕ) → Ran (GainsEach keeps view) at_pass told hand_ons.EachReply link final pass after kind count → Leaves kind (told link) (told final) → IsEnd (told final) (told now)
+  pub link_served : {K : Type 0} (told : K → LinkState) (link final now : K) (pass after : PassState) (kind : SessionEndKind) (count : ℕ) → Ran (GainsEach keeps view) at_pass told hand_ons.EachReply link final pass after kind count → Leaves kind (told link) (told final) → IsEnd (told final) (told now)
       → LinkServed keeps view told link now pass after kind count
   link_served told link final now pass after kind count r leaves ends =
       record {

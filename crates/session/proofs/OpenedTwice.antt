@@ -4,7 +4,7 @@ use Rattle.std.proofs.lemmas.Bool.{true≢false}
 use Rattle.id_tree.specs.IdTree.{One}
 use Rattle.event_tree.specs.EventTree.{Leaf}
 use Rattle.record_file.specs.File.{Said}
-use Rattle.report_line.specs.declared.report.Action.TheVariants as reported
+use Rattle.report_line.specs.declared.report.ReportKind.TheVariants as reported
 use Rattle.histories.specs.Example.{a, b, right, halves}
 use Rattle.lawful_reports.proofs.Example.{line, name_a, name_b, one, on_left, on_right, leaf, halved}
 use Rattle.history_law.specs.Example.{forked}

@@ -17,7 +17,7 @@ use Rattle.chains.proofs.Turning.{unchanged, after_report_turn}
 use Rattle.reasons.specs.declared.certificate.Certificate.{Certificate}
 use Rattle.history_law.specs.Headline.{IsRightLine}
 use Rattle.line_text.specs.Asking.{AsksForLine}
-use Rattle.session.specs.Exchanges.{Exchange, ComeTo}
+use Rattle.session.specs.Exchanges.{Exchange, ReplayTo}
 use Rattle.session.specs.Headline.{EachLineIsRight}
 use Rattle.session.specs.Answered.{ok_report, ok_reports, with_ok_reports, EachLineIsRightOverAnswers, IsNoSettlement, AreUnsettled, WhatIsAcceptedWasAnswered, BothHeadlinesAreOne}
 
@@ -75,7 +75,7 @@ adds_on held mid after first rest here later =
     let counted : after.front ≡ held.front + length (first ++ rest) = omega (arith, both, front, more) in
     (later.0 ∙ ap (λ (l : List Report). l ++ rest) here.0 ∙ append_assoc held.accepted first rest, counted)
 
-exchanges_add : (held after : Held) (exchanges : List Exchange) → AreUnsettled exchanges → ComeTo held exchanges after → Adds held (ok_reports exchanges) after
+exchanges_add : (held after : Held) (exchanges : List Exchange) → AreUnsettled exchanges → ReplayTo held exchanges after → Adds held (ok_reports exchanges) after
 exchanges_add held after [] none comes = adds_nothing held after comes
 exchanges_add held after (e ∷ es) none (mid, turned, later) =
     adds_on held mid after (ok_report e.call e.reply) (ok_reports es) (turn_adds held mid e.call e.reply none.0 turned) (exchanges_add mid after es none.1 later)
@@ -89,7 +89,7 @@ unsettled_before : (before later : List Exchange) → AreUnsettled (before ++ la
 unsettled_before [] later none = tt
 unsettled_before (e ∷ es) later none = (none.0, unsettled_before es later none.1)
 
-come_before : (held after : Held) (before later : List Exchange) → ComeTo held (before ++ later) after → (at : Held) × ComeTo held before at
+come_before : (held after : Held) (before later : List Exchange) → ReplayTo held (before ++ later) after → (at : Held) × ReplayTo held before at
 come_before held after [] later comes = (held, refl)
 come_before held after (e ∷ es) later (mid, turned, more) = let rest = come_before mid after es later more in (rest.0, (mid, turned, rest.1))
 
@@ -132,9 +132,9 @@ moved : (a b : Held) (call : Call) (text : List ℕ) → a.accepted ≡ b.accept
     → (names : List Name) × AsksForLine a call names × IsRightLine a names text → (names : List Name) × AsksForLine b call names × IsRightLine b names text
 moved a b call text list front (names, asks, right) = (names, asks_over a b call names list asks, right_over a b names text list front right)
 
-to_answers : (held after : Held) (exchanges : List Exchange) → AreUnsettled exchanges → ComeTo held exchanges after → EachLineIsRight held exchanges → EachLineIsRightOverAnswers held.accepted held.front exchanges
+to_answers : (held after : Held) (exchanges : List Exchange) → AreUnsettled exchanges → ReplayTo held exchanges after → EachLineIsRight held exchanges → EachLineIsRightOverAnswers held.accepted held.front exchanges
 to_answers held after exchanges none comes each before later exchange text split shown =
-    let at = come_before held after before (exchange ∷ later) (subst (λ (es : List Exchange). ComeTo held es after) split comes) in
+    let at = come_before held after before (exchange ∷ later) (subst (λ (es : List Exchange). ReplayTo held es after) split comes) in
     let adds = exchanges_add held at.0 before (unsettled_before before (exchange ∷ later) (subst AreUnsettled split none)) at.1 in
     moved at.0 (with_ok_reports held.accepted held.front before) exchange.call text adds.0 adds.1 (each before later exchange text at.0 split at.1 shown)
 

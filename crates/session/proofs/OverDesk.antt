@@ -12,10 +12,10 @@ use Rattle.desk.specs.declared.turn.TurnFault.TheVariants as refusals
 use Rattle.report_line.specs.declared.call.Call.{Call}
 use Rattle.report_line.specs.declared.call.Call.TheVariants as calls
 use Rattle.session.specs.Exchanges.{Exchange}
-use Rattle.session.specs.declared.kind.Kind.{Kind}
+use Rattle.session.specs.declared.kind.SessionEndKind.{SessionEndKind}
 use Rattle.session.specs.declared.handing.HandOn.{HandOn}
 use Rattle.client_link.specs.Links.{LinkState}
-use Rattle.session.specs.SessionText.{Means, IsQuestion, Grounds, at_desk}
+use Rattle.session.specs.SessionText.{Means, IsQuestion, ServedOver, at_desk}
 use Rattle.session.specs.Turned.{AreExchanges, EachLineIsChosen, turns_of, MakesTurns}
 use Rattle.session.specs.Ends.{Ended}
 use Rattle.session.specs.working.Parts.{AreLawful, TakesNone, ended_by, one_reply, Serves, Ran}
@@ -65,7 +65,7 @@ makes_then keeps desk mid after es fs s t =
     }
 
 -- what a session text knows of a desk
-abbrev grounds_of : {D : Type 0} → DeskState D → Grounds
+abbrev grounds_of : {D : Type 0} → DeskState D → ServedOver
 grounds_of desk = at_desk (length desk.turns)
 
 worn_then : {D : Type 0} (keeps : D → Type 0) (desk mid : DeskState D) (es fs : Exchanges) → MakesTurns keeps desk es mid → length mid.turns + length fs ≡ turn_limit → length desk.turns + length (es ++ fs) ≡ turn_limit
@@ -104,7 +104,7 @@ none_said {D} keeps s line desk after call refusals.Memory means same none =
     (record { line = line; later = []; call = call; lines_are = refl; means = means; question = asks_state desk.held call none.1 }, λ worn. none.0 (omega (arith, worn)))
 
 -- what ran over a desk
-pub ended_at_desk : {D K : Type 0} (keeps : D → Type 0) (told : K → LinkState) (when : HandOn) (link final : K) (desk after : DeskState D) (kind : Kind) (count : ℕ) → IsReached desk.held
+pub ended_at_desk : {D K : Type 0} (keeps : D → Type 0) (told : K → LinkState) (when : HandOn) (link final : K) (desk after : DeskState D) (kind : SessionEndKind) (count : ℕ) → IsReached desk.held
     → Ran (MakesTurns keeps) (λ (d : DeskState D). at_desk (length d.turns)) told when link final desk after kind count → Ended keeps told when link final desk after kind count
 ended_at_desk keeps told when link final desk after kind count reach r =
     record {

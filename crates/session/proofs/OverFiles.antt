@@ -23,7 +23,7 @@ use Rattle.desk.specs.Records.{said_of, said_settled, recorded_by, recorded, Adm
 use Rattle.desk.proofs.OneOpening.{admits_once}
 use Rattle.desk.proofs.Recording.{Acknowledges, acknowledges, opens_more, still_goes}
 use Rattle.desk.proofs.Running.{is_unstopped}
-use Rattle.session.specs.Exchanges.{Exchange, ComeTo}
+use Rattle.session.specs.Exchanges.{Exchange, ReplayTo}
 use Rattle.session.specs.SessionText.{Means, Mean}
 use Rattle.session.specs.Current.{traced, trace_of, recorded_in, AreInOrder}
 use Rattle.session.specs.Openings.{IsRecordable, AreRecordable, IsHeldOver, WhatIsHeldIsOpened, SessionsAreOverFiles, DesksAreOverFiles, NoLineIsBelowGarbageOverFiles}
@@ -222,7 +222,7 @@ session_recordable lines [] later mean = tt
 session_recordable [] (e ∷ before) later mean = absurd mean
 session_recordable (line ∷ lines) (e ∷ before) later mean = (read_recordable line e.call e.reply mean.0, session_recordable lines before later mean.1)
 
-session_over : (found : List Said) (opening at : Held) (before : List Exchange) → Opens found opening → AreRecordable (traced before) → ComeTo opening before at
+session_over : (found : List Said) (opening at : Held) (before : List Exchange) → Opens found opening → AreRecordable (traced before) → ReplayTo opening before at
     → IsHeldOver (found ++ recorded_in (traced before)) at
 session_over found opening at before opens fit comes = record {
   found = found;

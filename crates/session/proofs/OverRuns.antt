@@ -20,22 +20,22 @@ use Rattle.settled_turns.proofs.Parted.{turns_alone, turns_in_parts, processes_o
 use Rattle.desk.specs.declared.turn.Turn.{Turn}
 use Rattle.desk.specs.Replays.{Replays, ReplaysFrom}
 use Rattle.desk.proofs.OneTurn.{turn_once}
-use Rattle.session.specs.Exchanges.{Exchange, ComeTo}
+use Rattle.session.specs.Exchanges.{Exchange, ReplayTo}
 use Rattle.line_text.specs.Asking.{AsksForLine}
 use Rattle.session.specs.Current.{traced, IsRightNow, EachLineIsRightNow, trace_of, EachSharedLineIsRightNow, AreInOrder, NoLineIsBelowGarbage, NoSharedLineIsBelowGarbage}
 
 -- ---- exchanges as turns of a trace
 
-pub come_traced : (held after : Held) (es : List Exchange) → ComeTo held es after → AreTurns held (traced es) after
+pub come_traced : (held after : Held) (es : List Exchange) → ReplayTo held es after → AreTurns held (traced es) after
 come_traced held after [] comes = comes
 come_traced held after (e ∷ es) comes = (comes.0, comes.1, come_traced comes.0 after es comes.2)
 
-are_turns : (held after : Held) (es : List Exchange) (trace : Trace) → turns_of trace ≡ traced es → ComeTo held es after → AreTurns held trace after
+are_turns : (held after : Held) (es : List Exchange) (trace : Trace) → turns_of trace ≡ traced es → ReplayTo held es after → AreTurns held trace after
 are_turns held after es trace turns comes =
     (turns_alone held after trace).0 (subst (λ (t : Trace). AreTurns held t after) (sym turns) (come_traced held after es comes))
 
-come_on : (held mid after : Held) (first second : List Exchange) → ComeTo held first mid → ComeTo mid second after → ComeTo held (first ++ second) after
-come_on held mid after [] second comes later = subst (λ (h : Held). ComeTo h second after) comes later
+come_on : (held mid after : Held) (first second : List Exchange) → ReplayTo held first mid → ReplayTo mid second after → ReplayTo held (first ++ second) after
+come_on held mid after [] second comes later = subst (λ (h : Held). ReplayTo h second after) comes later
 come_on held mid after (e ∷ es) second comes later = (comes.0, comes.1, come_on comes.0 mid after es second comes.2 later)
 
 -- ---- each line is right

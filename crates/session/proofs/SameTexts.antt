@@ -11,8 +11,8 @@ use Rattle.chains.specs.Turns.{IsTurn}
 use Rattle.reasons.specs.Shown.{IsShown}
 use Rattle.report_line.specs.Cutting.{cut_of}
 use Rattle.session.specs.Exchanges.{Exchange}
-use Rattle.session.specs.declared.kind.Kind.TheVariants as kinds
-use Rattle.session.specs.SessionText.{Means, Mean, Grounds, IsSession, joined, session_text}
+use Rattle.session.specs.declared.kind.SessionEndKind.TheVariants as kinds
+use Rattle.session.specs.SessionText.{Means, Mean, ServedOver, IsSession, joined, session_text}
 use Rattle.line_text.specs.Questions.{IsChosenFor}
 use Rattle.session.specs.Turned.{IsExchange, AreExchanges, ShowsChosen, EachLineIsChosen}
 use Rattle.session.specs.OneText.{HadEnough, IsUndisturbed}
@@ -131,12 +131,12 @@ more_lines held lines more ours theirs a b m n =
 -- ---- sessions that read all
 
 -- each line got a turn
-all_turned : (grounds : Grounds) (pieces : List (List ℕ)) (turned : Exchanges) (text : List ℕ) (count : ℕ) → IsSession grounds pieces kinds.End turned text count → Mean (cut_of (joined pieces)).0 turned
+all_turned : (grounds : ServedOver) (pieces : List (List ℕ)) (turned : Exchanges) (text : List ℕ) (count : ℕ) → IsSession grounds pieces kinds.End turned text count → Mean (cut_of (joined pieces)).0 turned
 all_turned grounds pieces turned text count s =
     let all = s.lines_are ∙ ap (λ (l : List (List ℕ)). s.front ++ l) s.ends.0.1 ∙ append-nil s.front in
     subst (λ (l : List (List ℕ)). Mean l turned) (sym all) s.mean
 
-pub same_sessions : (held : Held) (over other : Grounds) (pieces others : List (List ℕ)) (ours theirs : Exchanges) (text written : List ℕ) (n m : ℕ) → IsUndisturbed held ours → IsUndisturbed held theirs
+pub same_sessions : (held : Held) (over other : ServedOver) (pieces others : List (List ℕ)) (ours theirs : Exchanges) (text written : List ℕ) (n m : ℕ) → IsUndisturbed held ours → IsUndisturbed held theirs
     → IsSession over pieces kinds.End ours text n → IsSession other others kinds.End theirs written m → joined pieces ≡ joined others → text ≡ written
 same_sessions held over other pieces others ours theirs text written n m a b s t same =
     let mean = subst (λ (bytes : List ℕ). Mean (cut_of bytes).0 theirs) (sym same) (all_turned other others theirs written m t) in

@@ -6,18 +6,18 @@ use Rattle.std.specs.Io.KnownBytes.{Appends, Keeps}
 use Rattle.std.proofs.lemmas.List.{length-append, take-append-drop, drop_more, take_more}
 use Rattle.report_line.specs.declared.call.Call.TheVariants as calls
 use Rattle.session.specs.Exchanges.{Exchange}
-use Rattle.session.specs.declared.kind.Kind.{Kind}
-use Rattle.session.specs.declared.kind.Kind.TheVariants as kinds
+use Rattle.session.specs.declared.kind.SessionEndKind.{SessionEndKind}
+use Rattle.session.specs.declared.kind.SessionEndKind.TheVariants as kinds
 use Rattle.session.specs.declared.handing.HandOn.{HandOn}
 use Rattle.client_link.specs.Links.{LinkState, IsSound, IsHandOn, Puts}
-use Rattle.session.specs.SessionText.{Means, Mean, Grounds, IsWorn, IsUnmade, IsForeign, exchange_line, session_text}
+use Rattle.session.specs.SessionText.{Means, Mean, ServedOver, IsWorn, IsUnmade, IsForeign, exchange_line, session_text}
 use Rattle.session.specs.working.Parts.{AreLawful, IsSaid, HowFar, FaultsAt, Serves, HandsOn, ServesLines, one_reply}
 use Rattle.client_link.proofs.Sent.{appends_none, appends_keeps, appends_then, sound_none, sound_then, fault_then}
 use Rattle.session.proofs.ServedTurns.{mean_then, mean_length, far_then}
 use Rattle.session.specs.Ends.{HaveGone}
 use Rattle.session.proofs.Gone.{nothing_gone, nothing_counted, gone_few, gone_then}
 
-pub faults_then : (end : Option Kind) (r s t : LinkState) → IsSound r s → FaultsAt end s t → FaultsAt end r t
+pub faults_then : (end : Option SessionEndKind) (r s t : LinkState) → IsSound r s → FaultsAt end s t → FaultsAt end r t
 faults_then None r s t p q = sound_then r s t p q
 faults_then (Some kinds.End) r s t p q = sound_then r s t p q
 faults_then (Some kinds.Bye) r s t p q = sound_then r s t p q
@@ -35,7 +35,7 @@ one_text : (e : Exchange) → exchange_line e ≡ session_text (e ∷ [])
 one_text e = sym (append-nil (exchange_line e))
 
 -- a line whose reply was written whole, and which was no bye, or was one
-pub said_on : {S E : Type 0} (makes : S → List Exchange → S → Type 0) (grounds : S → Grounds) (laws : AreLawful makes grounds) (old new : LinkState) (line : List ℕ) (state after : S) (e : Exchange) (u : Unit {0}) → Means line e.call → makes state (e ∷ []) after
+pub said_on : {S E : Type 0} (makes : S → List Exchange → S → Type 0) (grounds : S → ServedOver) (laws : AreLawful makes grounds) (old new : LinkState) (line : List ℕ) (state after : S) (e : Exchange) (u : Unit {0}) → Means line e.call → makes state (e ∷ []) after
     → Puts {E = E} old new (Ok u) (exchange_line e) → ¬ (e.call ≡ calls.Bye) → Serves makes grounds old new (line ∷ []) state after None 1
 said_on makes grounds laws old new line state after e u means turned puts on =
     record {
@@ -53,7 +53,7 @@ said_on makes grounds laws old new line state after e u means turned puts on =
       reads = puts.reads;
     }
 
-pub said_bye : {S E : Type 0} (makes : S → List Exchange → S → Type 0) (grounds : S → Grounds) (laws : AreLawful makes grounds) (old new : LinkState) (line : List ℕ) (state after : S) (e : Exchange) (u : Unit {0}) → Means line e.call → makes state (e ∷ []) after
+pub said_bye : {S E : Type 0} (makes : S → List Exchange → S → Type 0) (grounds : S → ServedOver) (laws : AreLawful makes grounds) (old new : LinkState) (line : List ℕ) (state after : S) (e : Exchange) (u : Unit {0}) → Means line e.call → makes state (e ∷ []) after
     → Puts {E = E} old new (Ok u) (exchange_line e) → e.call ≡ calls.Bye → Serves makes grounds old new (line ∷ []) state after (Some kinds.Bye) 1
 said_bye makes grounds laws old new line state after e u means turned puts bye =
     record {
@@ -72,7 +72,7 @@ said_bye makes grounds laws old new line state after e u means turned puts bye =
     }
 
 -- a line whose reply was cut
-pub said_part : {S E : Type 0} (makes : S → List Exchange → S → Type 0) (grounds : S → Grounds) (laws : AreLawful makes grounds) (old new : LinkState) (line : List ℕ) (state after : S) (e : Exchange) (fault : E) → Means line e.call → makes state (e ∷ []) after
+pub said_part : {S E : Type 0} (makes : S → List Exchange → S → Type 0) (grounds : S → ServedOver) (laws : AreLawful makes grounds) (old new : LinkState) (line : List ℕ) (state after : S) (e : Exchange) (fault : E) → Means line e.call → makes state (e ∷ []) after
     → Puts old new (Err fault) (exchange_line e) → Serves makes grounds old new (line ∷ []) state after (Some kinds.WriteFailed) 0
 said_part makes grounds laws old new line state after e fault means turned puts =
     let sent = puts.sent in
@@ -92,7 +92,7 @@ said_part makes grounds laws old new line state after e fault means turned puts 
     }
 
 -- a line without a turn: memory was wanting, no turn was left, or the pass is foreign
-pub unmade : {S : Type 0} (makes : S → List Exchange → S → Type 0) (grounds : S → Grounds) (laws : AreLawful makes grounds) (s : LinkState) (line : List ℕ) (state after : S) → after ≡ state → IsUnmade (grounds state) (line ∷ []) []
+pub unmade : {S : Type 0} (makes : S → List Exchange → S → Type 0) (grounds : S → ServedOver) (laws : AreLawful makes grounds) (s : LinkState) (line : List ℕ) (state after : S) → after ≡ state → IsUnmade (grounds state) (line ∷ []) []
     → Serves makes grounds s s (line ∷ []) state after (Some kinds.Memory) 0
 unmade makes grounds laws s line state after same none =
     record {
@@ -110,7 +110,7 @@ unmade makes grounds laws s line state after same none =
       reads = refl;
     }
 
-pub worn_out : {S : Type 0} (makes : S → List Exchange → S → Type 0) (grounds : S → Grounds) (laws : AreLawful makes grounds) (s : LinkState) (line : List ℕ) (state after : S) → after ≡ state → IsWorn (grounds state) []
+pub worn_out : {S : Type 0} (makes : S → List Exchange → S → Type 0) (grounds : S → ServedOver) (laws : AreLawful makes grounds) (s : LinkState) (line : List ℕ) (state after : S) → after ≡ state → IsWorn (grounds state) []
     → Serves makes grounds s s (line ∷ []) state after (Some kinds.Worn) 0
 worn_out makes grounds laws s line state after same worn =
     record {
@@ -128,7 +128,7 @@ worn_out makes grounds laws s line state after same worn =
       reads = refl;
     }
 
-pub foreign : {S : Type 0} (makes : S → List Exchange → S → Type 0) (grounds : S → Grounds) (laws : AreLawful makes grounds) (s : LinkState) (line : List ℕ) (state after : S) → after ≡ state → IsForeign (grounds state) []
+pub foreign : {S : Type 0} (makes : S → List Exchange → S → Type 0) (grounds : S → ServedOver) (laws : AreLawful makes grounds) (s : LinkState) (line : List ℕ) (state after : S) → after ≡ state → IsForeign (grounds state) []
     → Serves makes grounds s s (line ∷ []) state after (Some kinds.Foreign) 0
 foreign makes grounds laws s line state after same other =
     record {
@@ -148,7 +148,7 @@ foreign makes grounds laws s line state after same other =
 
 -- ---- a loop over lines
 
-abbrev serves_none : {S : Type 0} (makes : S → List Exchange → S → Type 0) (grounds : S → Grounds) (laws : AreLawful makes grounds) (s : LinkState) (state : S) → Serves makes grounds s s [] state state None 0
+abbrev serves_none : {S : Type 0} (makes : S → List Exchange → S → Type 0) (grounds : S → ServedOver) (laws : AreLawful makes grounds) (s : LinkState) (state : S) → Serves makes grounds s s [] state state None 0
 serves_none makes grounds laws s state =
     record {
       front = [];
@@ -166,7 +166,7 @@ serves_none makes grounds laws s state =
     }
 
 -- one more line behind some that were all answered; later ones follow only where it ends
-abbrev serves_then : {S : Type 0} (makes : S → List Exchange → S → Type 0) (grounds : S → Grounds) (laws : AreLawful makes grounds) (end : Option Kind) (old mid new : LinkState) (lines more later : List (List ℕ)) (state now after : S) (m n : ℕ) → Serves makes grounds old mid lines state now None m → Serves makes grounds mid new more now after end n
+abbrev serves_then : {S : Type 0} (makes : S → List Exchange → S → Type 0) (grounds : S → ServedOver) (laws : AreLawful makes grounds) (end : Option SessionEndKind) (old mid new : LinkState) (lines more later : List (List ℕ)) (state now after : S) (m n : ℕ) → Serves makes grounds old mid lines state now None m → Serves makes grounds mid new more now after end n
     → (end ≡ None → later ≡ []) → Serves makes grounds old new (lines ++ (more ++ later)) state after end (m + n)
 serves_then makes grounds laws end old mid new lines more later state now after m n s t none =
     record {
@@ -192,7 +192,7 @@ appends_kept : (a b c : Option (List ℕ)) (x : List ℕ) → Appends a b x → 
 appends_kept a b c x p k = subst (λ (t : List ℕ). Appends a c t) (append-nil x) (appends_then a b c x [] p (appends_keeps b c k))
 
 -- where a line has its reply no call failed
-faults_sound : (end : Option Kind) (old new : LinkState) → one_reply end ≡ 1 → FaultsAt end old new → IsSound old new
+faults_sound : (end : Option SessionEndKind) (old new : LinkState) → one_reply end ≡ 1 → FaultsAt end old new → IsSound old new
 faults_sound None old new one f = f
 faults_sound (Some kinds.Bye) old new one f = f
 faults_sound (Some kinds.End) old new one f = absurd (omega (arith, one))
@@ -204,7 +204,7 @@ faults_sound (Some kinds.WriteFailed) old new one f = absurd (omega (arith, one)
 faults_sound (Some kinds.Endless) old new one f = absurd (omega (arith, one))
 faults_sound (Some kinds.Foreign) old new one f = absurd (omega (arith, one))
 
-sound_faults : (end : Option Kind) (old new : LinkState) → one_reply end ≡ 1 → IsSound old new → FaultsAt end old new
+sound_faults : (end : Option SessionEndKind) (old new : LinkState) → one_reply end ≡ 1 → IsSound old new → FaultsAt end old new
 sound_faults None old new one s = s
 sound_faults (Some kinds.Bye) old new one s = s
 sound_faults (Some kinds.End) old new one s = absurd (omega (arith, one))
@@ -217,7 +217,7 @@ sound_faults (Some kinds.Endless) old new one s = absurd (omega (arith, one))
 sound_faults (Some kinds.Foreign) old new one s = absurd (omega (arith, one))
 
 -- and the replies were written
-said_of : (end : Option Kind) (grounds : Grounds) (later : List (List ℕ)) (turned : List Exchange) (text : List ℕ) (count : ℕ) → one_reply end ≡ 1 → HowFar end grounds later turned text count → IsSaid turned text count
+said_of : (end : Option SessionEndKind) (grounds : ServedOver) (later : List (List ℕ)) (turned : List Exchange) (text : List ℕ) (count : ℕ) → one_reply end ≡ 1 → HowFar end grounds later turned text count → IsSaid turned text count
 said_of None grounds later turned text count one far = far.2
 said_of (Some kinds.Bye) grounds later turned text count one far = far.1
 said_of (Some kinds.End) grounds later turned text count one far = absurd (omega (arith, one))
@@ -238,7 +238,7 @@ pub some_none : {X : Type 0} {x : X} → ¬ (Some x ≡ None)
 some_none e = cc
 
 -- a reply that was handed on behind its line: all else is as it was
-handed : {S E : Type 0} (makes : S → List Exchange → S → Type 0) (grounds : S → Grounds) (old mid new : LinkState) (lines : List (List ℕ)) (state after : S) (end : Option Kind) (n : ℕ) (u : Unit {0}) → one_reply end ≡ 1 → Serves makes grounds old mid lines state after end n → IsHandOn {E = E} mid new (Ok u)
+handed : {S E : Type 0} (makes : S → List Exchange → S → Type 0) (grounds : S → ServedOver) (old mid new : LinkState) (lines : List (List ℕ)) (state after : S) (end : Option SessionEndKind) (n : ℕ) (u : Unit {0}) → one_reply end ≡ 1 → Serves makes grounds old mid lines state after end n → IsHandOn {E = E} mid new (Ok u)
     → Serves makes grounds old new lines state after end n
 handed makes grounds old mid new lines state after end n u one s hand =
     record {
@@ -257,7 +257,7 @@ handed makes grounds old mid new lines state after end n u one s hand =
     }
 
 -- a reply that could not be handed on
-not_handed : {S E : Type 0} (makes : S → List Exchange → S → Type 0) (grounds : S → Grounds) (old mid new : LinkState) (line : List ℕ) (state after : S) (end : Option Kind) (e : E) → one_reply end ≡ 1 → Serves makes grounds old mid (line ∷ []) state after end 1 → IsHandOn mid new (Err e)
+not_handed : {S E : Type 0} (makes : S → List Exchange → S → Type 0) (grounds : S → ServedOver) (old mid new : LinkState) (line : List ℕ) (state after : S) (end : Option SessionEndKind) (e : E) → one_reply end ≡ 1 → Serves makes grounds old mid (line ∷ []) state after end 1 → IsHandOn mid new (Err e)
     → Serves makes grounds old new (line ∷ []) state after (Some kinds.WriteFailed) 0
 not_handed makes grounds old mid new line state after end e one s hand =
     let said = said_of end (grounds state) s.later s.turned s.text 1 one s.how in
@@ -282,7 +282,7 @@ few_turned : (front later : List (List ℕ)) (line : List ℕ) (turned : List Ex
 few_turned front later line turned parts mean = omega (arith, ap length parts, length-append front later, mean_length front turned mean)
 
 -- one line, whose reply was handed on where each is
-pub line_served : {S K : Type 0} (makes : S → List Exchange → S → Type 0) (grounds : S → Grounds) (told : K → LinkState) (when : HandOn) (old mid new : K) (line : List ℕ) (state after : S) (end result : Option Kind) → Serves makes grounds (told old) (told mid) (line ∷ []) state after end (one_reply end)
+pub line_served : {S K : Type 0} (makes : S → List Exchange → S → Type 0) (grounds : S → ServedOver) (told : K → LinkState) (when : HandOn) (old mid new : K) (line : List ℕ) (state after : S) (end result : Option SessionEndKind) → Serves makes grounds (told old) (told mid) (line ∷ []) state after end (one_reply end)
     → HandsOn when end (told mid) (told new) result → ServesLines makes grounds told when old new (line ∷ []) state after result (one_reply result)
 line_served makes grounds told when old mid new line state after end result s (inl none) =
     let served : Serves makes grounds (told old) (told new) (line ∷ []) state after end (one_reply end) = subst (λ (x : LinkState). Serves makes grounds (told old) x (line ∷ []) state after end (one_reply end)) (sym none.2) s in
@@ -315,11 +315,11 @@ line_served makes grounds told when old mid new line state after end result s (i
 
 -- ---- a loop over lines, each reply handed on where that is wanted
 
-pub lines_none : {S K : Type 0} (makes : S → List Exchange → S → Type 0) (grounds : S → Grounds) (laws : AreLawful makes grounds) (told : K → LinkState) (when : HandOn) (link : K) (state : S) → ServesLines makes grounds told when link link [] state state None 0
+pub lines_none : {S K : Type 0} (makes : S → List Exchange → S → Type 0) (grounds : S → ServedOver) (laws : AreLawful makes grounds) (told : K → LinkState) (when : HandOn) (link : K) (state : S) → ServesLines makes grounds told when link link [] state state None 0
 lines_none makes grounds laws told when link state =
     record { served = serves_none makes grounds laws (told link) state; gone = λ each rests. nothing_gone told link 0; rests = λ each rests goes. rests }
 
-lines_then : {S K : Type 0} (makes : S → List Exchange → S → Type 0) (grounds : S → Grounds) (laws : AreLawful makes grounds) (told : K → LinkState) (when : HandOn) (end : Option Kind) (old mid new : K) (lines more later : List (List ℕ)) (state now after : S) (m n : ℕ) → ServesLines makes grounds told when old mid lines state now None m
+lines_then : {S K : Type 0} (makes : S → List Exchange → S → Type 0) (grounds : S → ServedOver) (laws : AreLawful makes grounds) (told : K → LinkState) (when : HandOn) (end : Option SessionEndKind) (old mid new : K) (lines more later : List (List ℕ)) (state now after : S) (m n : ℕ) → ServesLines makes grounds told when old mid lines state now None m
     → ServesLines makes grounds told when mid new more now after end n → (end ≡ None → later ≡ []) → ServesLines makes grounds told when old new (lines ++ (more ++ later)) state after end (m + n)
 lines_then makes grounds laws told when end old mid new lines more later state now after m n s t none =
     let first = s.served in
@@ -330,7 +330,7 @@ lines_then makes grounds laws told when end old mid new lines more later state n
     }
 
 -- the line at an index, where those before it were answered, and it is the last that is served
-pub lines_to : {S K : Type 0} (makes : S → List Exchange → S → Type 0) (grounds : S → Grounds) (laws : AreLawful makes grounds) (told : K → LinkState) (when : HandOn) (end : Option Kind) (old mid new : K) (lines : List (List ℕ)) (i : ℕ) (line : List ℕ) (state now after : S) (m n : ℕ) → slice_get lines i ≡ Some line
+pub lines_to : {S K : Type 0} (makes : S → List Exchange → S → Type 0) (grounds : S → ServedOver) (laws : AreLawful makes grounds) (told : K → LinkState) (when : HandOn) (end : Option SessionEndKind) (old mid new : K) (lines : List (List ℕ)) (i : ℕ) (line : List ℕ) (state now after : S) (m n : ℕ) → slice_get lines i ≡ Some line
     → ServesLines makes grounds told when old mid (take i lines) state now None m → ServesLines makes grounds told when mid new (line ∷ []) now after end n → ¬ (end ≡ None) → ServesLines makes grounds told when old new lines state after end (m + n)
 lines_to makes grounds laws told when end old mid new lines i line state now after m n at s t stops =
     let is : line ≡ get_or lines i line = sym (get_or_from_slice_get lines i line line at) in
@@ -340,7 +340,7 @@ lines_to makes grounds laws told when end old mid new lines i line state now aft
     (lines_then makes grounds laws told when end old mid new (take i lines) (line ∷ []) (drop (i + 1) lines) state now after m n s t (λ none. absurd (stops none)))
 
 -- the line at an index, where those before it were answered, and it was too
-pub lines_on : {S K : Type 0} (makes : S → List Exchange → S → Type 0) (grounds : S → Grounds) (laws : AreLawful makes grounds) (told : K → LinkState) (when : HandOn) (old mid new : K) (lines : List (List ℕ)) (i : ℕ) (line : List ℕ) (state now after : S) (m n : ℕ) → slice_get lines i ≡ Some line
+pub lines_on : {S K : Type 0} (makes : S → List Exchange → S → Type 0) (grounds : S → ServedOver) (laws : AreLawful makes grounds) (told : K → LinkState) (when : HandOn) (old mid new : K) (lines : List (List ℕ)) (i : ℕ) (line : List ℕ) (state now after : S) (m n : ℕ) → slice_get lines i ≡ Some line
     → ServesLines makes grounds told when old mid (take i lines) state now None m → ServesLines makes grounds told when mid new (line ∷ []) now after None n → ServesLines makes grounds told when old new (take (i + 1) lines) state after None (m + n)
 lines_on makes grounds laws told when old mid new lines i line state now after m n at s t =
     let is : line ≡ get_or lines i line = sym (get_or_from_slice_get lines i line line at) in

@@ -4,10 +4,10 @@ use Rattle.std.specs.Prelude.{Bool, ◌==◌, nat_lt, if◌then◌else◌}
 use Rattle.std.specs.Io.KnownBytes.{Appends, Consumes, Keeps}
 use Rattle.report_line.specs.Cutting.{Stand, onto, cut_from}
 use Rattle.session.specs.Exchanges.{Exchange}
-use Rattle.session.specs.declared.kind.Kind.{Kind}
-use Rattle.session.specs.declared.kind.Kind.TheVariants as kinds
+use Rattle.session.specs.declared.kind.SessionEndKind.{SessionEndKind}
+use Rattle.session.specs.declared.kind.SessionEndKind.TheVariants as kinds
 use Rattle.client_link.specs.Links.{LinkState, IsRead}
-use Rattle.session.specs.SessionText.{Grounds}
+use Rattle.session.specs.SessionText.{ServedOver}
 use Rattle.session.specs.Ends.{EachHasGone}
 use Rattle.session.specs.declared.handing.HandOn.{HandOn}
 use Rattle.session.specs.working.Parts.{AreLawful, HowFar, FaultsAt, Serves, ServesLines, Follows, StepsTo, IsQuiet, GaveBy, Steps, StepsOn}
@@ -29,7 +29,7 @@ abbrev same_held : (a b : Option (List ℕ)) → b ≡ a → Appends a b []
 same_held a b same = subst (λ (x : Option (List ℕ)). Appends a x []) (sym same) (appends_none a)
 
 -- a read that failed
-abbrev read_failed : {S E : Type 0} (makes : S → List Exchange → S → Type 0) (grounds : S → Grounds) (laws : AreLawful makes grounds) (old new : LinkState) (stand : Stand) (state : S) (e : E) (buf : List ℕ) → ¬ (stand ≡ None) → IsRead old new (Err e) buf → Steps makes grounds old new stand stand state state (Some kinds.ReadFailed) 0
+abbrev read_failed : {S E : Type 0} (makes : S → List Exchange → S → Type 0) (grounds : S → ServedOver) (laws : AreLawful makes grounds) (old new : LinkState) (stand : Stand) (state : S) (e : E) (buf : List ℕ) → ¬ (stand ≡ None) → IsRead old new (Err e) buf → Steps makes grounds old new stand stand state state (Some kinds.ReadFailed) 0
 read_failed makes grounds laws old new None state e buf some read = absurd (some refl)
 read_failed makes grounds laws old new (Some rest) state e buf some read =
     record {
@@ -52,7 +52,7 @@ read_failed makes grounds laws old new (Some rest) state e buf some read =
     }
 
 -- a read at the end
-abbrev read_end : {S E : Type 0} (makes : S → List Exchange → S → Type 0) (grounds : S → Grounds) (laws : AreLawful makes grounds) (old new : LinkState) (stand : Stand) (state : S) (n : ℕ) (buf : List ℕ) → ¬ (stand ≡ None) → n ≡ 0 → 0 < length buf → IsRead {E = E} old new (Ok n) buf
+abbrev read_end : {S E : Type 0} (makes : S → List Exchange → S → Type 0) (grounds : S → ServedOver) (laws : AreLawful makes grounds) (old new : LinkState) (stand : Stand) (state : S) (n : ℕ) (buf : List ℕ) → ¬ (stand ≡ None) → n ≡ 0 → 0 < length buf → IsRead {E = E} old new (Ok n) buf
     → Steps makes grounds old new stand stand state state (Some kinds.End) 0
 read_end makes grounds laws old new None state n buf some none room read = absurd (some refl)
 read_end makes grounds laws old new (Some rest) state n buf some none room read =
@@ -76,7 +76,7 @@ read_end makes grounds laws old new (Some rest) state n buf some none room read 
     }
 
 -- no memory for the lines of a piece
-abbrev read_refused : {S E : Type 0} (makes : S → List Exchange → S → Type 0) (grounds : S → Grounds) (laws : AreLawful makes grounds) (old new : LinkState) (stand stand_after : Stand) (state : S) (n : ℕ) (buf : List ℕ) → 0 < length (take n buf) → IsRead {E = E} old new (Ok n) buf
+abbrev read_refused : {S E : Type 0} (makes : S → List Exchange → S → Type 0) (grounds : S → ServedOver) (laws : AreLawful makes grounds) (old new : LinkState) (stand stand_after : Stand) (state : S) (n : ℕ) (buf : List ℕ) → 0 < length (take n buf) → IsRead {E = E} old new (Ok n) buf
     → Steps makes grounds old new stand stand_after state state (Some kinds.Memory) 0
 read_refused makes grounds laws old new stand stand_after state n buf some read =
     record {
@@ -98,7 +98,7 @@ read_refused makes grounds laws old new stand stand_after state n buf some read 
       reads = read.counted;
     }
 
-steps_by : (from end : Option Kind) (grounds : Grounds) (stand : Stand) (front later : List (List ℕ)) (turned : List Exchange) (text : List ℕ) (count : ℕ) → Follows from stand end → HowFar from grounds later turned text count → StepsTo end grounds stand front later turned text count
+steps_by : (from end : Option SessionEndKind) (grounds : ServedOver) (stand : Stand) (front later : List (List ℕ)) (turned : List Exchange) (text : List ℕ) (count : ℕ) → Follows from stand end → HowFar from grounds later turned text count → StepsTo end grounds stand front later turned text count
 steps_by None end grounds stand front later turned text count (inl f) far = rw f.1 (far.0, far.1, f.0, far.2)
 steps_by None end grounds stand front later turned text count (inr f) far = rw f.1 (far.0, far.1, f.0, far.2)
 steps_by (Some kinds.Bye) end grounds stand front later turned text count f far = rw f far
@@ -111,7 +111,7 @@ steps_by (Some kinds.TooLong) end grounds stand front later turned text count f 
 steps_by (Some kinds.ReadFailed) end grounds stand front later turned text count f far = absurd far
 steps_by (Some kinds.Endless) end grounds stand front later turned text count f far = absurd far
 
-quiet_by : (from end : Option Kind) (grounds : Grounds) (old new : LinkState) (stand : Stand) (later : List (List ℕ)) (turned : List Exchange) (text : List ℕ) (count : ℕ) → Follows from stand end → HowFar from grounds later turned text count → IsQuiet end old new
+quiet_by : (from end : Option SessionEndKind) (grounds : ServedOver) (old new : LinkState) (stand : Stand) (later : List (List ℕ)) (turned : List Exchange) (text : List ℕ) (count : ℕ) → Follows from stand end → HowFar from grounds later turned text count → IsQuiet end old new
 quiet_by None end grounds old new stand later turned text count (inl f) far = rw f.1 tt
 quiet_by None end grounds old new stand later turned text count (inr f) far = rw f.1 tt
 quiet_by (Some kinds.Bye) end grounds old new stand later turned text count f far = rw f tt
@@ -124,12 +124,12 @@ quiet_by (Some kinds.TooLong) end grounds old new stand later turned text count 
 quiet_by (Some kinds.ReadFailed) end grounds old new stand later turned text count f far = absurd far
 quiet_by (Some kinds.Endless) end grounds old new stand later turned text count f far = absurd far
 
-faults_by : (from end : Option Kind) (old new : LinkState) (stand : Stand) → Follows from stand end → FaultsAt from old new → FaultsAt end old new
+faults_by : (from end : Option SessionEndKind) (old new : LinkState) (stand : Stand) → Follows from stand end → FaultsAt from old new → FaultsAt end old new
 faults_by None end old new stand (inl f) faults = rw f.1 faults
 faults_by None end old new stand (inr f) faults = rw f.1 faults
 faults_by (Some kind) end old new stand f faults = rw f faults
 
-gave_by : (from end : Option Kind) (grounds : Grounds) (stand : Stand) (later : List (List ℕ)) (turned : List Exchange) (text : List ℕ) (count : ℕ) (piece : List ℕ) → Follows from stand end → HowFar from grounds later turned text count → 0 < length piece → GaveBy end piece
+gave_by : (from end : Option SessionEndKind) (grounds : ServedOver) (stand : Stand) (later : List (List ℕ)) (turned : List Exchange) (text : List ℕ) (count : ℕ) (piece : List ℕ) → Follows from stand end → HowFar from grounds later turned text count → 0 < length piece → GaveBy end piece
 gave_by None end grounds stand later turned text count piece (inl f) far some = rw f.1 some
 gave_by None end grounds stand later turned text count piece (inr f) far some = rw f.1 some
 gave_by (Some kinds.Bye) end grounds stand later turned text count piece f far some = rw f some
@@ -143,7 +143,7 @@ gave_by (Some kinds.ReadFailed) end grounds stand later turned text count piece 
 gave_by (Some kinds.Endless) end grounds stand later turned text count piece f far some = absurd far
 
 -- the lines of a piece were served
-abbrev read_served : {S E : Type 0} (makes : S → List Exchange → S → Type 0) (grounds : S → Grounds) (laws : AreLawful makes grounds) (from end : Option Kind) (old mid new : LinkState) (stand stand_after : Stand) (state after : S) (n count : ℕ) (buf : List ℕ) (lines : List (List ℕ)) → 0 < length (take n buf) → IsRead {E = E} old mid (Ok n) buf
+abbrev read_served : {S E : Type 0} (makes : S → List Exchange → S → Type 0) (grounds : S → ServedOver) (laws : AreLawful makes grounds) (from end : Option SessionEndKind) (old mid new : LinkState) (stand stand_after : Stand) (state after : S) (n count : ℕ) (buf : List ℕ) (lines : List (List ℕ)) → 0 < length (take n buf) → IsRead {E = E} old mid (Ok n) buf
     → cut_from stand (take n buf) ≡ (lines, stand_after) → Serves makes grounds mid new lines state after from count → Follows from stand_after end → Steps makes grounds old new stand stand_after state after end count
 read_served makes grounds laws from end old mid new stand stand_after state after n count buf lines some read cut s follows =
     record {
@@ -167,24 +167,24 @@ read_served makes grounds laws from end old mid new stand stand_after state afte
 
 -- ---- the same, where each reply is handed on
 
-pub step_failed : {S K E : Type 0} (makes : S → List Exchange → S → Type 0) (grounds : S → Grounds) (laws : AreLawful makes grounds) (told : K → LinkState) (when : HandOn) (old new : K) (stand : Stand) (state : S) (e : E) (buf : List ℕ) → ¬ (stand ≡ None) → IsRead (told old) (told new) (Err e) buf
+pub step_failed : {S K E : Type 0} (makes : S → List Exchange → S → Type 0) (grounds : S → ServedOver) (laws : AreLawful makes grounds) (told : K → LinkState) (when : HandOn) (old new : K) (stand : Stand) (state : S) (e : E) (buf : List ℕ) → ¬ (stand ≡ None) → IsRead (told old) (told new) (Err e) buf
     → StepsOn makes grounds told when old new stand stand state state (Some kinds.ReadFailed) 0
 step_failed makes grounds laws told when old new None state e buf some read = absurd (some refl)
 step_failed makes grounds laws told when old new (Some rest) state e buf some read =
     record { steps = read_failed makes grounds laws (told old) (told new) (Some rest) state e buf some read; gone = λ each rests. nothing_gone told old 0 }
 
-pub step_end : {S K E : Type 0} (makes : S → List Exchange → S → Type 0) (grounds : S → Grounds) (laws : AreLawful makes grounds) (told : K → LinkState) (when : HandOn) (old new : K) (stand : Stand) (state : S) (n : ℕ) (buf : List ℕ) → ¬ (stand ≡ None) → n ≡ 0 → 0 < length buf → IsRead {E = E} (told old) (told new) (Ok n) buf
+pub step_end : {S K E : Type 0} (makes : S → List Exchange → S → Type 0) (grounds : S → ServedOver) (laws : AreLawful makes grounds) (told : K → LinkState) (when : HandOn) (old new : K) (stand : Stand) (state : S) (n : ℕ) (buf : List ℕ) → ¬ (stand ≡ None) → n ≡ 0 → 0 < length buf → IsRead {E = E} (told old) (told new) (Ok n) buf
     → StepsOn makes grounds told when old new stand stand state state (Some kinds.End) 0
 step_end makes grounds laws told when old new None state n buf some none room read = absurd (some refl)
 step_end makes grounds laws told when old new (Some rest) state n buf some none room read =
     record { steps = read_end makes grounds laws (told old) (told new) (Some rest) state n buf some none room read; gone = λ each rests. nothing_gone told old 0 }
 
-pub step_refused : {S K E : Type 0} (makes : S → List Exchange → S → Type 0) (grounds : S → Grounds) (laws : AreLawful makes grounds) (told : K → LinkState) (when : HandOn) (old new : K) (stand stand_after : Stand) (state : S) (n : ℕ) (buf : List ℕ) → 0 < length (take n buf) → IsRead {E = E} (told old) (told new) (Ok n) buf
+pub step_refused : {S K E : Type 0} (makes : S → List Exchange → S → Type 0) (grounds : S → ServedOver) (laws : AreLawful makes grounds) (told : K → LinkState) (when : HandOn) (old new : K) (stand stand_after : Stand) (state : S) (n : ℕ) (buf : List ℕ) → 0 < length (take n buf) → IsRead {E = E} (told old) (told new) (Ok n) buf
     → StepsOn makes grounds told when old new stand stand_after state state (Some kinds.Memory) 0
 step_refused makes grounds laws told when old new stand stand_after state n buf some read =
     record { steps = read_refused makes grounds laws (told old) (told new) stand stand_after state n buf some read; gone = λ each rests. nothing_gone told old 0 }
 
-pub step_served : {S K E : Type 0} (makes : S → List Exchange → S → Type 0) (grounds : S → Grounds) (laws : AreLawful makes grounds) (told : K → LinkState) (when : HandOn) (from end : Option Kind) (old mid new : K) (stand stand_after : Stand) (state after : S) (n count : ℕ) (buf : List ℕ) (lines : List (List ℕ)) → 0 < length (take n buf)
+pub step_served : {S K E : Type 0} (makes : S → List Exchange → S → Type 0) (grounds : S → ServedOver) (laws : AreLawful makes grounds) (told : K → LinkState) (when : HandOn) (from end : Option SessionEndKind) (old mid new : K) (stand stand_after : Stand) (state after : S) (n count : ℕ) (buf : List ℕ) (lines : List (List ℕ)) → 0 < length (take n buf)
     → IsRead {E = E} (told old) (told mid) (Ok n) buf → cut_from stand (take n buf) ≡ (lines, stand_after) → ServesLines makes grounds told when mid new lines state after from count → Follows from stand_after end → StepsOn makes grounds told when old new stand stand_after state after end count
 step_served makes grounds laws told when from end old mid new stand stand_after state after n count buf lines some read cut s follows =
     let t = s.served in

@@ -9,7 +9,7 @@ use Rattle.chains.specs.Processes.{Name}
 use Rattle.chains.specs.Held.{Held}
 use Rattle.history_law.specs.Headline.{IsRightLine}
 use Rattle.line_text.specs.Asking.{AsksForLine}
-use Rattle.session.specs.Exchanges.{Exchange, ComeTo}
+use Rattle.session.specs.Exchanges.{Exchange, ReplayTo}
 use Rattle.session.specs.Headline.{EachLineIsRight}
 
 -- the report, if the call is one and was answered OK
@@ -52,12 +52,12 @@ AreUnsettled (e ∷ es) = IsNoSettlement e.reply × AreUnsettled es
 -- these.
 abbrev pub WhatIsAcceptedWasAnswered : Type 0
 WhatIsAcceptedWasAnswered =
-    (held after : Held) (exchanges : List Exchange) → AreUnsettled exchanges → ComeTo held exchanges after
+    (held after : Held) (exchanges : List Exchange) → AreUnsettled exchanges → ReplayTo held exchanges after
     → (after.accepted ≡ held.accepted ++ ok_reports exchanges) × (after.front ≡ held.front + length (ok_reports exchanges))
 
 -- If nothing was settled among exchanges that took turns, the headline over what admission holds and the one over the reports that were
 -- answered OK are the same statement.
 abbrev pub BothHeadlinesAreOne : Type 0
 BothHeadlinesAreOne =
-    (held after : Held) (exchanges : List Exchange) → AreUnsettled exchanges → ComeTo held exchanges after
+    (held after : Held) (exchanges : List Exchange) → AreUnsettled exchanges → ReplayTo held exchanges after
     → (EachLineIsRight held exchanges ↔ EachLineIsRightOverAnswers held.accepted held.front exchanges)

@@ -21,7 +21,7 @@ use Rattle.desk.specs.Records.{recorded_by, Opens}
 use Rattle.desk.specs.Replays.{Replays}
 use Rattle.coordinator.specs.Passes.{PassEntry}
 use Rattle.coordinator.specs.Closing.{ShowsRightly}
-use Rattle.session.specs.Exchanges.{Exchange, ComeTo}
+use Rattle.session.specs.Exchanges.{Exchange, ReplayTo}
 use Rattle.line_text.specs.Asking.{AsksForLine}
 use Rattle.session.specs.Headline.{EachLineIsRight}
 
@@ -52,7 +52,7 @@ pub record IsRightNow (root : Name) (run : Run) (held : Held) (names : List Name
 abbrev pub EachLineIsRightNow : Type 0
 EachLineIsRightNow =
     (root : Name) (run : Run) (held at : Held) (exchanges before later : List Exchange) (exchange : Exchange) (text : List ℕ) (trace : Trace)
-    → IsObeyed root run → IsHeldAfter run held → EachLineIsRight held exchanges → exchanges ≡ before ++ exchange ∷ later → ComeTo held before at
+    → IsObeyed root run → IsHeldAfter run held → EachLineIsRight held exchanges → exchanges ≡ before ++ exchange ∷ later → ReplayTo held before at
     → exchange.shown ≡ Line text → IsTraceOf root run before trace
     → (now : Run) × Extends root run trace now × ((names : List Name) × AsksForLine at exchange.call names × IsRightNow root now at names text)
 
@@ -75,7 +75,7 @@ NoLineIsBelowGarbage =
     → IsObeyed root run → IsHeldAfter run held → EachLineIsRight held exchanges
     → exchanges ≡ before ++ collected ∷ (between ++ exchange ∷ later)
     → collected.call ≡ calls.Garbage → collected.shown ≡ Line lowest → exchange.shown ≡ Line text
-    → ComeTo held before first → ComeTo first (collected ∷ between) at
+    → ReplayTo held before first → ReplayTo first (collected ∷ between) at
     → turns_of earlier ≡ traced before → turns_of trace ≡ traced (collected ∷ between) → ProcessesObey root run (earlier ++ trace)
     → AreInOrder first at lowest text
 

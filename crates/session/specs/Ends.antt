@@ -4,8 +4,8 @@ use Rattle.std.specs.Io.KnownBytes.{Appends, Consumes, IsAtEnd}
 use Rattle.desk.specs.Desks.{DeskState}
 use Rattle.report_line.specs.Cutting.{cut_of}
 use Rattle.session.specs.Exchanges.{Exchange}
-use Rattle.session.specs.declared.kind.Kind.{Kind}
-use Rattle.session.specs.declared.kind.Kind.TheVariants as kinds
+use Rattle.session.specs.declared.kind.SessionEndKind.{SessionEndKind}
+use Rattle.session.specs.declared.kind.SessionEndKind.TheVariants as kinds
 use Rattle.session.specs.declared.handing.HandOn.{HandOn}
 use Rattle.session.specs.declared.handing.HandOn.TheVariants as hand_ons
 use Rattle.client_link.specs.Links.{up, LinkState, IsSound, IsFault}
@@ -47,7 +47,7 @@ pub record EachHasGone {K : Type 0} (told : K → LinkState) (link : K) (turned 
 
 -- What each read gave, the session text of it, which was written, and the exchanges, which are the turns that were made; each
 -- LINE among them is right, and is the one that the rounds choose.
-pub record Ended {D K : Type 0} (keeps : D → Type 0) (told : K → LinkState) (when : HandOn) (link after_link : K) (desk after : DeskState D) (kind : Kind) (count : ℕ) : Type 0 where
+pub record Ended {D K : Type 0} (keeps : D → Type 0) (told : K → LinkState) (when : HandOn) (link after_link : K) (desk after : DeskState D) (kind : SessionEndKind) (count : ℕ) : Type 0 where
   pub pieces : List (List ℕ)
   pub turned : List Exchange
   pub text : List ℕ
@@ -64,7 +64,7 @@ pub record Ended {D K : Type 0} (keeps : D → Type 0) (told : K → LinkState) 
 
 -- What a link tells where a session ends so: a read failed, or a write or a hand-on; or none did, and nothing waits. It was not
 -- ended.
-abbrev pub Leaves : Kind → LinkState → LinkState → Type 0
+abbrev pub Leaves : SessionEndKind → LinkState → LinkState → Type 0
 Leaves kinds.ReadFailed old new = (new.failures ≡ up 1 old.failures) × (new.stalls ≡ old.stalls) × (new.waiting ≡ []) × (new.ended ≡ old.ended)
 Leaves kinds.WriteFailed old new = IsFault old new
 Leaves kinds.End old new = IsSound old new × (new.waiting ≡ []) × IsAtEnd new.left

@@ -13,6 +13,6 @@ pub record Exchange : Type 0 where
 
 -- From what is held the calls of these exchanges take turns with their replies, one after the other, and come to this. (They come to
 -- one thing: a settlement returns all to the greatest cut, and that is one.)
-abbrev pub ComeTo : Held → List Exchange → Held → Type 0
-ComeTo held [] after = after ≡ held
-ComeTo held (e ∷ es) after = (between : Held) × IsTurn held e.call e.reply between × ComeTo between es after
+abbrev pub ReplayTo : Held → List Exchange → Held → Type 0
+ReplayTo held [] after = after ≡ held
+ReplayTo held (e ∷ es) after = (between : Held) × IsTurn held e.call e.reply between × ReplayTo between es after

@@ -5,7 +5,7 @@ use Rattle.line_disk.specs.Disk.{View}
 use Rattle.coordinator.specs.Passes.{PassEntry, PassState}
 use Rattle.coordinator.specs.Standing.{IsMade}
 use Rattle.session.specs.Exchanges.{Exchange}
-use Rattle.session.specs.declared.kind.Kind.{Kind}
+use Rattle.session.specs.declared.kind.SessionEndKind.{SessionEndKind}
 use Rattle.client_link.specs.Links.{up, LinkState, IsEnd}
 use Rattle.session.specs.SessionText.{joined, most_reads, at_pass, IsSession}
 use Rattle.session.specs.Ends.{IsPrompt, EachHasGone, Leaves}
@@ -35,7 +35,7 @@ pub record Gains {D : Type 0} (keeps : D → Type 0) (view : D → View) (old : 
 -- A session over a pass of a coordinator whose desk is on such a disk: what each read gave, the session text of it, which was written,
 -- and the exchanges, which are those of the entries that the pass gained; before each turn all earlier replies had gone, and before an
 -- ending line all replies; and what the link tells then: it was ended as the last thing, since no call failed behind its end.
-pub record LinkServed {D K : Type 0} (keeps : D → Type 0) (view : D → View) (told : K → LinkState) (before now : K) (fresh pass : PassState) (kind : Kind) (count : ℕ) : Type 0 where
+pub record LinkServed {D K : Type 0} (keeps : D → Type 0) (view : D → View) (told : K → LinkState) (before now : K) (fresh pass : PassState) (kind : SessionEndKind) (count : ℕ) : Type 0 where
   pub pieces : List (List ℕ)
   pub turned : List Exchange
   pub text : List ℕ

@@ -5,11 +5,11 @@ use Rattle.chains.specs.Processes.{Name}
 use Rattle.chains.specs.Held.{Held}
 use Rattle.history_law.specs.Headline.{IsRightLine}
 use Rattle.line_text.specs.Asking.{AsksForLine}
-use Rattle.session.specs.Exchanges.{Exchange, ComeTo}
+use Rattle.session.specs.Exchanges.{Exchange, ReplayTo}
 
 -- Wherever among the exchanges a LINE is shown, a question for a line asked for it, and it is right over what was held at that
 -- place: its line is the greatest closed cut of every lawful history that agrees with what was accepted there.
 abbrev pub EachLineIsRight : Held → List Exchange → Type 0
 EachLineIsRight held exchanges =
-    (before later : List Exchange) (exchange : Exchange) (text : List ℕ) (at : Held) → exchanges ≡ before ++ exchange ∷ later → ComeTo held before at → exchange.shown ≡ replies.Line text
+    (before later : List Exchange) (exchange : Exchange) (text : List ℕ) (at : Held) → exchanges ≡ before ++ exchange ∷ later → ReplayTo held before at → exchange.shown ≡ replies.Line text
     → (names : List Name) × AsksForLine at exchange.call names × IsRightLine at names text

@@ -15,7 +15,7 @@ use Rattle.desk.specs.Files.{UsesDevice}
 use Rattle.desk.specs.Lawful.{unstopped}
 use Rattle.desk.specs.Records.{Opens, recorded}
 use Rattle.desk.specs.Replays.{Replays}
-use Rattle.session.specs.Exchanges.{Exchange, ComeTo}
+use Rattle.session.specs.Exchanges.{Exchange, ReplayTo}
 use Rattle.session.specs.SessionText.{Mean}
 use Rattle.session.specs.Current.{traced, trace_of, recorded_in, AreInOrder}
 
@@ -52,7 +52,7 @@ WhatIsHeldIsOpened = (said : List Said) (held : Held) → IsHeldOver said held �
 abbrev pub SessionsAreOverFiles : Type 0
 SessionsAreOverFiles =
     (found : List Said) (opening at : Held) (lines : List (List ℕ)) (exchanges before later : List Exchange) → Opens found opening
-    → Mean lines exchanges → exchanges ≡ before ++ later → ComeTo opening before at
+    → Mean lines exchanges → exchanges ≡ before ++ later → ReplayTo opening before at
     → AreRecordable (traced before) × IsHeldOver (found ++ recorded_in (traced before)) at
 
 -- And so it is behind turns of a desk that clients share.

@@ -9,8 +9,8 @@ use Rattle.report_line.specs.Replies.{reply_text}
 use Rattle.desk.specs.Lawful.{turn_limit}
 use Rattle.coordinator.specs.Passes.{PassState}
 use Rattle.session.specs.Exchanges.{Exchange}
-use Rattle.session.specs.declared.kind.Kind.{Kind}
-use Rattle.session.specs.declared.kind.Kind.TheVariants as kinds
+use Rattle.session.specs.declared.kind.SessionEndKind.{SessionEndKind}
+use Rattle.session.specs.declared.kind.SessionEndKind.TheVariants as kinds
 
 -- ---- lines and calls
 
@@ -41,9 +41,9 @@ pub record LastSaysBye (exchanges : List Exchange) : Type 0 where
   pub bye : SaysBye last
 
 -- Over what the calls of a session take their turns: a desk that made so many turns before, or a pass as it was before.
-pub data Grounds : Type 0 where
-  at_desk : ℕ → Grounds
-  at_pass : PassState → Grounds
+pub data ServedOver : Type 0 where
+  at_desk : ℕ → ServedOver
+  at_pass : PassState → ServedOver
 
 -- the question that at a desk may for want of memory get no turn: that for a state
 abbrev pub IsQuestion : Call → Type 0
@@ -60,17 +60,17 @@ pub record StartsWithQuestion (lines : List (List ℕ)) : Type 0 where
   pub question : IsQuestion call
 
 -- all turns that a desk makes were made, some of them before the session; who has a pass does not know how many others made
-abbrev pub IsWorn : Grounds → List Exchange → Type 0
+abbrev pub IsWorn : ServedOver → List Exchange → Type 0
 IsWorn (at_desk made) turned = made + length turned ≡ turn_limit
 IsWorn (at_pass pass) turned = ⊤
 
 -- for want of memory the first of these later lines may get no turn: at a desk only that question, where a turn is left
-abbrev pub IsUnmade : Grounds → List (List ℕ) → List Exchange → Type 0
+abbrev pub IsUnmade : ServedOver → List (List ℕ) → List Exchange → Type 0
 IsUnmade (at_desk made) later turned = StartsWithQuestion later × ¬ IsWorn (at_desk made) turned
 IsUnmade (at_pass pass) later turned = later ≢ []
 
 -- the pass has seen a turn or a front, which another coordinator may not have
-abbrev pub IsForeign : Grounds → List Exchange → Type 0
+abbrev pub IsForeign : ServedOver → List Exchange → Type 0
 IsForeign (at_desk made) turned = ⊥
 IsForeign (at_pass pass) turned = (turned ≢ []) ⊎ ((0 < pass.front) ⊎ (pass.entries ≢ []))
 
@@ -85,14 +85,14 @@ abbrev pub session_text : List Exchange → List ℕ
 session_text exchanges = flat_map exchange_line exchanges
 
 -- the ending line of a session, which is no reply to a line; most ends have none
-abbrev pub ending_line : Kind → List ℕ
+abbrev pub ending_line : SessionEndKind → List ℕ
 ending_line kinds.TooLong = ended (codes "BAD 2")
 ending_line kinds.Worn = ended (codes "NO 17 - 65536")
 ending_line kinds.Memory = ended (codes "NO 16 - -")
 ending_line _ = []
 
 -- how many ending lines were written whole
-abbrev pub ending_count : Kind → ℕ
+abbrev pub ending_count : SessionEndKind → ℕ
 ending_count kinds.TooLong = 1
 ending_count kinds.Worn = 1
 ending_count kinds.Memory = 1
@@ -103,7 +103,7 @@ abbrev pub IsCutShort : List ℕ → List ℕ → Type 0
 IsCutShort line text = (more : List ℕ) × (line ≡ text ++ more) × (0 < length more)
 
 -- the replies were written, and behind them the ending line: so many lines
-abbrev pub IsWhole : Kind → List Exchange → List ℕ → ℕ → Type 0
+abbrev pub IsWhole : SessionEndKind → List Exchange → List ℕ → ℕ → Type 0
 IsWhole kind turned text count = (text ≡ session_text turned ++ ending_line kind) × (count ≡ length turned + ending_count kind)
 
 -- the reply to the last exchange was cut, or was written and could not be handed on, and no earlier one said bye
@@ -118,11 +118,11 @@ pub record IsCutInReply (turned : List Exchange) (text : List ℕ) (count : ℕ)
   pub count_is : count ≡ length before
 
 -- all was written, and could not be handed on: an ending line is not counted then
-abbrev pub IsHeldUp : Kind → List Exchange → List ℕ → ℕ → Type 0
-IsHeldUp kind turned text count = (text ≡ session_text turned ++ ending_line kind) × (count ≡ length turned)
+abbrev pub IsUnflushed : SessionEndKind → List Exchange → List ℕ → ℕ → Type 0
+IsUnflushed kind turned text count = (text ≡ session_text turned ++ ending_line kind) × (count ≡ length turned)
 
 -- the ending line was cut
-pub record IsCutInEnding (kind : Kind) (turned : List Exchange) (text : List ℕ) (count : ℕ) : Type 0 where
+pub record IsCutInEnding (kind : SessionEndKind) (turned : List Exchange) (text : List ℕ) (count : ℕ) : Type 0 where
   pub part : List ℕ
   pub short : IsCutShort (ending_line kind) part
   pub text_is : text ≡ session_text turned ++ part
@@ -145,40 +145,40 @@ IsLastPieceRefused pieces front =
 
 -- Which lines got a turn where a session ends so, other than by a write, that begins over this: of what these reads gave, behind
 -- whose lines the stream stands so, the front lines did, with these exchanges, and the later ones did not.
-abbrev pub Reached : Kind → Grounds → List (List ℕ) → Stand → List (List ℕ) → List (List ℕ) → List Exchange → Type 0
-Reached kinds.Bye grounds pieces stand front later turned = LastSaysBye turned
-Reached kinds.Worn grounds pieces stand front later turned = NoBye turned × (later ≢ []) × IsWorn grounds turned
-Reached kinds.Foreign grounds pieces stand front later turned = NoBye turned × (later ≢ []) × IsForeign grounds turned
-Reached kinds.Memory grounds pieces stand front later turned =
+abbrev pub EndReason : SessionEndKind → ServedOver → List (List ℕ) → Stand → List (List ℕ) → List (List ℕ) → List Exchange → Type 0
+EndReason kinds.Bye grounds pieces stand front later turned = LastSaysBye turned
+EndReason kinds.Worn grounds pieces stand front later turned = NoBye turned × (later ≢ []) × IsWorn grounds turned
+EndReason kinds.Foreign grounds pieces stand front later turned = NoBye turned × (later ≢ []) × IsForeign grounds turned
+EndReason kinds.Memory grounds pieces stand front later turned =
     NoBye turned × (IsLastPieceRefused pieces front ⊎ IsUnmade grounds later turned)
-Reached kinds.TooLong grounds pieces stand front later turned = NoBye turned × (later ≡ []) × IsNone stand
-Reached kinds.Endless grounds pieces stand front later turned = NoBye turned × (later ≡ []) × IsSome stand × (length pieces ≡ most_reads)
-Reached kinds.WriteFailed grounds pieces stand front later turned = ⊥
-Reached _ grounds pieces stand front later turned = NoBye turned × (later ≡ []) × IsSome stand
+EndReason kinds.TooLong grounds pieces stand front later turned = NoBye turned × (later ≡ []) × IsNone stand
+EndReason kinds.Endless grounds pieces stand front later turned = NoBye turned × (later ≡ []) × IsSome stand × (length pieces ≡ most_reads)
+EndReason kinds.WriteFailed grounds pieces stand front later turned = ⊥
+EndReason _ grounds pieces stand front later turned = NoBye turned × (later ≡ []) × IsSome stand
 
 -- a failed write or hand-on cuts the text, in a reply or in the ending line; or all was written, and could not be handed on
-abbrev pub IsCutOff : Grounds → List (List ℕ) → Stand → List (List ℕ) → List (List ℕ) → List Exchange → List ℕ → ℕ → Type 0
+abbrev pub IsCutOff : ServedOver → List (List ℕ) → Stand → List (List ℕ) → List (List ℕ) → List Exchange → List ℕ → ℕ → Type 0
 IsCutOff grounds pieces stand front later turned text count =
     IsCutInReply turned text count
-    ⊎ ((kind : Kind) × Reached kind grounds pieces stand front later turned × (IsCutInEnding kind turned text count ⊎ IsHeldUp kind turned text count))
+    ⊎ ((kind : SessionEndKind) × EndReason kind grounds pieces stand front later turned × (IsCutInEnding kind turned text count ⊎ IsUnflushed kind turned text count))
 
-abbrev pub Ends : Kind → Grounds → List (List ℕ) → Stand → List (List ℕ) → List (List ℕ) → List Exchange → List ℕ → ℕ → Type 0
+abbrev pub Ends : SessionEndKind → ServedOver → List (List ℕ) → Stand → List (List ℕ) → List (List ℕ) → List Exchange → List ℕ → ℕ → Type 0
 Ends kinds.WriteFailed grounds pieces stand front later turned text count = IsCutOff grounds pieces stand front later turned text count
-Ends kind grounds pieces stand front later turned text count = Reached kind grounds pieces stand front later turned × IsWhole kind turned text count
+Ends kind grounds pieces stand front later turned text count = EndReason kind grounds pieces stand front later turned × IsWhole kind turned text count
 
 -- each of these reads gave bytes
-abbrev pub Gave : List (List ℕ) → Type 0
-Gave pieces = AllByRecursion (λ piece. 0 < length piece) pieces
+abbrev pub AreNonEmptyReads : List (List ℕ) → Type 0
+AreNonEmptyReads pieces = AllByRecursion (λ piece. 0 < length piece) pieces
 
 -- each read gave bytes, but for the last one where that was the end of the reader, or failed
-abbrev pub GaveAll : Kind → List (List ℕ) → Type 0
-GaveAll kinds.End pieces = (before : List (List ℕ)) × (pieces ≡ before ++ [] ∷ []) × Gave before
-GaveAll kinds.ReadFailed pieces = (before : List (List ℕ)) × (pieces ≡ before ++ [] ∷ []) × Gave before
-GaveAll _ pieces = Gave pieces
+abbrev pub GaveAll : SessionEndKind → List (List ℕ) → Type 0
+GaveAll kinds.End pieces = (before : List (List ℕ)) × (pieces ≡ before ++ [] ∷ []) × AreNonEmptyReads before
+GaveAll kinds.ReadFailed pieces = (before : List (List ℕ)) × (pieces ≡ before ++ [] ∷ []) × AreNonEmptyReads before
+GaveAll _ pieces = AreNonEmptyReads pieces
 
 -- A session that begins over this and whose reads gave these pieces ended so: with the exchanges that took turns, the one whose
 -- reply was cut included, with this text, and so many lines of it whole.
-pub record IsSession (grounds : Grounds) (pieces : List (List ℕ)) (kind : Kind) (turned : List Exchange) (text : List ℕ) (count : ℕ) : Type 0 where
+pub record IsSession (grounds : ServedOver) (pieces : List (List ℕ)) (kind : SessionEndKind) (turned : List Exchange) (text : List ℕ) (count : ℕ) : Type 0 where
   pub front : List (List ℕ)
   pub later : List (List ℕ)
   pub lines_are : (cut_of (joined pieces)).0 ≡ front ++ later

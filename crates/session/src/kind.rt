@@ -2,7 +2,7 @@
 
 /// Why a session ended.
 #[derive(Clone, Copy)]
-pub enum Kind {
+pub enum SessionEndKind {
     /// All input was read, and each line answered.
     End,
     /// The client said that it is done. What followed was not handled.
@@ -29,7 +29,7 @@ pub enum Kind {
 #[derive(Clone, Copy)]
 pub struct SessionEnd {
     /// Why it ended.
-    pub kind: Kind,
+    pub kind: SessionEndKind,
     /// How many lines were written whole, and where each is handed on by itself, handed on. An ending line counts only where it was
     /// handed on, however replies are.
     pub replies: u64,

@@ -8,30 +8,30 @@ ghost use Rattle.chains.specs.Reachable.{IsReachable};
 ghost use Rattle.chains.specs.Folded.{IsReached};
 ghost use Rattle.desk.specs.Lawful.{unstopped};
 ghost use Rattle.session.specs.Answered.{BothHeadlinesAreOne, WhatIsAcceptedWasAnswered};
-ghost use Rattle.session.specs.Exchanges.{Exchange, ComeTo};
-ghost use Rattle.session.specs.declared.kind.Kind.TheVariants as kinds;
+ghost use Rattle.session.specs.Exchanges.{Exchange, ReplayTo};
+ghost use Rattle.session.specs.declared.kind.SessionEndKind.TheVariants as kinds;
 ghost use Rattle.line_text.specs.Questions.{IsChosenText};
 ghost use Rattle.session.specs.Current.{EachFileTellsARun, EachLineIsRightNow, EachSharedLineIsRightNow, NoLineIsBelowGarbage, NoSharedLineIsBelowGarbage};
 ghost use Rattle.session.specs.OneText.{IsUndisturbed};
 ghost use Rattle.session.specs.Openings.{DesksAreOverFiles, EachFileHasATrace, NoLineIsBelowGarbageOverFiles, SessionsAreOverFiles, WhatIsHeldIsOpened};
-ghost use Rattle.session.specs.SessionText.{Grounds, IsSession, Mean, joined, session_text};
+ghost use Rattle.session.specs.SessionText.{ServedOver, IsSession, Mean, joined, session_text};
 ghost use Rattle.session.specs.Turned.{AreExchanges, ShowsFailure};
 ghost use Rattle.session.specs.TwoOpenings.{TwoOpeningsArePossible};
 
 /// What is held behind exchanges that took turns is told by the exchanges alone: they come to it, and to nothing else; and at each
 /// place among them something is held.
 pub fn exchanges_tell_what_is_accepted()
-    ensures comes { (held after : Held) (exchanges : List Exchange) → AreExchanges held exchanges after → ComeTo held exchanges after }
-    ensures one { (held after other : Held) (exchanges : List Exchange) → ComeTo held exchanges after → ComeTo held exchanges other → after ≡ other }
-    ensures places { (held after : Held) (exchanges before later : List Exchange) → AreExchanges held exchanges after → exchanges ≡ before ++ later → (at : Held) × ComeTo held before at }
+    ensures comes { (held after : Held) (exchanges : List Exchange) → AreExchanges held exchanges after → ReplayTo held exchanges after }
+    ensures one { (held after other : Held) (exchanges : List Exchange) → ReplayTo held exchanges after → ReplayTo held exchanges other → after ≡ other }
+    ensures places { (held after : Held) (exchanges before later : List Exchange) → AreExchanges held exchanges after → exchanges ≡ before ++ later → (at : Held) × ReplayTo held before at }
 {}
 
 /// From a folded list, with an epoch for each report and a front that counts them, exchanges come to such a list; and from what admission
 /// and settlements reach from nothing, to what they reach so. The front never falls.
 pub fn exchanges_keep_lists()
-    ensures folded { (held after : Held) (exchanges : List Exchange) → IsReached held → ComeTo held exchanges after → IsReached after }
-    ensures reachable { (held after : Held) (exchanges : List Exchange) → IsReachable (unstopped held) → ComeTo held exchanges after → IsReachable (unstopped after) }
-    ensures front { (held after : Held) (exchanges : List Exchange) → ComeTo held exchanges after → held.front ≤ after.front }
+    ensures folded { (held after : Held) (exchanges : List Exchange) → IsReached held → ReplayTo held exchanges after → IsReached after }
+    ensures reachable { (held after : Held) (exchanges : List Exchange) → IsReachable (unstopped held) → ReplayTo held exchanges after → IsReachable (unstopped after) }
+    ensures front { (held after : Held) (exchanges : List Exchange) → ReplayTo held exchanges after → held.front ≤ after.front }
 {}
 
 /// Among exchanges without a settlement, what is accepted is what was there before and the reports that were answered `OK`, in order; and each
@@ -89,6 +89,6 @@ pub fn same_lines_have_one_text()
     ensures more { (held : Held) (lines more : List (List ℕ)) (ours theirs : List Exchange) → IsUndisturbed held ours → IsUndisturbed held theirs → Mean lines ours → Mean (lines ++ more) theirs
         → (rest : List Exchange) × (theirs ≡ ours ++ rest) }
     // How the bytes come in pieces does not matter.
-    ensures sessions { (held : Held) (over other : Grounds) (pieces others : List (List ℕ)) (ours theirs : List Exchange) (text written : List ℕ) (n m : ℕ) → IsUndisturbed held ours → IsUndisturbed held theirs
+    ensures sessions { (held : Held) (over other : ServedOver) (pieces others : List (List ℕ)) (ours theirs : List Exchange) (text written : List ℕ) (n m : ℕ) → IsUndisturbed held ours → IsUndisturbed held theirs
         → IsSession over pieces kinds.End ours text n → IsSession other others kinds.End theirs written m → joined pieces ≡ joined others → text ≡ written }
 {}

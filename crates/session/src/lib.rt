@@ -18,7 +18,7 @@ mod threads;
 mod turns;
 
 pub use handing::HandOn;
-pub use kind::{Kind, SessionEnd};
+pub use kind::{SessionEnd, SessionEndKind};
 pub use laws::{
     a_question_has_one_text, each_line_is_right_for_the_current_history,
     each_line_is_right_over_what_was_answered, exchanges_keep_lists,

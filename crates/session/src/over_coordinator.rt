@@ -13,7 +13,7 @@ ghost use Rattle.session.specs.working.Parts.{Serves, PutsLast, refused_as, one_
 ghost use Rattle.session.specs.SessionText.{at_pass};
 
 use crate::handing::HandOn;
-use crate::kind::{Kind, SessionEnd};
+use crate::kind::{SessionEnd, SessionEndKind};
 use crate::over_desk::is_bye;
 use crate::reply_line::put_reply;
 use crate::server::Server;
@@ -30,13 +30,13 @@ use std::sync::ledger::Ledger;
 use std::thread::Threads;
 
 /// Why the session ends where a call got no turn.
-fn kind_of(fault: &CallFault) -> Kind
+fn kind_of(fault: &CallFault) -> SessionEndKind
     ensures { result ≡ refused_as fault.now }
 {
     match fault {
-        CallFault::Foreign { .. } => Kind::Foreign,
-        CallFault::Worn => Kind::Worn,
-        CallFault::Memory => Kind::Memory,
+        CallFault::Foreign { .. } => SessionEndKind::Foreign,
+        CallFault::Worn => SessionEndKind::Worn,
+        CallFault::Memory => SessionEndKind::Memory,
     }
 }
 
@@ -82,7 +82,7 @@ fn serve_by_pass<R: Threads + Wait + Sync, L: Ledger, D: Disk, G: Gate, K: Link>
     pass: &mut Pass<L>,
     link: &mut K,
     line: &[u8],
-) -> Option<Kind>
+) -> Option<SessionEndKind>
     requires { IsLine line.now }
     ensures { Serves (GainsEach D.keeps D.view) at_pass (K.told link.old) (K.told link.new) (line.now ∷ []) pass.old pass.new result (one_reply result) }
 {
@@ -91,9 +91,9 @@ fn serve_by_pass<R: Threads + Wait + Sync, L: Ledger, D: Disk, G: Gate, K: Link>
     match ask(rt, coordinator, gate, pass, line, call_of(read)) {
         Err(fault) => Some(kind_of(&fault)),
         Ok(()) => match put_shown(pass, link) {
-            Ok(()) if last => Some(Kind::Bye),
+            Ok(()) if last => Some(SessionEndKind::Bye),
             Ok(()) => None,
-            Err(_) => Some(Kind::WriteFailed),
+            Err(_) => Some(SessionEndKind::WriteFailed),
         },
     }
 }
@@ -118,7 +118,12 @@ impl<'a, R: Threads + Wait + Sync, L: Ledger, D: Disk, G: Gate> Server<Pass<L>>
         self.coordinator.alloc()
     }
 
-    fn serve_line<K: Link>(&self, state: &mut Pass<L>, link: &mut K, line: &[u8]) -> Option<Kind> {
+    fn serve_line<K: Link>(
+        &self,
+        state: &mut Pass<L>,
+        link: &mut K,
+        line: &[u8],
+    ) -> Option<SessionEndKind> {
         serve_by_pass(self.rt, self.coordinator, self.gate, state, link, line)
     }
 }

@@ -9,7 +9,7 @@ ghost use Rattle.session.specs.SessionText.{at_desk};
 ghost use Rattle.session.specs.Turned.{MakesTurns};
 
 use crate::handing::HandOn;
-use crate::kind::{Kind, SessionEnd};
+use crate::kind::{SessionEnd, SessionEndKind};
 use crate::reply_line::put_reply;
 use crate::server::Server;
 use crate::session::serve;
@@ -28,17 +28,21 @@ pub(crate) fn is_bye(read: &Result<Call, LineFault>) -> bool
 }
 
 /// Why the session ends where a call got no turn.
-fn kind_of(fault: TurnFault) -> Kind
+fn kind_of(fault: TurnFault) -> SessionEndKind
     ensures { result ≡ ended_by fault }
 {
     match fault {
-        TurnFault::Worn => Kind::Worn,
-        TurnFault::Memory => Kind::Memory,
+        TurnFault::Worn => SessionEndKind::Worn,
+        TurnFault::Memory => SessionEndKind::Memory,
     }
 }
 
 /// One line: its turn is made, and then its reply is written. Answers why the session ends, if it does.
-fn serve_by_desk<D: Disk, K: Link>(desk: &mut Desk<D>, link: &mut K, line: &[u8]) -> Option<Kind>
+fn serve_by_desk<D: Disk, K: Link>(
+    desk: &mut Desk<D>,
+    link: &mut K,
+    line: &[u8],
+) -> Option<SessionEndKind>
     requires { IsLine line.now }
     ensures { Serves (MakesTurns D.keeps) (λ d. at_desk (length d.turns)) (K.told link.old) (K.told link.new) (line.now ∷ []) desk.old desk.new result (one_reply result) }
 {
@@ -48,9 +52,9 @@ fn serve_by_desk<D: Disk, K: Link>(desk: &mut Desk<D>, link: &mut K, line: &[u8]
     match &make_turn(desk, line, read) {
         Err(fault) => Some(kind_of(*fault)),
         Ok(shown) => match put_reply(link, shown) {
-            Ok(()) if last => Some(Kind::Bye),
+            Ok(()) if last => Some(SessionEndKind::Bye),
             Ok(()) => None,
-            Err(_) => Some(Kind::WriteFailed),
+            Err(_) => Some(SessionEndKind::WriteFailed),
         },
     }
 }
@@ -71,11 +75,11 @@ impl Watch for Unwatched {
 
 /// The desk makes the turns, and a watch is told of it.
 #[derive(Drop)]
-struct Alone<'a, H> {
+struct DeskServer<'a, H> {
     watch: &'a H,
 }
 
-impl<'a, D: Disk, H: Watch> Server<Desk<D>> for Alone<'a, H> {
+impl<'a, D: Disk, H: Watch> Server<Desk<D>> for DeskServer<'a, H> {
     ghost makes = { MakesTurns D.keeps };
 
     ghost grounds = { λ d. at_desk (length d.turns) };
@@ -86,7 +90,12 @@ impl<'a, D: Disk, H: Watch> Server<Desk<D>> for Alone<'a, H> {
         state.chains().alloc()
     }
 
-    fn serve_line<K: Link>(&self, state: &mut Desk<D>, link: &mut K, line: &[u8]) -> Option<Kind> {
+    fn serve_line<K: Link>(
+        &self,
+        state: &mut Desk<D>,
+        link: &mut K,
+        line: &[u8],
+    ) -> Option<SessionEndKind> {
         let end = serve_by_desk(state, link, line);
         self.watch.after_line(state.front(), state.chains().count());
         end
@@ -116,5 +125,5 @@ pub fn run_watched<D: Disk, K: Link, H: Watch>(
     ensures leaves { Leaves result.kind (K.told link.old) (K.told link.new) }
 {
     desk.lawful();
-    serve(&Alone { watch }, desk, link, when)
+    serve(&DeskServer { watch }, desk, link, when)
 }

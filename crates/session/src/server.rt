@@ -3,10 +3,10 @@
 ghost use Rattle.std.specs.Prelude.{List, [], ◌∷◌};
 ghost use Rattle.report_line.specs.Cutting.{IsLine};
 ghost use Rattle.session.specs.Exchanges.{Exchange};
-ghost use Rattle.session.specs.SessionText.{Grounds};
+ghost use Rattle.session.specs.SessionText.{ServedOver};
 ghost use Rattle.session.specs.working.Parts.{Serves, one_reply};
 
-use crate::kind::Kind;
+use crate::kind::SessionEndKind;
 use client_link::Link;
 use std::alloc::Global;
 
@@ -16,7 +16,7 @@ pub(crate) trait Server<S> {
     ghost makes: { S → List Exchange → S → Type 0 };
 
     /// What a session text knows of the state.
-    ghost grounds: { S → Grounds };
+    ghost grounds: { S → ServedOver };
 
     /// What has to be known of the runtime, where lines are answered by more threads.
     ghost leave: { Type 0 };
@@ -25,7 +25,12 @@ pub(crate) trait Server<S> {
     fn alloc(&self, state: &S) -> Global;
 
     /// One line: its turn is made, and then its reply is written. Answers why the session ends, if it does.
-    fn serve_line<K: Link>(&self, state: &mut S, link: &mut K, line: &[u8]) -> Option<Kind>
+    fn serve_line<K: Link>(
+        &self,
+        state: &mut S,
+        link: &mut K,
+        line: &[u8],
+    ) -> Option<SessionEndKind>
         requires leave { leave }
         requires line { IsLine line.now }
         ensures { Serves makes grounds (K.told link.old) (K.told link.new) (line.now ∷ []) state.old state.new result (one_reply result) };

@@ -7,31 +7,31 @@ ghost use Rattle.session.specs.working.Parts.{AreLawful, HandsOn, ServesLines, o
 ghost use Rattle.session.specs.declared.handing.HandOn.TheVariants as hand_ons;
 
 use crate::handing::HandOn;
-use crate::kind::Kind;
+use crate::kind::SessionEndKind;
 use crate::server::Server;
 use client_link::Link;
 use report_line::Lines;
 
 /// How many replies are written whole to a line at which the session ends so.
-fn replies_at(kind: Kind) -> u64
+fn replies_at(kind: SessionEndKind) -> u64
     ensures exact { result ≡ one_reply (Some kind) }
     ensures few { result ≤ 1 }
 {
     match kind {
-        Kind::Bye => 1,
-        Kind::End
-        | Kind::TooLong
-        | Kind::Worn
-        | Kind::Memory
-        | Kind::ReadFailed
-        | Kind::WriteFailed
-        | Kind::Endless
-        | Kind::Foreign => 0,
+        SessionEndKind::Bye => 1,
+        SessionEndKind::End
+        | SessionEndKind::TooLong
+        | SessionEndKind::Worn
+        | SessionEndKind::Memory
+        | SessionEndKind::ReadFailed
+        | SessionEndKind::WriteFailed
+        | SessionEndKind::Endless
+        | SessionEndKind::Foreign => 0,
     }
 }
 
 /// Whether a reply is to be handed on behind a line at which the session goes on, or ends so.
-fn is_due(when: HandOn, end: Option<Kind>) -> bool
+fn is_due(when: HandOn, end: Option<SessionEndKind>) -> bool
     ensures yes { IsTrue result → one_reply end ≡ 1 }
     ensures no { result ≡ false → when ≡ hand_ons.EachReply → one_reply end ≡ 0 }
 {
@@ -46,7 +46,11 @@ fn is_due(when: HandOn, end: Option<Kind>) -> bool
 
 /// Hands on the reply to a line at which the session goes on, or ends so, where each is handed on by itself. Answers why the session
 /// ends, if it does.
-fn hand_on_reply<K: Link>(link: &mut K, when: HandOn, end: Option<Kind>) -> Option<Kind>
+fn hand_on_reply<K: Link>(
+    link: &mut K,
+    when: HandOn,
+    end: Option<SessionEndKind>,
+) -> Option<SessionEndKind>
     ensures { HandsOn when end (K.told link.old) (K.told link.new) result }
 {
     if !is_due(when, end) {
@@ -54,7 +58,7 @@ fn hand_on_reply<K: Link>(link: &mut K, when: HandOn, end: Option<Kind>) -> Opti
     }
     match link.hand_on() {
         Ok(()) => end,
-        Err(_) => Some(Kind::WriteFailed),
+        Err(_) => Some(SessionEndKind::WriteFailed),
     }
 }
 
@@ -66,7 +70,7 @@ pub(crate) fn serve_lines<S, V: Server<S>, K: Link>(
     link: &mut K,
     lines: &Lines,
     when: HandOn,
-) -> (Option<Kind>, u64)
+) -> (Option<SessionEndKind>, u64)
     requires leave { V.leave }
     requires laws { AreLawful V.makes V.grounds }
     requires lines { AllByRecursion IsLine lines.now }

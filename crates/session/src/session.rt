@@ -6,7 +6,7 @@ ghost use Rattle.session.specs.Ends.{Leaves};
 ghost use Rattle.session.specs.working.Parts.{AreLawful, Follows, StepsOn, Closing, Closes, Ran};
 
 use crate::handing::HandOn;
-use crate::kind::{Kind, SessionEnd};
+use crate::kind::{SessionEnd, SessionEndKind};
 use crate::server::Server;
 use crate::serving::serve_lines;
 use client_link::{Link, put};
@@ -16,46 +16,46 @@ use report_line::Feed;
 const MOST_READS: u64 = 1_048_576;
 
 /// The ending line of a session that ends so, if it has one.
-fn line_of_end(kind: Kind) -> &'static [u8]
+fn line_of_end(kind: SessionEndKind) -> &'static [u8]
     ensures { result.now ≡ ending_line kind }
 {
     match kind {
-        Kind::TooLong => b"BAD 2\n".as_slice(),
-        Kind::Worn => b"NO 17 - 65536\n".as_slice(),
-        Kind::Memory => b"NO 16 - -\n".as_slice(),
-        Kind::End
-        | Kind::Bye
-        | Kind::ReadFailed
-        | Kind::WriteFailed
-        | Kind::Endless
-        | Kind::Foreign => b"".as_slice(),
+        SessionEndKind::TooLong => b"BAD 2\n".as_slice(),
+        SessionEndKind::Worn => b"NO 17 - 65536\n".as_slice(),
+        SessionEndKind::Memory => b"NO 16 - -\n".as_slice(),
+        SessionEndKind::End
+        | SessionEndKind::Bye
+        | SessionEndKind::ReadFailed
+        | SessionEndKind::WriteFailed
+        | SessionEndKind::Endless
+        | SessionEndKind::Foreign => b"".as_slice(),
     }
 }
 
 /// How many ending lines a session has that ends so.
-fn lines_of_end(kind: Kind) -> u64
+fn lines_of_end(kind: SessionEndKind) -> u64
     ensures { result ≡ ending_count kind }
 {
     match kind {
-        Kind::TooLong | Kind::Worn | Kind::Memory => 1,
-        Kind::End
-        | Kind::Bye
-        | Kind::ReadFailed
-        | Kind::WriteFailed
-        | Kind::Endless
-        | Kind::Foreign => 0,
+        SessionEndKind::TooLong | SessionEndKind::Worn | SessionEndKind::Memory => 1,
+        SessionEndKind::End
+        | SessionEndKind::Bye
+        | SessionEndKind::ReadFailed
+        | SessionEndKind::WriteFailed
+        | SessionEndKind::Endless
+        | SessionEndKind::Foreign => 0,
     }
 }
 
 /// Writes the ending line of a session that ends so behind this many lines, and hands all on. An ending line that was not handed on is
 /// not counted.
-fn close_by<K: Link>(link: &mut K, kind: Kind, replies: u64) -> SessionEnd
+fn close_by<K: Link>(link: &mut K, kind: SessionEndKind, replies: u64) -> SessionEnd
     requires { replies < 2 ^ 63 }
     ensures { Closing kind (K.told link.old) (K.told link.new) replies result.kind result.replies }
 {
     if put(link, line_of_end(kind)).is_err() {
         return SessionEnd {
-            kind: Kind::WriteFailed,
+            kind: SessionEndKind::WriteFailed,
             replies,
         };
     }
@@ -65,32 +65,37 @@ fn close_by<K: Link>(link: &mut K, kind: Kind, replies: u64) -> SessionEnd
             replies: replies + lines_of_end(kind),
         },
         Err(_) => SessionEnd {
-            kind: Kind::WriteFailed,
+            kind: SessionEndKind::WriteFailed,
             replies,
         },
     }
 }
 
 /// The end of a session that ends so behind this many lines.
-fn close<K: Link>(link: &mut K, kind: Kind, replies: u64) -> SessionEnd
+fn close<K: Link>(link: &mut K, kind: SessionEndKind, replies: u64) -> SessionEnd
     requires { replies < 2 ^ 63 }
     ensures { Closes kind (K.told link.old) (K.told link.new) replies result.kind result.replies }
 {
     match kind {
-        Kind::End | Kind::ReadFailed | Kind::WriteFailed => SessionEnd { kind, replies },
-        Kind::Bye | Kind::TooLong | Kind::Worn | Kind::Memory | Kind::Endless | Kind::Foreign =>
-            close_by(link, kind, replies),
+        SessionEndKind::End | SessionEndKind::ReadFailed | SessionEndKind::WriteFailed =>
+            SessionEnd { kind, replies },
+        SessionEndKind::Bye
+        | SessionEndKind::TooLong
+        | SessionEndKind::Worn
+        | SessionEndKind::Memory
+        | SessionEndKind::Endless
+        | SessionEndKind::Foreign => close_by(link, kind, replies),
     }
 }
 
 /// Why a session ends once lines were served to this end, if it does.
-fn kind_after(end: Option<Kind>, feed: &Feed) -> Option<Kind>
+fn kind_after(end: Option<SessionEndKind>, feed: &Feed) -> Option<SessionEndKind>
     ensures { Follows end feed.now result }
 {
     match end {
         Some(kind) => Some(kind),
         None => if feed.too_long() {
-            Some(Kind::TooLong)
+            Some(SessionEndKind::TooLong)
         } else {
             None
         },
@@ -106,7 +111,7 @@ fn step<S, V: Server<S>, K: Link>(
     link: &mut K,
     buf: &mut [u8; 8192],
     when: HandOn,
-) -> (Option<Kind>, u64)
+) -> (Option<SessionEndKind>, u64)
     requires leave { V.leave }
     requires laws { AreLawful V.makes V.grounds }
     requires some { feed.old ≢ None }
@@ -114,13 +119,13 @@ fn step<S, V: Server<S>, K: Link>(
     ensures few { result.1 ≤ 8192 }
 {
     let Ok(n) = link.read(buf) else {
-        return (Some(Kind::ReadFailed), 0);
+        return (Some(SessionEndKind::ReadFailed), 0);
     };
     if n == 0 {
-        return (Some(Kind::End), 0);
+        return (Some(SessionEndKind::End), 0);
     }
     let Ok(lines) = feed.push(&buf[..n]) else {
-        return (Some(Kind::Memory), 0);
+        return (Some(SessionEndKind::Memory), 0);
     };
     let (end, replies) = serve_lines(server, state, link, &lines, when);
     (kind_after(end, feed), replies)
@@ -145,7 +150,7 @@ pub(crate) fn serve<S, V: Server<S>, K: Link>(
     for _ in 0..MOST_READS {
         let Ok(()) = link.hand_on() else {
             return SessionEnd {
-                kind: Kind::WriteFailed,
+                kind: SessionEndKind::WriteFailed,
                 replies,
             };
         };
@@ -155,5 +160,5 @@ pub(crate) fn serve<S, V: Server<S>, K: Link>(
             return close(link, kind, replies);
         }
     }
-    close(link, Kind::Endless, replies)
+    close(link, SessionEndKind::Endless, replies)
 }

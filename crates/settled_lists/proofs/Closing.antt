@@ -8,8 +8,8 @@ use Rattle.std.proofs.lemmas.Slice.Eq.{bytes_eq-Decides}
 use Rattle.event_tree.specs.EventTree.{EventTree}
 use Rattle.event_tree.specs.Values.{IsAtOrBelow}
 use Rattle.stamp.specs.declared.stamp.Stamp.{Stamp}
-use Rattle.report_line.specs.declared.report.Action.{Action}
-use Rattle.report_line.specs.declared.report.Action.TheVariants.{Absorb}
+use Rattle.report_line.specs.declared.report.ReportKind.{ReportKind}
+use Rattle.report_line.specs.declared.report.ReportKind.TheVariants.{Absorb}
 use Rattle.report_line.specs.declared.report.Report.{Report}
 use Rattle.report_line.specs.declared.report.Report.TheVariants.{Begin, Numbered}
 use Rattle.chains.specs.declared.position.Position.{Position}
@@ -21,7 +21,7 @@ use Rattle.chains.specs.Positions.{is_retired, position_in}
 use Rattle.chains.specs.Knowledge.{events_at, retired_events, Knows, IsStampConsistent}
 use Rattle.chains.proofs.Keeps.{passes}
 use Rattle.report_line.specs.declared.report.NumberedReport.{NumberedReport}
-use Rattle.report_line.specs.declared.report.Action.TheVariants.{Check, Present, Fork, Retire}
+use Rattle.report_line.specs.declared.report.ReportKind.TheVariants.{Check, Present, Fork, Retire}
 use Rattle.std.proofs.Common.{cond, length, ◌⊎◌}
 use Rattle.std.specs.Prelude.{Contains, Bool, filter}
 use Rattle.std.specs.List.{filter_map}
@@ -174,7 +174,7 @@ module _ (accepted : List Report) (cut : List Position) (limits : Limits) (folde
       let there = earlier_report before after stands.0 stands.1 (Numbered r) (Numbered x) is stands.2 in
       let of_retired : retired ≡ x.process = (bytes_eq-Decides retired x.process).0 (passes (is_numbered_of retired) before (Numbered x) found) in
       let fit : IsFitReport before r = fit_at folded before after (Numbered r) is in
-      let waits : Waits before retired p × IsAtOrBelow (last_events retired before) r.stamp.events = subst (λ (b : Action). IsFitAction before r b) absorbs fit.fit in
+      let waits : Waits before retired p × IsAtOrBelow (last_events retired before) r.stamp.events = subst (λ (b : ReportKind). IsFitAction before r b) absorbs fit.fit in
       let last : last_events retired before ≡ x.stamp.events = ap (λ o. events_after (first_of o (birth_report retired before))) found in
       let joined : IsAtOrBelow x.stamp.events r.stamp.events = subst (λ (f : EventTree). IsAtOrBelow f r.stamp.events) last waits.1 in
       is_at_or_before p x.process r.number x.number r.stamp x.stamp (report_there before after r is)
@@ -188,7 +188,7 @@ module _ (accepted : List Report) (cut : List Position) (limits : Limits) (folde
 
 -- ---- the limits of a cut are those of its elements
 
-numbered_as : (p : Name) (r : NumberedReport) (a : Action) (s : Stamp) → is_born_by p a ≡ false ⊎ (bytes_eq p r.process ≡ false) → lasting_by p r a ≡ Some s
+numbered_as : (p : Name) (r : NumberedReport) (a : ReportKind) (s : Stamp) → is_born_by p a ≡ false ⊎ (bytes_eq p r.process ≡ false) → lasting_by p r a ≡ Some s
     → numbered_by p r a ≡ Some (cond (bytes_eq p r.process) r.number 0, s)
 numbered_as p r Check s apart is = check (bytes_eq p r.process) is
   where
@@ -242,7 +242,7 @@ makes_some (Some x) is = (x, refl)
 pub first_there : {X : Type 0} (o last : Option X) (x y : X) → o ≡ Some x → first_of o last ≡ Some y → x ≡ y
 first_there o last x y is first = same_Some x y (sym (ap (λ z. first_of z last) is) ∙ first)
 
-present_as : (p : Name) (r m : NumberedReport) (b : Action) (j : ℕ) → r.action ≡ b → slice_get (present_report_by r b) j ≡ Some (Numbered m) → r.action ≡ Present
+present_as : (p : Name) (r m : NumberedReport) (b : ReportKind) (j : ℕ) → r.action ≡ b → slice_get (present_report_by r b) j ≡ Some (Numbered m) → r.action ≡ Present
 present_as p r m Present j same is = same
 present_as p r m Check j same is = absurd (cc)
 present_as p r m (Fork f) j same is = absurd (cc)
@@ -273,8 +273,8 @@ present_number : (accepted : List Report) (p : Name) (r : NumberedReport) (s : S
 present_number accepted p r s last presents made =
     let own : bytes_eq p r.process ≡ true = passes (is_numbered_of p) accepted (Numbered r) last in
     let number : number_for p (Numbered r) ≡ r.number = cond-true (bytes_eq p r.process) r.number 0 own in
-    let stamp : r.stamp ≡ s = same_Some r.stamp s (sym (ap (λ (b : Action). first_of (lasting_by p r b) (slice_get (present_by r.stamp b) 0)) presents) ∙ made) in
-    inr (last ∙ (ap (λ (a : Action). Some (Numbered (told r.process r.number r.stamp a))) presents
+    let stamp : r.stamp ≡ s = same_Some r.stamp s (sym (ap (λ (b : ReportKind). first_of (lasting_by p r b) (slice_get (present_by r.stamp b) 0)) presents) ∙ made) in
+    inr (last ∙ (ap (λ (a : ReportKind). Some (Numbered (told r.process r.number r.stamp a))) presents
     ∙ (ap (λ (q : Name). Some (Numbered (told q r.number r.stamp Present))) (sym ((bytes_eq-Decides p r.process).0 own))
     ∙ (ap (λ (n : ℕ). Some (Numbered (told p n r.stamp Present))) (sym number)
     ∙ ap (λ (t : Stamp). Some (Numbered (told p (number_for p (Numbered r)) t Present))) stamp))))

@@ -9,8 +9,8 @@ use Rattle.id_tree.specs.Sum.{sum_of}
 use Rattle.id_tree.specs.Split.{IsSplit}
 use Rattle.event_tree.specs.EventTree.{EventTree}
 use Rattle.event_tree.specs.Values.{IsAtOrBelow}
-use Rattle.report_line.specs.declared.report.Action.{Action}
-use Rattle.report_line.specs.declared.report.Action.TheVariants.{Check, Present, Fork, Retire, Absorb}
+use Rattle.report_line.specs.declared.report.ReportKind.{ReportKind}
+use Rattle.report_line.specs.declared.report.ReportKind.TheVariants.{Check, Present, Fork, Retire, Absorb}
 use Rattle.report_line.specs.declared.report.Report.{Report}
 use Rattle.report_line.specs.declared.report.Report.TheVariants.{Begin, Numbered}
 use Rattle.chains.specs.Processes.{Name, IsKnown, first_of, is_numbered_of, is_birth_of, is_absorb_of, reports_of, last_report, birth_report, events_after, last_events, id_after, registered_id, expected_id, target_after, Waits}
@@ -174,7 +174,7 @@ module _ (limits : Limits) (accepted : List Report) (r : NumberedReport) (folded
     still_waits : Waits (settled_by limits accepted) retired r.process
     still_waits = (ap target_after retired_last ∙ waits.0, any_kept (is_settled limits) (is_absorb_of retired) accepted waits.1)
 
-  same_expected : (b : Action) → r.action ≡ b → IsFitAction accepted r b → expected_id (settled_by limits accepted) r.process b ≡ expected_id accepted r.process b
+  same_expected : (b : ReportKind) → r.action ≡ b → IsFitAction accepted r b → expected_id (settled_by limits accepted) r.process b ≡ expected_id accepted r.process b
   same_expected Check is w = same_id
   same_expected Present is w = same_id
   same_expected (Fork f) is w = same_id
@@ -182,7 +182,7 @@ module _ (limits : Limits) (accepted : List Report) (r : NumberedReport) (folded
   same_expected (Absorb retired) is w =
       ap (λ i. sum_of i (registered_id retired (settled_by limits accepted))) same_id ∙ ap (sum_of (registered_id r.process accepted)) (retired_id retired is w.0)
 
-  still_fit_action : (b : Action) → r.action ≡ b → IsFitAction accepted r b → IsFitAction (settled_by limits accepted) r b
+  still_fit_action : (b : ReportKind) → r.action ≡ b → IsFitAction accepted r b → IsFitAction (settled_by limits accepted) r b
   still_fit_action Check is w = tt
   still_fit_action Present is w = tt
   still_fit_action (Fork f) is w = (still_unknown f.child w.0, subst (λ (i : IdTree). IsSplit i f.kept f.given) (sym same_id) w.1)

@@ -5,7 +5,7 @@ use Rattle.std.proofs.lemmas.Bool.{cases_Bool}
 use Rattle.id_tree.specs.IdTree.{IdTree}
 use Rattle.report_line.specs.declared.report.Report.{Report}
 use Rattle.report_line.specs.declared.report.Report.TheVariants.{Begin}
-use Rattle.report_line.specs.declared.step.Deed.TheVariants.{Fork, Retire}
+use Rattle.report_line.specs.declared.step.StepKind.TheVariants.{Fork, Retire}
 use Rattle.report_line.specs.declared.step.Step.{Step}
 use Rattle.report_line.specs.histories.History.{Name, History, Does, Event, event_of}
 use Rattle.report_line.specs.histories.Events.{Occurs, step, earlier}

@@ -11,14 +11,14 @@ use Rattle.std.proofs.lemmas.Option.{cond_some}
 use Rattle.id_tree.specs.IdTree.{One}
 use Rattle.event_tree.specs.EventTree.{Leaf}
 use Rattle.stamp.specs.declared.stamp.Stamp.{Stamp}
-use Rattle.report_line.specs.declared.report.Action.{Action}
-use Rattle.report_line.specs.declared.report.Action.TheVariants as reported
+use Rattle.report_line.specs.declared.report.ReportKind.{ReportKind}
+use Rattle.report_line.specs.declared.report.ReportKind.TheVariants as reported
 use Rattle.report_line.specs.declared.report.Forked.{Forked}
 use Rattle.report_line.specs.declared.report.NumberedReport.{NumberedReport}
 use Rattle.report_line.specs.declared.report.Report.{Report}
 use Rattle.report_line.specs.declared.report.Report.TheVariants.{Begin, Numbered}
-use Rattle.report_line.specs.declared.step.Deed.{Deed}
-use Rattle.report_line.specs.declared.step.Deed.TheVariants.{Work, Check, Present, Send, Receive, Fork, Retire, Absorb}
+use Rattle.report_line.specs.declared.step.StepKind.{StepKind}
+use Rattle.report_line.specs.declared.step.StepKind.TheVariants.{Work, Check, Present, Send, Receive, Fork, Retire, Absorb}
 use Rattle.report_line.specs.declared.step.Step.{Step}
 use Rattle.report_line.specs.histories.History.{Name, History, Birth, Does, Event, event_of, birth_of_root, Living, status}
 use Rattle.report_line.specs.histories.Lawful.{IsLawful, start, next}
@@ -82,7 +82,7 @@ module _ (root : Name) (h : History) (accepted : List Report) (agrees : Agrees r
       let born = birth_of_report root h of.0 r f forks of.1 in
       of_birth born.0 born.1.occurs (born.1.process ∙ sym (bytes_are p f.child w.0)) (born.1.values ∙ ap (λ (t : ℕ × Stamp). t.1.events) w.1) born.1.kind
 
-  by_action : (r : NumberedReport) (b : Action) → Contains accepted (Numbered r) → r.action ≡ b → numbered_by p r b ≡ Some (n, s) → IsMadeAt root h p n s
+  by_action : (r : NumberedReport) (b : ReportKind) → Contains accepted (Numbered r) → r.action ≡ b → numbered_by p r b ≡ Some (n, s) → IsMadeAt root h p n s
   by_action r reported.Check at is made =
       let w = cond_some (bytes_eq p r.process) (r.number, r.stamp) (n, s) made in
       by_own r at (bytes_are p r.process w.0) (ap (λ (t : ℕ × Stamp). t.0) w.1) (ap (λ (t : ℕ × Stamp). t.1.events) w.1)
@@ -104,7 +104,7 @@ module _ (root : Name) (h : History) (accepted : List Report) (agrees : Agrees r
 
 -- ---- a report of an event at or before the line is within the limit of its process
 
-does_something : (e : Event) (st : Stamp) (b : Action) → IsEventAs e st b → e.kind ≡ Birth → ⊥
+does_something : (e : Event) (st : Stamp) (b : ReportKind) → IsEventAs e st b → e.kind ≡ Birth → ⊥
 does_something e st reported.Check w is = (let both : Does Check ≡ Birth = sym w.0 ∙ is in cc)
 does_something e st reported.Present w is = (let both : Does Present ≡ Birth = sym w.0 ∙ is in cc)
 does_something e st (reported.Fork f) w is = (let both : Does (Fork f.child f.given) ≡ Birth = sym w ∙ is in cc)
@@ -230,7 +230,7 @@ module _ (root : Name) (h : History) (accepted : List Report) (failed : List ℕ
 
 -- ---- what is kept makes the same reports, in order
 
-unreported : (root : Name) (h g : History) (s : Step) (d : Deed) → report_by root h s d ≡ None → report_by root g s d ≡ None
+unreported : (root : Name) (h g : History) (s : Step) (d : StepKind) → report_by root h s d ≡ None → report_by root g s d ≡ None
 unreported root h g s Work is = refl
 unreported root h g s (Send m) is = refl
 unreported root h g s (Receive m) is = refl

@@ -6,7 +6,7 @@ use Rattle.std.proofs.lemmas.Bool.{cases_Bool}
 use Rattle.std.proofs.lemmas.Option.{slice_get_within}
 use Rattle.stamp.specs.declared.stamp.Stamp.{Stamp}
 use Rattle.report_line.specs.declared.report.Report.{Report}
-use Rattle.report_line.specs.declared.step.Deed.TheVariants.{Retire}
+use Rattle.report_line.specs.declared.step.StepKind.TheVariants.{Retire}
 use Rattle.report_line.specs.histories.History.{Name, History, Event, EventKind, Does}
 use Rattle.histories.specs.Law.{IsRestorable, birth, check, presentation}
 use Rattle.histories.specs.Rules.{IsNewest}

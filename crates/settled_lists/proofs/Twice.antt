@@ -9,12 +9,12 @@ use Rattle.event_tree.specs.EventTree.{EventTree, Leaf}
 use Rattle.event_tree.specs.Values.{value_at, ExceedsOn}
 use Rattle.event_tree.specs.Grown.{IsGrown}
 use Rattle.stamp.specs.declared.stamp.Stamp.{Stamp}
-use Rattle.report_line.specs.declared.report.Action.{Action}
-use Rattle.report_line.specs.declared.report.Action.TheVariants as reported
+use Rattle.report_line.specs.declared.report.ReportKind.{ReportKind}
+use Rattle.report_line.specs.declared.report.ReportKind.TheVariants as reported
 use Rattle.report_line.specs.declared.report.NumberedReport.{NumberedReport}
 use Rattle.report_line.specs.declared.report.Report.{Report}
 use Rattle.report_line.specs.declared.report.Report.TheVariants.{Begin, Numbered}
-use Rattle.report_line.specs.declared.step.Deed.TheVariants.{Work, Check, Present, Fork}
+use Rattle.report_line.specs.declared.step.StepKind.TheVariants.{Work, Check, Present, Fork}
 use Rattle.report_line.specs.declared.step.Step.{Step}
 use Rattle.report_line.specs.histories.History.{Name, History, Event, event_of, Living, status}
 use Rattle.report_line.specs.histories.Lawful.{IsOwnWork, IsAllowed, IsLawful, next}
@@ -167,10 +167,10 @@ first_fit = record {
 }
 
 -- a's second report
-abbrev second_report : Action → NumberedReport
+abbrev second_report : ReportKind → NumberedReport
 second_report action = record { process = a; number = 2; stamp = record { id = One; events = Leaf 2 }; action = action }
 
-second_fit : (action : Action) → One ≡ expected_id l1 a action → IsFitAction l1 (second_report action) action → IsFitReport l1 (second_report action)
+second_fit : (action : ReportKind) → One ≡ expected_id l1 a action → IsFitAction l1 (second_report action) action → IsFitReport l1 (second_report action)
 second_fit action same tested = record {
   begun = filled _ _;
   is_known = (0, omega arith, refl);

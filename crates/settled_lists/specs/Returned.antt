@@ -1,7 +1,7 @@
 -- After a settlement each process is at its position in the line.
 use Rattle.std.specs.Prelude.{◌≡◌, ℕ, zero, suc, ◌≤◌, List, Some}
 use Rattle.report_line.specs.declared.report.Report.{Report}
-use Rattle.report_line.specs.declared.step.Deed.TheVariants.{Retire}
+use Rattle.report_line.specs.declared.step.StepKind.TheVariants.{Retire}
 use Rattle.report_line.specs.histories.History.{Name, History, Does, Event}
 use Rattle.report_line.specs.histories.Events.{Occurs}
 use Rattle.histories.specs.Rules.{IsNewest, IsNew}

@@ -3,9 +3,9 @@ use Rattle.std.specs.Prelude.{◌≡◌, ◌&&◌, nat_le, [], ◌∷◌}
 use Rattle.std.specs.Str.{bytes_eq}
 use Rattle.id_tree.specs.IdTree.{One}
 use Rattle.event_tree.specs.EventTree.{Leaf}
-use Rattle.report_line.specs.declared.report.Action.TheVariants as reported
+use Rattle.report_line.specs.declared.report.ReportKind.TheVariants as reported
 use Rattle.report_line.specs.declared.report.Report.TheVariants.{Begin}
-use Rattle.report_line.specs.declared.step.Deed.TheVariants.{Work, Check, Present, Fork}
+use Rattle.report_line.specs.declared.step.StepKind.TheVariants.{Work, Check, Present, Fork}
 use Rattle.chains.specs.declared.position.Position.TheVariants.{At}
 use Rattle.chains.specs.Positions.{before_birth}
 use Rattle.histories.specs.Example.{a, b, left, right, halves, act}

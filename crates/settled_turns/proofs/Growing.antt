@@ -9,8 +9,8 @@ use Rattle.report_line.specs.declared.reply.Reply.{Reply}
 use Rattle.report_line.specs.declared.reply.Reply.TheVariants.{Accepted, Settled}
 use Rattle.report_line.specs.declared.report.Report.{Report}
 use Rattle.report_line.specs.declared.report.Report.TheVariants.{Begin, Numbered}
-use Rattle.report_line.specs.declared.step.Deed.{Deed}
-use Rattle.report_line.specs.declared.step.Deed.TheVariants.{Work, Check, Present, Send, Receive, Fork, Retire, Absorb}
+use Rattle.report_line.specs.declared.step.StepKind.{StepKind}
+use Rattle.report_line.specs.declared.step.StepKind.TheVariants.{Work, Check, Present, Send, Receive, Fork, Retire, Absorb}
 use Rattle.report_line.specs.declared.step.Step.{Step}
 use Rattle.report_line.specs.histories.History.{Name, History}
 use Rattle.report_line.specs.histories.StepReports.{report_by}
@@ -53,7 +53,7 @@ step_grows root run held e s obeyed holds right = (step_more root run e s obeyed
 -- ---- a report
 
 -- no step reports BEGIN
-no_begin : (root : Name) (h : History) (s : Step) (d : Deed) (p : Name) → report_by root h s d ≡ Some (Begin p) → ⊥
+no_begin : (root : Name) (h : History) (s : Step) (d : StepKind) (p : Name) → report_by root h s d ≡ Some (Begin p) → ⊥
 no_begin root h s Work p e = cc
 no_begin root h s Check p e = cc
 no_begin root h s Present p e = cc

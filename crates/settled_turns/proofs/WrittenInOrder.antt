@@ -9,7 +9,7 @@ use Rattle.report_line.specs.declared.call.Call.TheVariants as calls
 use Rattle.report_line.specs.declared.code.Code.{Code}
 use Rattle.report_line.specs.declared.code.Code.TheVariants.{OtherEpoch}
 use Rattle.report_line.specs.declared.reply.Reply.TheVariants.{Accepted, No, Settled}
-use Rattle.report_line.specs.declared.report.Action.TheVariants as reported
+use Rattle.report_line.specs.declared.report.ReportKind.TheVariants as reported
 use Rattle.report_line.specs.declared.report.Report.TheVariants.{Begin, Numbered}
 use Rattle.report_line.specs.histories.History.{Name, status}
 use Rattle.histories.specs.Example.{a, b, right, halves}

@@ -7,10 +7,10 @@ use Rattle.report_line.specs.declared.call.Call.{Call}
 use Rattle.report_line.specs.declared.call.Call.TheVariants as calls
 use Rattle.report_line.specs.declared.code.Code.TheVariants.{OtherEpoch}
 use Rattle.report_line.specs.declared.reply.Reply.TheVariants.{Accepted, No, Settled, Taken}
-use Rattle.report_line.specs.declared.report.Action.TheVariants as reported
+use Rattle.report_line.specs.declared.report.ReportKind.TheVariants as reported
 use Rattle.report_line.specs.declared.report.Report.{Report}
 use Rattle.report_line.specs.declared.report.Report.TheVariants.{Begin}
-use Rattle.report_line.specs.declared.step.Deed.TheVariants.{Work, Check, Present, Fork}
+use Rattle.report_line.specs.declared.step.StepKind.TheVariants.{Work, Check, Present, Fork}
 use Rattle.chains.specs.Held.{Held, counting}
 use Rattle.histories.specs.Example.{a, b, left, right, halves, act}
 use Rattle.lawful_reports.specs.HandedOver.{handed_over, IsNext, IsTargetBorn, HasLine}

@@ -1,6 +1,6 @@
 -- Working definitions: the tests of a report that is folded again.
 use Rattle.std.specs.Prelude.{◌≡◌, ◌≤◌, ◌<◌, List, [], ◌∷◌, ◌++◌, length}
-use Rattle.report_line.specs.declared.report.Action.{Action}
+use Rattle.report_line.specs.declared.report.ReportKind.{ReportKind}
 use Rattle.report_line.specs.declared.report.NumberedReport.{NumberedReport}
 use Rattle.report_line.specs.declared.report.Report.{Report}
 use Rattle.chains.specs.Processes.{known, registered_id, expected_id, last_events}
@@ -11,7 +11,7 @@ use Rattle.chains.specs.Answers.{IsNumberOf}
 use Rattle.chains.specs.Folded.{IsFitAction, IsFit}
 
 -- the stamp has the expected id and has grown, and the action is fit
-abbrev pub HasFitStamp : List Report → NumberedReport → Action → Type 0
+abbrev pub HasFitStamp : List Report → NumberedReport → ReportKind → Type 0
 HasFitStamp accepted r a =
     (r.stamp.id ≡ expected_id accepted r.process a) × AreGrown (last_events r.process accepted) (registered_id r.process accepted) r.stamp.events × IsFitAction accepted r a
 

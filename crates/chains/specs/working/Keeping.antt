@@ -6,8 +6,8 @@ use Rattle.report_line.specs.declared.report.Report.{Report}
 use Rattle.report_line.specs.declared.reply.Reply.{Reply}
 use Rattle.report_line.specs.declared.reply.Reply.TheVariants as replies
 use Rattle.chains.specs.declared.process.Process.{Process}
-use Rattle.chains.specs.declared.admission.Verdict.{Verdict}
-use Rattle.chains.specs.declared.admission.Verdict.TheVariants.{Old, Fits}
+use Rattle.chains.specs.declared.admission.AdmissionResult.{AdmissionResult}
+use Rattle.chains.specs.declared.admission.AdmissionResult.TheVariants.{Old, Fits}
 use Rattle.chains.specs.declared.refusal.No.{No}
 use Rattle.chains.specs.Processes.{Name, reports_of, is_numbered_of, is_birth_of, is_absorbed}
 pub use Rattle.chains.specs.Processes.{last_index}
@@ -45,7 +45,7 @@ abbrev pub view_of : Process → KeptProcess
 view_of k = record { reports = k.reports; last = k.last; birth = k.birth; lasting = k.lasting.items; last_run = k.last_run; absorbed = k.absorbed }
 
 -- the result of tests that stand for a reply with this meaning, at this front
-abbrev pub Tests : (Reply → Type 0) → ℕ → Result Verdict No → Type 0
+abbrev pub Tests : (Reply → Type 0) → ℕ → Result AdmissionResult No → Type 0
 Tests P front (Ok Old) = P (replies.Old front)
 Tests P front (Ok Fits) = P (replies.Accepted (front + 1))
 Tests P front (Err refusal) =

@@ -4,8 +4,8 @@ use Rattle.std.specs.Prelude.{slice_set, nat_eq}
 use Rattle.std.specs.List.{position, list_any}
 use Rattle.std.specs.Cmp.Lexicographic.{pointwise}
 use Rattle.indexmap.specs.IndexSet.{insert_key}
-use Rattle.report_line.specs.declared.report.Action.{Action}
-use Rattle.report_line.specs.declared.report.Action.TheVariants.{Check, Fork, Absorb}
+use Rattle.report_line.specs.declared.report.ReportKind.{ReportKind}
+use Rattle.report_line.specs.declared.report.ReportKind.TheVariants.{Check, Fork, Absorb}
 use Rattle.report_line.specs.declared.report.Report.{Report}
 use Rattle.report_line.specs.declared.report.Report.TheVariants.{Begin, Numbered}
 use Rattle.chains.specs.Processes.{Name, newborn}
@@ -34,7 +34,7 @@ born index = record { reports = 0; last = None; birth = index; lasting = index �
 abbrev pub changed_at : (KeptProcess → KeptProcess) → ℕ → List KeptProcess → List KeptProcess
 changed_at change i kept = slice_set kept i (change (slice_index_or kept i (born 0)))
 
-abbrev pub is_check : Action → Bool
+abbrev pub is_check : ReportKind → Bool
 is_check Check = true
 is_check _ = false
 
@@ -55,7 +55,7 @@ abbrev pub IsTakenBy : List Name → List KeptProcess → Name → List KeptProc
 IsTakenBy names kept retired after = TakenAt names retired (position (pointwise nat_eq retired) names) kept after
 
 -- what is kept after an action, where the process itself was noted
-abbrev pub IsKeptByAction : List Name → List KeptProcess → Action → ℕ → List KeptProcess → Type 0
+abbrev pub IsKeptByAction : List Name → List KeptProcess → ReportKind → ℕ → List KeptProcess → Type 0
 IsKeptByAction names noted (Fork f) index after = after ≡ noted ++ born index ∷ []
 IsKeptByAction names noted (Absorb retired) index after = IsTakenBy names noted retired after
 IsKeptByAction names noted _ index after = after ≡ noted

@@ -3,8 +3,8 @@ use Rattle.std.specs.Prelude.{◌≡◌, ◌⊎◌, ℕ, List, Option, Some, Non
 use Rattle.std.specs.Fmt.{decimal}
 use Rattle.report_line.specs.declared.code.Code.{Code}
 use Rattle.report_line.specs.declared.code.Code.TheVariants.{Full, OutOfMemory}
-use Rattle.report_line.specs.declared.report.Action.{Action}
-use Rattle.report_line.specs.declared.report.Action.TheVariants.{Absorb}
+use Rattle.report_line.specs.declared.report.ReportKind.{ReportKind}
+use Rattle.report_line.specs.declared.report.ReportKind.TheVariants.{Absorb}
 use Rattle.report_line.specs.declared.report.Report.{Report}
 use Rattle.report_line.specs.declared.report.Report.TheVariants.{Begin, Numbered}
 use Rattle.chains.specs.declared.refusal.No.{No}
@@ -21,7 +21,7 @@ abbrev pub IsNumberIn : List Report → Report → Option ℕ → Type 0
 IsNumberIn accepted (Begin p) number = number ≡ None
 IsNumberIn accepted (Numbered r) number = IsPlaceOf accepted r.process number
 
-abbrev pub IsNoAbsorb : Action → Type 0
+abbrev pub IsNoAbsorb : ReportKind → Type 0
 IsNoAbsorb (Absorb retired) = ⊥
 IsNoAbsorb _ = ⊤
 

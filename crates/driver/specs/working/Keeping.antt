@@ -3,8 +3,8 @@ use Rattle.std.specs.Prelude.{◌≡◌, ℕ, Bool, true, false, Option, Some}
 use Rattle.std.specs.Option.{is_some}
 use Rattle.std.specs.Str.{bytes_eq}
 use Rattle.indexmap.specs.IndexMap.{get}
-use Rattle.report_line.specs.declared.step.Deed.{Deed}
-use Rattle.report_line.specs.declared.step.Deed.TheVariants.{Receive, Fork, Absorb}
+use Rattle.report_line.specs.declared.step.StepKind.{StepKind}
+use Rattle.report_line.specs.declared.step.StepKind.TheVariants.{Receive, Fork, Absorb}
 use Rattle.report_line.specs.declared.step.Step.{Step as Taken}
 use Rattle.report_line.specs.histories.History.{Name, History}
 use Rattle.settled_histories.specs.Kept.{Cut, IsClosed, kept}
@@ -27,13 +27,13 @@ is_waiting (Some (Waits place q)) = true
 is_waiting _ = false
 
 -- by these tables, what is received was sent, and what is absorbed retired
-abbrev pub is_due : Tables → Deed → Bool
+abbrev pub is_due : Tables → StepKind → Bool
 is_due t (Receive m) = is_some (get bytes_eq t.messages m)
 is_due t (Absorb r) = is_waiting (get bytes_eq t.known r)
 is_due t _ = true
 
 -- the deed is a fork, by this event, of a child whose birth is in the line
-abbrev pub bears : Marks → Deed → ℕ → Bool
+abbrev pub bears : Marks → StepKind → ℕ → Bool
 bears marks (Fork c i) n = reached marks c n
 bears marks _ n = false
 

@@ -16,13 +16,13 @@ use Rattle.report_line.specs.histories.Lawful.{IsAllowed}
 use Rattle.report_line.specs.histories.StepReports.{reporting_steps, report_of}
 use Rattle.report_line.specs.declared.report.Report.{Report}
 use Rattle.report_line.specs.declared.report.Report.TheVariants.{Begin, Numbered}
-use Rattle.report_line.specs.declared.report.Action.TheVariants as acts
-use Rattle.report_line.specs.declared.step.Deed.{Deed}
-use Rattle.report_line.specs.declared.step.Deed.TheVariants.{Fork, Retire, Absorb}
+use Rattle.report_line.specs.declared.report.ReportKind.TheVariants as acts
+use Rattle.report_line.specs.declared.step.StepKind.{StepKind}
+use Rattle.report_line.specs.declared.step.StepKind.TheVariants.{Fork, Retire, Absorb}
 use Rattle.report_line.specs.Names.{is_name}
 use Rattle.report_line.specs.Spelling.{AreFields}
 use Rattle.lawful_reports.specs.HandedOver.{HasLine}
-use Rattle.driver.specs.declared.step.Act.{Act}
+use Rattle.driver.specs.declared.step.StepRequest.{StepRequest}
 use Rattle.driver.specs.declared.fault.StepFault.{StepFault}
 use Rattle.driver.specs.declared.fault.StepFault.TheVariants as faults
 use Rattle.driver.specs.declared.making.Alive.{Alive}
@@ -123,7 +123,7 @@ RetirementTold root h p r None = (e : Event) → status root h r ≢ Retired e p
 RetirementTold root h p r (Some s) = (e : Event) × (status root h r ≡ Retired e p) × (s.now ≡ stamp_of e)
 
 -- the step that was asked is ready: stamped, allowed, and refused by no cause
-pub record Makes (root : Name) (h : History) (p : Name) (act : Act) (made : Made) : Type 0 where
+pub record Makes (root : Name) (h : History) (p : Name) (act : StepRequest) (made : Made) : Type 0 where
   pub process : made.step.process ≡ p
   pub before : Event
   pub living : status root h p ≡ Living before
@@ -151,7 +151,7 @@ abbrev pub HasLineOf : Name → History → Taken → Type 0
 HasLineOf root h s = (r : Report) → report_of root h s ≡ Some r → HasLine r
 
 -- what the parts of a step have that is kept: its names are names, and its trees are in normal form and within the limits
-abbrev pub HasParts : Deed → Type 0
+abbrev pub HasParts : StepKind → Type 0
 HasParts (Fork c i) = IsTrue (is_name c) × IsId i
 HasParts (Retire q) = IsTrue (is_name q)
 HasParts (Absorb r) = IsTrue (is_name r)

@@ -3,8 +3,8 @@ use Rattle.std.specs.Prelude.{ℕ, ◌-◌, Bool, true, false, not, ◌&&◌, �
 use Rattle.std.specs.List.{list_any, list_all}
 use Rattle.std.specs.Option.{option_map, option_map_or, is_some}
 use Rattle.std.specs.Str.{bytes_eq}
-use Rattle.report_line.specs.declared.step.Deed.{Deed}
-use Rattle.report_line.specs.declared.step.Deed.TheVariants.{Work, Check, Present, Send, Receive, Fork, Retire, Absorb}
+use Rattle.report_line.specs.declared.step.StepKind.{StepKind}
+use Rattle.report_line.specs.declared.step.StepKind.TheVariants.{Work, Check, Present, Send, Receive, Fork, Retire, Absorb}
 use Rattle.report_line.specs.declared.step.Step.{Step as Taken}
 use Rattle.report_line.specs.histories.History.{Name, History}
 use Rattle.chains.specs.declared.position.Position.{Position}
@@ -31,7 +31,7 @@ abbrev pub reports : Option ℕ → Bool → Mark → Mark
 reports present retired m = record m { present = present; retired = retired }
 
 -- with a step of its own, whose event has this number
-abbrev pub own : Deed → ℕ → Mark → Mark
+abbrev pub own : StepKind → ℕ → Mark → Mark
 own Work n m = m
 own Check n m = lasts n (reports None false m)
 own Present n m = reports (Some n) false m
@@ -42,7 +42,7 @@ own (Retire q) n m = reports None true m
 own (Absorb r) n m = reports None false m
 
 -- with its birth, where the step is the fork
-abbrev pub born : Deed → ℕ → Name → Mark → Mark
+abbrev pub born : StepKind → ℕ → Name → Mark → Mark
 born (Fork c i) n p m = if bytes_eq c p then lasts n m else m
 born _ n p m = m
 

@@ -5,8 +5,8 @@ use Rattle.std.specs.Str.{bytes_eq}
 use Rattle.indexmap.specs.IndexMap.{get}
 use Rattle.event_tree.specs.EventTree.{EventTree}
 use Rattle.stamp.specs.declared.stamp.Stamp.{Stamp}
-use Rattle.report_line.specs.declared.step.Deed.{Deed}
-use Rattle.report_line.specs.declared.step.Deed.TheVariants.{Send, Fork, Retire, Absorb}
+use Rattle.report_line.specs.declared.step.StepKind.{StepKind}
+use Rattle.report_line.specs.declared.step.StepKind.TheVariants.{Send, Fork, Retire, Absorb}
 use Rattle.report_line.specs.declared.step.Step.{Step as Taken}
 use Rattle.report_line.specs.histories.History.{Name, History, Event, Status, Unborn, Living, Retired, Absorbed, status, sending}
 use Rattle.report_line.specs.histories.Lawful.{IsLawful}
@@ -63,16 +63,16 @@ pub record AreSound (t : Tables) : Type 0 where
 -- ---- what a step changes
 
 -- how many reports a process has after its deed, of n before
-abbrev pub reports_after : Deed → ℕ → ℕ
+abbrev pub reports_after : StepKind → ℕ → ℕ
 reports_after d n = if is_reported d then n + 1 else n
 
 -- what is kept of the process after its deed at this place, with so many reports then
-abbrev pub kept_of_actor : Deed → ℕ → ℕ → Known
+abbrev pub kept_of_actor : StepKind → ℕ → ℕ → Known
 kept_of_actor (Retire q) place n = Waits place q
 kept_of_actor _ place n = Lives place n
 
 -- what else is kept: a child begins, or who is absorbed is gone
-abbrev pub kept_of_other : Deed → Stamp → Option Other
+abbrev pub kept_of_other : StepKind → Stamp → Option Other
 kept_of_other (Fork c i) s = Some (record { name = c; known = Born (record { id = i; events = s.events }) })
 kept_of_other (Absorb r) s = Some (record { name = r; known = Gone })
 kept_of_other _ s = None
@@ -94,6 +94,6 @@ noted_other None q before = before
 noted_other (Some o) q before = if bytes_eq o.name q then Some o.known else before
 
 -- the place of a step with this deed is noted, where it sends the message
-abbrev pub noted_message : Deed → ℕ → Name → Option ℕ → Option ℕ
+abbrev pub noted_message : StepKind → ℕ → Name → Option ℕ → Option ℕ
 noted_message (Send n) place m before = if bytes_eq n m then Some place else before
 noted_message _ place m before = before

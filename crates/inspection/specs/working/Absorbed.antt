@@ -1,15 +1,15 @@
 -- Working definitions: whose retirements were absorbed.
 use Rattle.std.specs.Prelude.{◌≡◌, ℕ, Bool, false, List, Option, Some, None, length, take, slice_index_or}
 use Rattle.std.specs.List.{list_any}
-use Rattle.report_line.specs.declared.report.Action.{Action}
-use Rattle.report_line.specs.declared.report.Action.TheVariants.{Absorb}
+use Rattle.report_line.specs.declared.report.ReportKind.{ReportKind}
+use Rattle.report_line.specs.declared.report.ReportKind.TheVariants.{Absorb}
 use Rattle.report_line.specs.declared.report.Report.{Report}
 use Rattle.report_line.specs.declared.report.Report.TheVariants.{Begin, Numbered}
 use Rattle.chains.specs.Processes.{Name, known, is_absorb_of, is_absorbed}
 use Rattle.chains.specs.Elements.{name_of}
 
 -- the process whose retirement the action absorbs, if it does
-abbrev pub retired_by : Action → Option Name
+abbrev pub retired_by : ReportKind → Option Name
 retired_by (Absorb retired) = Some retired
 retired_by _ = None
 

@@ -1,7 +1,7 @@
 -- Each part stands in a file of its own: `Letting`, `Telling` and `Stepping`.
 use Rattle.std.specs.Prelude.{◌≡◌, ◌∷◌, ℕ, Some}
 use Rattle.std.proofs.Common.{◌∙◌, subst, sym}
-use Rattle.report_line.specs.declared.step.Deed.{Deed}
+use Rattle.report_line.specs.declared.step.StepKind.{StepKind}
 use Rattle.report_line.specs.histories.History.{Name, History}
 use Rattle.report_line.specs.histories.Lawful.{IsAllowed}
 use Rattle.report_line.specs.histories.StepReports.{report_of}
@@ -17,7 +17,7 @@ use Rattle.process_law.proofs.Stepping.{lives_next, gives_now}
 use Rattle.process_law.proofs.Standing.{lives_on}
 use Rattle.process_law.proofs.each_call_is_allowed.Goals as goal
 
-each : (root : Name) (h : History) (n : ℕ) (d : Doing) (deed : Deed) (w : LivesAs root h d.old) → IsDone d → deed_of n d.act ≡ Some deed → IsFrom root h n d.act d.old
+each : (root : Name) (h : History) (n : ℕ) (d : Doing) (deed : StepKind) (w : LivesAs root h d.old) → IsDone d → deed_of n d.act ≡ Some deed → IsFrom root h n d.act d.old
     → IsAllowedCall root h n d deed w.event
 each root h n d deed w does is from =
     let lets = allowed root h n d.act d.old d.new w.event does w.stamp from in

@@ -1,7 +1,7 @@
 -- The events of a history, the edges between them, and what is in the past of an event.
 use Rattle.std.specs.Prelude.{◌≡◌, Some, [], ◌∷◌}
 use Rattle.id_tree.specs.IdTree.{IdTree}
-use Rattle.report_line.specs.declared.step.Deed.TheVariants.{Receive, Fork, Absorb}
+use Rattle.report_line.specs.declared.step.StepKind.TheVariants.{Receive, Fork, Absorb}
 use Rattle.report_line.specs.declared.step.Step.{Step}
 use Rattle.report_line.specs.histories.History.{Name, Message, History, Event, birth_of_root, event_of, birth_by, Living, Retired, status, sending}
 

@@ -3,8 +3,8 @@ use Rattle.std.specs.Prelude.{ℕ, Bool, false, Option, Some, None, if◌then◌
 use Rattle.std.specs.Str.{bytes_eq}
 use Rattle.id_tree.specs.IdTree.{IdTree, One}
 use Rattle.event_tree.specs.EventTree.{EventTree, Leaf}
-use Rattle.report_line.specs.declared.step.Deed.{Deed}
-use Rattle.report_line.specs.declared.step.Deed.TheVariants.{Send, Fork, Retire, Absorb}
+use Rattle.report_line.specs.declared.step.StepKind.{StepKind}
+use Rattle.report_line.specs.declared.step.StepKind.TheVariants.{Send, Fork, Retire, Absorb}
 use Rattle.report_line.specs.declared.step.Step.{Step}
 
 -- the name of a process, as its bytes
@@ -22,7 +22,7 @@ History = List Step
 -- what an event is: the birth of a process, or what it does in a step
 pub data EventKind : Type 0 where
   Birth : EventKind
-  Does : Deed → EventKind
+  Does : StepKind → EventKind
 
 -- An event of a process, with its id and values after it. `number` says how many steps the history then has.
 pub record Event : Type 0 where
@@ -53,12 +53,12 @@ pub data Status : Type 0 where
   Absorbed : Status
 
 -- how the acting process stands after what it does
-abbrev pub status_of_actor : Deed → Event → Status
+abbrev pub status_of_actor : StepKind → Event → Status
 status_of_actor (Retire target) last = Retired last target
 status_of_actor _ last = Living last
 
 -- how another process `p` stands after the step `s`, by which it may be born or absorbed
-abbrev pub status_of_other : History → Step → Deed → Name → Status → Status
+abbrev pub status_of_other : History → Step → StepKind → Name → Status → Status
 status_of_other h s (Fork child given) p before = if bytes_eq p child then Living (birth_by h s child given) else before
 status_of_other h s (Absorb retired) p before = if bytes_eq p retired then Absorbed else before
 status_of_other h s _ p before = before
@@ -79,7 +79,7 @@ last_of (Retired last into) = Some last
 last_of Absorbed = None
 
 -- whether this message is sent
-abbrev pub sends : Deed → Message → Bool
+abbrev pub sends : StepKind → Message → Bool
 sends (Send sent) m = bytes_eq sent m
 sends _ m = false
 

@@ -6,8 +6,8 @@ use Rattle.id_tree.specs.Points.{Point, owns, OwnsSome, AreDisjoint, AreTogether
 use Rattle.event_tree.specs.EventTree.{EventTree}
 use Rattle.event_tree.specs.Grown.{IsGrown}
 use Rattle.event_tree.specs.Join.{IsJoin}
-use Rattle.report_line.specs.declared.step.Deed.{Deed}
-use Rattle.report_line.specs.declared.step.Deed.TheVariants.{Work, Check, Present, Send, Receive, Fork, Retire, Absorb}
+use Rattle.report_line.specs.declared.step.StepKind.{StepKind}
+use Rattle.report_line.specs.declared.step.StepKind.TheVariants.{Work, Check, Present, Send, Receive, Fork, Retire, Absorb}
 use Rattle.report_line.specs.declared.step.Step.{Step}
 use Rattle.report_line.specs.histories.History.{Name, Message, History, Event, Unborn, Living, Retired, status, sending}
 
@@ -49,7 +49,7 @@ pub record IsLawfulAbsorption (root : Name) (h : History) (before : Event) (s : 
   pub together : AreTogether before.id retirement.id s.stamp.id
 
 -- what each deed asks of a step `s` after the steps `h`, where `before` is the process's last event
-abbrev pub IsAllowed : Name → History → Event → Step → Deed → Type 0
+abbrev pub IsAllowed : Name → History → Event → Step → StepKind → Type 0
 IsAllowed root h before s Work = IsOwnWork before before.values s
 IsAllowed root h before s Check = IsOwnWork before before.values s
 IsAllowed root h before s Present = IsOwnWork before before.values s

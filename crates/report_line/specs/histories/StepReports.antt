@@ -3,17 +3,17 @@ use Rattle.std.specs.Prelude.{◌≡◌, ℕ, suc, ◌+◌, Bool, true, false, �
 use Rattle.std.specs.List.{cons_option}
 use Rattle.std.specs.Str.{bytes_eq}
 use Rattle.id_tree.specs.IdTree.{IdTree, Zero}
-use Rattle.report_line.specs.declared.report.Action.{Action}
-use Rattle.report_line.specs.declared.report.Action.TheVariants as reported
+use Rattle.report_line.specs.declared.report.ReportKind.{ReportKind}
+use Rattle.report_line.specs.declared.report.ReportKind.TheVariants as reported
 use Rattle.report_line.specs.declared.report.Report.{Report}
 use Rattle.report_line.specs.declared.report.Report.TheVariants.{Numbered}
-use Rattle.report_line.specs.declared.step.Deed.{Deed}
-use Rattle.report_line.specs.declared.step.Deed.TheVariants.{Work, Check, Present, Send, Receive, Fork, Retire, Absorb}
+use Rattle.report_line.specs.declared.step.StepKind.{StepKind}
+use Rattle.report_line.specs.declared.step.StepKind.TheVariants.{Work, Check, Present, Send, Receive, Fork, Retire, Absorb}
 use Rattle.report_line.specs.declared.step.Step.{Step}
 use Rattle.report_line.specs.histories.History.{Name, History, Event, event_of, Status, Unborn, Living, Retired, Absorbed, status}
 
 -- a check, a present state, a fork, a retirement and an absorption are reported
-abbrev pub is_reported : Deed → Bool
+abbrev pub is_reported : StepKind → Bool
 is_reported Work = false
 is_reported Check = true
 is_reported Present = true
@@ -36,13 +36,13 @@ id_of (Retired last into) = last.id
 id_of Absorbed = Zero
 
 -- a report of the step `s` after the steps `h`, with this id, the number of this reporting step and the values after it
-abbrev pub numbered : History → Step → IdTree → Action → Report
+abbrev pub numbered : History → Step → IdTree → ReportKind → Report
 numbered h s id a =
     Numbered (record { process = s.process; number = reporting_steps s.process h + 1; stamp = record { id = id; events = s.stamp.events }; action = a })
 
 -- The report of the step `s` after the steps `h`, by its deed, which stands beside it, if it makes one. The id of its stamp
 -- is the one after the step, and for a fork the one before the split.
-abbrev pub report_by : Name → History → Step → Deed → Option Report
+abbrev pub report_by : Name → History → Step → StepKind → Option Report
 report_by root h s Work = None
 report_by root h s Check = Some (numbered h s s.stamp.id reported.Check)
 report_by root h s Present = Some (numbered h s s.stamp.id reported.Present)

@@ -10,7 +10,7 @@ use client_link::Streams;
 use coordinator::{Coordinator, OpenGate, Pass};
 use line_disk::FileDisk;
 use record_file::RecordReach;
-use session::{Kind, SessionEnd, serve_link};
+use session::{SessionEnd, SessionEndKind, serve_link};
 use std::alloc::Global;
 use std::io::{BufWriter, Read, Write};
 use std::marker::Brand;
@@ -19,17 +19,17 @@ use std::sync::ledger::{Blank, Ledger};
 use std::thread::Threads;
 
 // The word for a kind of end.
-fn word_of(kind: Kind) -> &'static str {
+fn word_of(kind: SessionEndKind) -> &'static str {
     match kind {
-        Kind::End => "END",
-        Kind::Bye => "BYE",
-        Kind::TooLong => "TOO-LONG",
-        Kind::Worn => "WORN",
-        Kind::Memory => "MEMORY",
-        Kind::ReadFailed => "READ-FAILED",
-        Kind::WriteFailed => "WRITE-FAILED",
-        Kind::Endless => "ENDLESS",
-        Kind::Foreign => "FOREIGN",
+        SessionEndKind::End => "END",
+        SessionEndKind::Bye => "BYE",
+        SessionEndKind::TooLong => "TOO-LONG",
+        SessionEndKind::Worn => "WORN",
+        SessionEndKind::Memory => "MEMORY",
+        SessionEndKind::ReadFailed => "READ-FAILED",
+        SessionEndKind::WriteFailed => "WRITE-FAILED",
+        SessionEndKind::Endless => "ENDLESS",
+        SessionEndKind::Foreign => "FOREIGN",
     }
 }
 

@@ -8,8 +8,8 @@ use Rattle.driver.proofs.making.fork.Goals as goal
 pub halves-requires : goal.halves-requires
 halves-requires c = owner c.args.tables.now c.args.asked.now.process c.in_ok-alive.alive c.requires.sound c.in_ok-alive.ensures
 
-pub take_openly-requires-clause-makes : goal.take_openly-requires-clause-makes
-take_openly-requires-clause-makes c =
+pub add_reported-requires-clause-makes : goal.add_reported-requires-clause-makes
+add_reported-requires-clause-makes c =
     rw (c.requires.act, c.born.ensures)
     (makes_fork _ _ _ c.args.child.now _ _ c.in_ok-alive.alive c.in-Ok.halves.0 c.in-Ok.halves.1 c.in-Ok-fork_parts.parts _
     c.in_ok-alive.ensures (c.is_born.ensures.0 c.if-is_born.false) c.in-Ok.ensures c.in-Ok-fork_parts.ensures.ok refl c.copy.ensures refl)

@@ -13,8 +13,8 @@ differs x y q p b test is is_x is_y same = true≢false (sym (bytes_same x y (is
 pub event-requires : goal.event-requires
 event-requires c = owner c.args.tables.now c.args.asked.now.process c.in_ok-alive.alive c.requires.sound c.in_ok-alive.ensures
 
-pub take_openly-requires-clause-makes : goal.take_openly-requires-clause-makes
-take_openly-requires-clause-makes c =
+pub add_reported-requires-clause-makes : goal.add_reported-requires-clause-makes
+add_reported-requires-clause-makes c =
     rw c.requires.act
     (makes_retire _ _ _ _ _ _ c.in_ok-alive.alive c.in_ok-stamp.stamp c.in-Ok.report _
     c.in_ok-alive.ensures c.in_ok-stamp.ensures

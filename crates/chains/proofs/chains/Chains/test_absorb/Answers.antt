@@ -7,7 +7,7 @@ use Rattle.event_tree.specs.Values.{IsAtOrBelow}
 use Rattle.event_tree.specs.EventTree.{EventTree}
 use Rattle.report_line.specs.declared.code.Code.TheVariants.{WrongId, NotGrown, NotJoined}
 use Rattle.report_line.specs.View.{numbered_of}
-use Rattle.report_line.specs.declared.report.Action.TheVariants.{Absorb}
+use Rattle.report_line.specs.declared.report.ReportKind.TheVariants.{Absorb}
 use Rattle.report_line.specs.declared.report.Report.{Report}
 use Rattle.report_line.specs.declared.report.Report.TheVariants.{Numbered}
 use Rattle.report_line.specs.declared.reply.Reply.TheVariants.{No}

@@ -2,8 +2,8 @@ use Rattle.std.proofs.Common.{◌≡◌, ◌≢◌, ℕ, ◌+◌, sym, ap, subst
 use Rattle.std.specs.Prelude.{IfOk}
 use Rattle.std.specs.Fmt.{decimal}
 use Rattle.report_line.specs.declared.code.Code.TheVariants.{WrongNumber, NotWaiting}
-use Rattle.report_line.specs.declared.report.Action.{Action}
-use Rattle.report_line.specs.declared.report.Action.TheVariants.{Absorb}
+use Rattle.report_line.specs.declared.report.ReportKind.{ReportKind}
+use Rattle.report_line.specs.declared.report.ReportKind.TheVariants.{Absorb}
 use Rattle.report_line.specs.declared.reply.Reply.TheVariants.{No}
 use Rattle.report_line.specs.View.{numbered_of}
 use Rattle.chains.specs.Processes.{next_number, Waits}
@@ -47,7 +47,7 @@ returns-in-Some-waiting c =
     let retired = c.in-Some.retired.now in
     let same : c.reports_of-next.result + 1 ≡ next_number p accepted = ap (λ (k : ℕ). k + 1) (c.reports_of-next.ensures p c.requires.place) in
     passed_on (r.number ≢ next_number p accepted) (No WrongNumber (Some p) (Some (decimal (next_number p accepted)))) (IsWaitingReply held r r.action) front c.test_absorb.result (λ h. h (c.if-fields-next.false ∙ same))
-    (subst (λ (a : Action). Tests (IsWaitingReply held r a) front c.test_absorb.result) (sym c.in-Some.ensures)
+    (subst (λ (a : ReportKind). Tests (IsWaitingReply held r a) front c.test_absorb.result) (sym c.in-Some.ensures)
     (passed_on (¬ Waits accepted retired p) (No NotWaiting (Some retired) None) (IsStampReply held r (Absorb retired)) front c.test_absorb.result (λ h. h c.in-Some-waiting.ensures.0) c.test_absorb.ensures))
 
 pub test_absorb-requires-clause-apart : goal.test_absorb-requires-clause-apart

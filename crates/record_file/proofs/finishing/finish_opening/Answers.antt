@@ -5,8 +5,8 @@ use Rattle.record_file.specs.Opening.{KeepsFile}
 use Rattle.record_file.specs.Reading.{IsReading}
 use Rattle.record_file.specs.Resting.{IsAtRest}
 use Rattle.record_file.proofs.Openings.{IsSettled, settled, settled_more, new_always, cut_always, cut_rests, whole_rests, new_rests}
-use Rattle.record_file.proofs.settling.settle.Goals as goal
-use Rattle.record_file.proofs.settling.settle.Goals.{In_ok-len, In_ok-version, then-end-len+in_ok-cut_durably, else-end-len}
+use Rattle.record_file.proofs.finishing.finish_opening.Goals as goal
+use Rattle.record_file.proofs.finishing.finish_opening.Goals.{In_ok-len, In_ok-version, then-end-len+in_ok-cut_durably, else-end-len}
 
 -- after the length was asked
 after_len : (g : _) (c : In_ok-len g) → g.D.Disk.keeps c.args.disk.now → IsSettled (g.D.Disk.view c.args.disk.now) (g.D.Disk.view c.len.new.self)

@@ -21,7 +21,7 @@ pub(crate) const SECOND_VERSION: u8 = b'2';
 
 /// Finds the version and the records of a file that is on the disk, and makes it end behind its closed gate, at the answer's
 /// offset.
-pub(crate) fn settle<D: Disk>(
+pub(crate) fn finish_opening<D: Disk>(
     alloc: Global,
     disk: &mut D,
 ) -> Result<(u8, Vec<(u32, Vec<u8>)>, usize), OpenFault>

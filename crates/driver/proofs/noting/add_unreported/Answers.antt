@@ -1,5 +1,5 @@
 use Rattle.driver.proofs.Stepped.{silently_ready, silently_taken}
-use Rattle.driver.proofs.noting.take_silently.Goals as goal
+use Rattle.driver.proofs.noting.add_unreported.Goals as goal
 
 pub add-requires-clause-ready : goal.add-requires-clause-ready
 add-requires-clause-ready c =

@@ -1,5 +1,5 @@
 use Rattle.driver.proofs.Stepped.{openly_ready, openly_taken}
-use Rattle.driver.proofs.noting.take_openly.Goals as goal
+use Rattle.driver.proofs.noting.add_reported.Goals as goal
 
 pub add-requires-clause-ready : goal.add-requires-clause-ready
 add-requires-clause-ready c =

@@ -15,12 +15,12 @@ use std::marker::Model;
 
 /// A reply twice, seen as the reply: making one for the list of turns is part of making it.
 #[derive(Drop)]
-pub(crate) struct Twice {
+pub(crate) struct ReplyPair {
     given: Reply,
     kept: Reply,
 }
 
-impl Model for Twice {
+impl Model for ReplyPair {
     ghost use Rattle.std.specs.Prelude.{◌≡◌};
     ghost use Rattle.report_line.specs.declared.reply.Reply.{Reply};
     ghost use Rattle.report_line.specs.working.SessionCodes.{reply_code};
@@ -34,90 +34,90 @@ impl Model for Twice {
     ghost invariant = { λ t. t.kept ≡ t.given };
 }
 
-impl Twice {
+impl ReplyPair {
     /// The two.
     pub(crate) fn into_parts(self) -> (Reply, Reply)
         ensures first { result.0 ≡ self }
         ensures second { result.1 ≡ self }
     {
-        let Twice { given, kept } = self;
+        let ReplyPair { given, kept } = self;
         (given, kept)
     }
 
     /// A reply and its copy.
-    fn copied(alloc: Global, given: Reply) -> Result<Twice, AllocError>
+    fn copied(alloc: Global, given: Reply) -> Result<ReplyPair, AllocError>
         ensures { IfOk result (λ twice. twice ≡ given) }
     {
         let kept = given.copy(alloc)?;
-        Ok(Twice { given, kept })
+        Ok(ReplyPair { given, kept })
     }
 }
 
 /// The device failed, or was not called any more.
-pub(crate) fn failed(outcome: Outcome) -> Twice
+pub(crate) fn failed(outcome: Outcome) -> ReplyPair
     ensures { result ≡ Reply.Fail outcome }
 {
-    Twice {
+    ReplyPair {
         given: Reply::Fail(outcome),
         kept: Reply::Fail(outcome),
     }
 }
 
 /// The report was accepted, at this front.
-pub(crate) fn accepted(front: u32) -> Twice
+pub(crate) fn accepted(front: u32) -> ReplyPair
     ensures { result ≡ Reply.Accepted front }
 {
-    Twice {
+    ReplyPair {
         given: Reply::Accepted(front),
         kept: Reply::Accepted(front),
     }
 }
 
 /// All returned to a line, behind which this is the epoch and this the front.
-pub(crate) fn settled(epoch: u32, front: u32) -> Twice
+pub(crate) fn settled(epoch: u32, front: u32) -> ReplyPair
     ensures { result ≡ Reply.Settled epoch front }
 {
-    Twice {
+    ReplyPair {
         given: Reply::Settled { epoch, front },
         kept: Reply::Settled { epoch, front },
     }
 }
 
 /// The report was accepted before.
-pub(crate) fn old(front: u32) -> Twice
+pub(crate) fn old(front: u32) -> ReplyPair
     ensures { result ≡ Reply.Old front }
 {
-    Twice {
+    ReplyPair {
         given: Reply::Old(front),
         kept: Reply::Old(front),
     }
 }
 
 /// The line was no call.
-pub(crate) fn bad(number: u8) -> Twice
+pub(crate) fn bad(number: u8) -> ReplyPair
     ensures { result ≡ Reply.Bad number }
 {
-    Twice {
+    ReplyPair {
         given: Reply::Bad(number),
         kept: Reply::Bad(number),
     }
 }
 
 /// The client is done.
-pub(crate) fn bye() -> Twice
+pub(crate) fn bye() -> ReplyPair
     ensures { result ≡ Reply.Bye }
 {
-    Twice {
+    ReplyPair {
         given: Reply::Bye,
         kept: Reply::Bye,
     }
 }
 
 /// A line was asked for: it is found later.
-fn taken(front: u32) -> Twice
+fn taken(front: u32) -> ReplyPair
     ensures { result ≡ Reply.Taken front }
 {
-    Twice {
+    ReplyPair {
         given: Reply::Taken(front),
         kept: Reply::Taken(front),
     }
@@ -134,28 +134,28 @@ fn refusal(code: Code, name: Option<Name>) -> Reply
 }
 
 /// A refusal with nothing to name.
-pub(crate) fn refused(code: Code) -> Twice
+pub(crate) fn refused(code: Code) -> ReplyPair
     ensures { result ≡ Reply.No code None None }
 {
-    Twice {
+    ReplyPair {
         given: refusal(code, None),
         kept: refusal(code, None),
     }
 }
 
 /// A refusal that names a process.
-fn refused_named(code: Code, name: Name) -> Twice
+fn refused_named(code: Code, name: Name) -> ReplyPair
     ensures { result ≡ Reply.No code (Some name) None }
 {
     let same = name.copy();
-    Twice {
+    ReplyPair {
         given: refusal(code, Some(name)),
         kept: refusal(code, Some(same)),
     }
 }
 
 /// A refusal of a report; or want of memory, where its value takes memory.
-pub(crate) fn refused_by(alloc: Global, refused_as: No) -> Twice
+pub(crate) fn refused_by(alloc: Global, refused_as: No) -> ReplyPair
     ensures { (result ≡ Reply.No refused_as.code refused_as.name refused_as.value)
         ⊎ (TakesMemory (Reply.No refused_as.code refused_as.name refused_as.value) × (result ≡ no_memory)) }
 {
@@ -171,7 +171,7 @@ pub(crate) fn refused_by(alloc: Global, refused_as: No) -> Twice
                 name,
                 value: Some(value),
             };
-            match Twice::copied(alloc, reply) {
+            match ReplyPair::copied(alloc, reply) {
                 Ok(twice) => twice,
                 Err(_) => refused(Code::OutOfMemory),
             }
@@ -180,7 +180,7 @@ pub(crate) fn refused_by(alloc: Global, refused_as: No) -> Twice
 }
 
 /// The reply to the question for the line with every process failed.
-pub(crate) fn garbage_taken(chains: &Chains) -> Twice
+pub(crate) fn garbage_taken(chains: &Chains) -> ReplyPair
     ensures { IsGarbageReply (held_of chains.now) result }
 {
     if chains.is_empty() {
@@ -190,7 +190,7 @@ pub(crate) fn garbage_taken(chains: &Chains) -> Twice
 }
 
 /// The reply to a question for a line. It takes no memory.
-pub(crate) fn line_taken(chains: &Chains, names: &Names) -> Twice
+pub(crate) fn line_taken(chains: &Chains, names: &Names) -> ReplyPair
     ensures { IsLineReply (held_of chains.now) names.now result }
 {
     if chains.is_empty() {
@@ -227,7 +227,7 @@ fn told(name: &Name, state: &State<'_>, id: Text) -> Reply
 }
 
 /// The reply to a question for the state of a process, if memory suffices for it.
-pub(crate) fn state_told(chains: &Chains, name: &Name) -> Result<Twice, AllocError>
+pub(crate) fn state_told(chains: &Chains, name: &Name) -> Result<ReplyPair, AllocError>
     ensures told { IfOk result (λ twice. IsStateReply chains.now.accepted name.now twice) }
     ensures known { IfErr result (λ _. IsKnown chains.now.accepted name.now) }
 {
@@ -238,6 +238,6 @@ pub(crate) fn state_told(chains: &Chains, name: &Name) -> Result<Twice, AllocErr
         return Ok(refused_named(Code::UnknownProcess, name.copy()));
     };
     let text = text_of(chains.alloc(), state.id)?;
-    let twice = Twice::copied(chains.alloc(), told(name, &state, text))?;
+    let twice = ReplyPair::copied(chains.alloc(), told(name, &state, text))?;
     Ok(twice)
 }

@@ -12,7 +12,7 @@ use Rattle.report_line.specs.declared.report.Report.TheVariants.{Begin, Numbered
 use Rattle.chains.specs.declared.process.Process.{Process}
 use Rattle.chains.specs.Processes.{Name, known, is_numbered_of}
 use Rattle.chains.specs.Elements.{name_of, lasting_of}
-use Rattle.chains.specs.LastRun.{run_by, run_after}
+use Rattle.chains.specs.working.LastRun.{run_by, run_after}
 use Rattle.chains.specs.Admission.{report_limit, process_limit}
 use Rattle.chains.specs.Folded.{IsFit, IsFolded, one_folded}
 use Rattle.chains.specs.Kept.{Kept, HasRoomFor}

@@ -19,7 +19,8 @@ use Rattle.report_line.specs.declared.report.Report.{Report}
 use Rattle.report_line.specs.declared.report.Report.TheVariants.{Begin, Numbered}
 use Rattle.chains.specs.Processes.{Name, newborn, child_of, known, IsKnown, first_of, last_passing, is_numbered_of, is_birth_of, is_absorb_of, is_absorbed, target_after}
 use Rattle.chains.specs.Elements.{name_of, lasting_made, lasting_by, lasting_of}
-use Rattle.chains.specs.LastRun.{last_run, run_by}
+use Rattle.chains.specs.LastRun.{last_run}
+use Rattle.chains.specs.working.LastRun.{run_by}
 use Rattle.report_line.specs.declared.marked.MarkedReport.{MarkedReport}
 use Rattle.chains.specs.Held.{Held}
 use Rattle.chains.specs.Admission.{Passes, report_limit, process_limit}

@@ -16,7 +16,8 @@ use Rattle.report_line.specs.declared.report.Report.TheVariants.{Numbered}
 use Rattle.chains.specs.declared.process.Process.{Process}
 use Rattle.chains.specs.Processes.{Name, child_of, last_report, is_numbered_of}
 use Rattle.chains.specs.Elements.{name_of, lasting_made, lasting_by, lasting_of, present_in, elements_of}
-use Rattle.chains.specs.LastRun.{same_id, last_run, run_by, run_after}
+use Rattle.chains.specs.LastRun.{same_id, last_run}
+use Rattle.chains.specs.working.LastRun.{run_by, run_after}
 use Rattle.chains.specs.Admission.{report_limit}
 use Rattle.chains.specs.working.Keeping.{KeptProcess}
 use Rattle.chains.specs.working.Noting.{is_check}

@@ -1,12 +1,8 @@
 -- The last run of a process: its elements at the end that have one id.
-use Rattle.std.specs.Prelude.{ℕ, suc, Bool, true, false, ◌&&◌, List, [], ◌∷◌, ◌++◌, if◌then◌else◌}
+use Rattle.std.specs.Prelude.{ℕ, suc, Bool, true, false, ◌&&◌, List, [], ◌∷◌, if◌then◌else◌}
 use Rattle.std.specs.List.{list_all}
 use Rattle.id_tree.specs.IdTree.{IdTree, Zero, One, Pair}
 use Rattle.stamp.specs.declared.stamp.Stamp.{Stamp}
-use Rattle.report_line.specs.declared.report.ReportKind.{ReportKind}
-use Rattle.report_line.specs.declared.report.ReportKind.TheVariants.{Check}
-use Rattle.report_line.specs.declared.report.Report.{Report}
-use Rattle.report_line.specs.declared.report.Report.TheVariants.{Begin, Numbered}
 
 -- whether two ids are one
 abbrev pub same_id : IdTree → IdTree → Bool
@@ -19,14 +15,3 @@ same_id _ _ = false
 abbrev pub last_run : List Stamp → ℕ
 last_run [] = 0
 last_run (s ∷ ss) = if list_all (λ t. same_id s.id t.id) ss then 0 else suc (last_run ss)
-
--- Working definitions.
-
--- the last run of a process that reports this behind these lasting elements
-abbrev pub run_by : List Stamp → Stamp → ReportKind → ℕ
-run_by ss s Check = last_run (ss ++ s ∷ [])
-run_by ss s _ = last_run ss
-
-abbrev pub run_after : List Stamp → Report → ℕ
-run_after ss (Begin p) = 0
-run_after ss (Numbered r) = run_by ss r.stamp r.action

@@ -8,3 +8,4 @@ pub mod Room
 pub mod Settling
 pub mod Fitting
 pub mod Flags
+pub mod LastRun

@@ -8,7 +8,7 @@ use Rattle.record_file.proofs.Walking.{behind_is}
 use Rattle.earlier_file.specs.Cuts.{IsCutAt}
 use Rattle.earlier_file.specs.Earlier.{HasTooFew}
 use Rattle.earlier_file.specs.Facts.{HasRecordsAndTail}
-use Rattle.earlier_file.specs.Walks.{IsWalked, HasNone, IsPlaced}
+use Rattle.earlier_file.specs.working.Walks.{IsWalked, HasNone, IsPlaced}
 use Rattle.earlier_file.specs.declared.walking.Gate.{Gate}
 use Rattle.earlier_file.proofs.Prefixes.{count_said}
 

@@ -1,4 +1,4 @@
 pub mod Cuts
 pub mod Earlier
 pub mod Facts
-pub mod Walks
+pub mod working

@@ -2,7 +2,7 @@
 
 ghost use Rattle.std.specs.Prelude.{◌≡◌, ◌≢◌, ◌↔◌, ◌<◌, ◌≤◌, IsTrue, IfOk, IfErr, length, get_or, take};
 ghost use Rattle.record_file.specs.File.{header, IsForeign};
-ghost use Rattle.earlier_file.specs.Walks.{IsWalked, IsDamagedWithin, IsUnheaded, IsPlaced, IsUnplaced};
+ghost use Rattle.earlier_file.specs.working.Walks.{IsWalked, IsDamagedWithin, IsUnheaded, IsPlaced, IsUnplaced};
 
 use crate::fault::FileFault;
 use record_file::split_record;

@@ -9,7 +9,8 @@ use Rattle.chains.specs.Elements.{name_of}
 use Rattle.chains.specs.States.{IsStateOf}
 use Rattle.chains.specs.declared.state.State.{State}
 use Rattle.inspection.specs.declared.shown.ShownProcess.{ShownProcess}
-use Rattle.inspection.specs.Processes.{line_of, maker, shown_process, shown_with, IsShownBy}
+use Rattle.inspection.specs.Processes.{line_of, maker, shown_process}
+use Rattle.inspection.specs.working.Processes.{shown_with, IsShownBy}
 
 pub shown_more : (accepted : List Report) (i : ℕ) (shown : ShownProcess) (old new : List ShownProcess) → i < length (known accepted) → old ≡ map (shown_process accepted) (take i (known accepted))
     → ((p : Name) → name_of accepted i ≡ Some p → shown ≡ shown_process accepted p) → new ≡ old ++ shown ∷ [] → new ≡ map (shown_process accepted) (take (i + 1) (known accepted))

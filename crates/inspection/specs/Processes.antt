@@ -1,5 +1,5 @@
 -- What is shown of processes, and of the file.
-use Rattle.std.specs.Prelude.{◌≡◌, ℕ, option_copied, ◌-◌, Bool, true, false, List, [], Option, Some, None, length, map, slice_get, unwrap_or, ◌==◌, if◌then◌else◌}
+use Rattle.std.specs.Prelude.{ℕ, ◌-◌, Bool, true, false, List, [], Option, Some, None, length, map, slice_get, unwrap_or, ◌==◌, if◌then◌else◌}
 use Rattle.std.specs.Option.{option_map_or}
 use Rattle.id_tree.specs.IdTree.{IdTree, Zero}
 use Rattle.id_tree.specs.NormalForm.{depth}
@@ -11,7 +11,6 @@ use Rattle.report_line.specs.Spelling.{spelling}
 use Rattle.chains.specs.Processes.{Name, known, reports_of, target_of, is_absorbed}
 use Rattle.chains.specs.Elements.{elements_of, makers_of}
 use Rattle.chains.specs.States.{live_id}
-use Rattle.chains.specs.declared.state.State.{State}
 use Rattle.chains.specs.Held.{Held}
 use Rattle.record_file.specs.File.{first_version}
 use Rattle.earlier_file.specs.declared.found.FileFacts.{FileFacts}
@@ -63,18 +62,3 @@ version_number byte = if byte == first_version then 1 else 2
 
 abbrev pub shown_file : Held → FileFacts → ShownFile
 shown_file held facts = record { version = version_number facts.version; records = facts.records; front = held.front; epoch = held.epoch; tail = facts.tail }
-
--- Working definitions: what is shown of a process of this name, id, and so on, and where this is kept of it.
-abbrev pub shown_with : Name → Option IdTree → Bool → ℕ → ℕ → List ℕ → ShownProcess
-shown_with p id absorbed reports elements last = record {
-  name = p;
-  state = state_by id absorbed;
-  reports = reports;
-  elements = elements;
-  depth = depth (shown_id id);
-  size = size (shown_id id);
-  last = last;
-}
-
-pub record IsShownBy (p : Name) (state : State) (absorbed : Bool) (last : List ℕ) (shown : ShownProcess) : Type 0 where
-  pub is : shown ≡ shown_with p (option_copied state.id) absorbed state.reports state.elements last

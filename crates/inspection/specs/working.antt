@@ -1,1 +1,2 @@
 pub mod Absorbed
+pub mod Processes

@@ -4,7 +4,8 @@ ghost use Rattle.std.specs.Prelude.{◌≡◌, ◌<◌, ◌-◌, IfOk, Some, len
 ghost use Rattle.chains.specs.Processes.{Name as AnyName, known, is_absorbed};
 ghost use Rattle.chains.specs.Elements.{name_of, makers_of};
 ghost use Rattle.chains.specs.Held.{held_of};
-ghost use Rattle.inspection.specs.Processes.{state_by, IsShownBy, line_of, maker, shown_process, shown_processes, version_number, shown_file};
+ghost use Rattle.inspection.specs.Processes.{state_by, line_of, maker, shown_process, shown_processes, version_number, shown_file};
+ghost use Rattle.inspection.specs.working.Processes.{IsShownBy};
 
 use crate::absorbed::absorbed;
 use crate::depth::{shown_depth, shown_size};

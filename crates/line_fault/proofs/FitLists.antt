@@ -2,7 +2,7 @@
 use Rattle.std.proofs.Common.{◌≡◌, ℕ, List, [], ◌∷◌, ◌++◌, refl}
 use Rattle.line_fault.specs.declared.wanted.Wanted.{Wanted}
 use Rattle.line_fault.specs.Wanting.{Fits}
-use Rattle.line_fault.specs.Shapes.{FitAll}
+use Rattle.line_fault.specs.working.Shapes.{FitAll}
 use Rattle.line_fault.proofs.Samples.{sample}
 
 -- there is a first word, and it is as wanted

@@ -5,7 +5,7 @@ use Rattle.report_line.specs.Spelling.{mark_text}
 use Rattle.report_line.specs.Cuts.{Lacks}
 use Rattle.line_fault.specs.declared.kind.Shape.{Shape}
 use Rattle.line_fault.specs.declared.kind.Shape.TheVariants.{Bare, Named, Failed, Settling, Reported, Handing, Forking}
-use Rattle.line_fault.specs.Shapes.{IsUnmarked, IsMarkable, IsMarkedKind, IsKindOf}
+use Rattle.line_fault.specs.working.Shapes.{IsUnmarked, IsMarkable, IsMarkedKind, IsKindOf}
 
 -- the first two letters of a word, by which the words of the shapes differ
 abbrev letters : List ℕ → ℕ

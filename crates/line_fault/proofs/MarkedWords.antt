@@ -8,7 +8,7 @@ use Rattle.line_fault.specs.declared.kind.Shape.{Shape}
 use Rattle.line_fault.specs.declared.wanted.Wanted.TheVariants as wanted
 use Rattle.line_fault.specs.Wanting.{Fits}
 use Rattle.line_fault.specs.Reasons.{IsMarked}
-use Rattle.line_fault.specs.Shapes.{wanted_in, IsUnmarked, IsMarkable, IsMarkedKind, IsKindOf}
+use Rattle.line_fault.specs.working.Shapes.{wanted_in, IsUnmarked, IsMarkable, IsMarkedKind, IsKindOf}
 use Rattle.line_fault.proofs.KindWords.{no_shape}
 use Rattle.line_fault.proofs.ShapedCalls.{begun, no_call_begins}
 

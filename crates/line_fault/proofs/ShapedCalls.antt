@@ -20,7 +20,7 @@ use Rattle.line_fault.specs.declared.kind.Shape.{Shape}
 use Rattle.line_fault.specs.declared.kind.Shape.TheVariants.{Bare, Named, Failed, Settling, Reported, Handing, Forking}
 use Rattle.line_fault.specs.Begun.{AreOfCall, IsBegun, MayFollow}
 use Rattle.line_fault.specs.Wanting.{Fits, Wants}
-use Rattle.line_fault.specs.Shapes.{wanted_in, IsUnmarked, IsMarkable, IsMarkedKind, IsKindOf, FitAll}
+use Rattle.line_fault.specs.working.Shapes.{wanted_in, IsUnmarked, IsMarkable, IsMarkedKind, IsKindOf, FitAll}
 use Rattle.line_fault.proofs.FitLists.{part, none_left, FitAll-append, FitAll-behind, samples}
 use Rattle.line_fault.proofs.KindWords.{one_shape}
 

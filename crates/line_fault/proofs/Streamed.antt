@@ -10,7 +10,8 @@ use Rattle.line_fault.specs.declared.explained.Explained.{Explained}
 use Rattle.line_fault.specs.declared.explained.Explained.TheVariants.{TooLong}
 use Rattle.line_fault.specs.declared.stream.Explanations.{Explanations}
 use Rattle.line_fault.specs.declared.stream.Said.{Said}
-use Rattle.line_fault.specs.Streams.{AreExplained, AreTold, told_line, told_lines, is_call, are_calls, IsAfter, Goes, AreToldBy, IsSaid, IsLineSaid}
+use Rattle.line_fault.specs.Streams.{AreExplained, AreTold, told_line, told_lines, is_call, are_calls, IsAfter, Goes}
+use Rattle.line_fault.specs.working.Streams.{AreToldBy, IsSaid, IsLineSaid}
 
 -- ---- lines that are told
 

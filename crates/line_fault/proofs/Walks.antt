@@ -12,7 +12,7 @@ use Rattle.line_fault.specs.declared.kind.Shape.{Shape}
 use Rattle.line_fault.specs.Begun.{AreOfCall, IsBegun, MayFollow}
 use Rattle.line_fault.specs.Wanting.{Fits, Wants}
 use Rattle.line_fault.specs.Reasons.{IsMarked, Says, IsFirstWrong, IsMissing, IsWrongAt}
-use Rattle.line_fault.specs.Shapes.{wanted_in, IsKindOf, FitAll, told, IsStampCause, IsIdCause, IsCause, IsNoKind, TellsFit, Stops, TellsOf, IsTold}
+use Rattle.line_fault.specs.working.Shapes.{wanted_in, IsKindOf, FitAll, told, IsStampCause, IsIdCause, IsCause, IsNoKind, TellsFit, Stops, TellsOf, IsTold}
 use Rattle.line_fault.proofs.FitLists.{FitAll-append}
 use Rattle.line_fault.proofs.ShapedCalls.{of_shape, no_call_begins, begun, wants, none_follows, too_few}
 

@@ -3,5 +3,5 @@ pub mod Wanting
 pub mod Reasons
 pub mod Answers
 pub mod Words
-pub mod Shapes
 pub mod Streams
+pub mod working

@@ -1,7 +1,7 @@
 //! The words of a line, one by one.
 
 ghost use Rattle.std.specs.Prelude.{◌≡◌, ◌≢◌, ◌+◌, ◌^◌, ◌<◌, [], length, IfOk};
-ghost use Rattle.line_fault.specs.Shapes.{wanted_in, TellsOf, IsTold};
+ghost use Rattle.line_fault.specs.working.Shapes.{wanted_in, TellsOf, IsTold};
 
 use crate::fault::{Why, WrongWord};
 use crate::fitting::{misfit, told};

@@ -2,7 +2,7 @@
 
 ghost use Rattle.std.specs.Prelude.{◌≡◌, ◌↔◌, IsTrue, IfOk, Some, None, if◌then◌else◌};
 ghost use Rattle.line_fault.specs.Wanting.{Fits};
-ghost use Rattle.line_fault.specs.Shapes.{TellsFit, stamp_answer, id_answer, told};
+ghost use Rattle.line_fault.specs.working.Shapes.{TellsFit, stamp_answer, id_answer, told};
 ghost use Rattle.line_fault.specs.declared.wanted.Wanted.TheVariants as wanted;
 
 use crate::fault::{TreeFault, Why};

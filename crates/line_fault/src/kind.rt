@@ -2,7 +2,7 @@
 
 ghost use Rattle.std.specs.Prelude.{◌≡◌, ◌↔◌, IsTrue, MatchOption};
 ghost use Rattle.line_fault.specs.Reasons.{IsMarked};
-ghost use Rattle.line_fault.specs.Shapes.{IsUnmarked, IsMarkable, IsKindOf, IsMarkedKind, IsNoKind};
+ghost use Rattle.line_fault.specs.working.Shapes.{IsUnmarked, IsMarkable, IsKindOf, IsMarkedKind, IsNoKind};
 ghost use Rattle.line_fault.specs.declared.kind.Shape.{Shape as AnyShape};
 
 use crate::fault::Why;

@@ -1,7 +1,8 @@
 //! The lines of a stream, each explained.
 
 ghost use Rattle.std.specs.Prelude.{◌≡◌, ◌≢◌, ◌+◌, ◌^◌, ◌<◌, ◌≤◌, ◌++◌, ◌&&◌, ℕ, List, [], length, None, false, ◌↔◌, IsTrue, IfOk, OnOk};
-ghost use Rattle.line_fault.specs.Streams.{told_line, told_lines, is_call, are_calls, IsAfter, IsSaid, IsLineSaid, Goes};
+ghost use Rattle.line_fault.specs.Streams.{told_line, told_lines, is_call, are_calls, IsAfter, Goes};
+ghost use Rattle.line_fault.specs.working.Streams.{IsSaid, IsLineSaid};
 ghost use Rattle.line_fault.specs.declared.explained.Explained.{Explained as AnyExplained};
 
 use crate::explained::Explained;

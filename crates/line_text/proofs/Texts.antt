@@ -15,7 +15,8 @@ use Rattle.reasons.specs.Shown.{IsLineText, IsShown}
 use Rattle.propagate.specs.Choice.{IsChosenCertificate}
 use Rattle.propagate.specs.Cuts.{IsCertificateFor}
 use Rattle.garbage_line.specs.Garbage.{IsGarbageLine}
-use Rattle.line_text.specs.Questions.{IsAnswer, IsLineFor, IsTextFor}
+use Rattle.line_text.specs.Questions.{IsAnswer, IsLineFor}
+use Rattle.line_text.specs.working.Questions.{IsTextFor}
 
 -- it is chosen for its own numbers
 own_numbers : (held : Held) (failed : List ℕ) (c : Certificate) → IsChosenCertificate held failed c → IsChosenCertificate held c.failed c

@@ -32,10 +32,3 @@ IsChosenFor held _ text = ⊥
 pub record IsAnswer (held : Held) (call : Call) (text : List ℕ) : Type 0 where
   pub line : IsLineFor held call text
   pub chosen : IsChosenFor held call text
-
--- Working definitions from here on.
-
--- the same for these names
-pub record IsTextFor (held : Held) (names : List Name) (text : List ℕ) : Type 0 where
-  pub line : IsLineText held names text
-  pub chosen : IsChosenText held names text

@@ -7,7 +7,8 @@ ghost use Rattle.chains.specs.Held.{held_of};
 ghost use Rattle.chains.specs.Processes.{known};
 ghost use Rattle.knows_row.specs.Needs.{IsTableOf};
 ghost use Rattle.reasons.specs.CertificateText.{certificate_text};
-ghost use Rattle.line_text.specs.Questions.{IsAnswer, IsTextFor};
+ghost use Rattle.line_text.specs.Questions.{IsAnswer};
+ghost use Rattle.line_text.specs.working.Questions.{IsTextFor};
 
 use chains::{Chains, Failed};
 use garbage_line::garbage_by;

@@ -6,7 +6,8 @@ use Rattle.id_tree.specs.IdTree.{IdTree, Zero, One, Pair}
 use Rattle.id_tree.specs.NormalForm.{depth, depth_limit}
 use Rattle.id_tree.specs.Points.{Point, owns}
 use Rattle.id_tree.specs.Split.{left_part, right_part, parts_depth, IsSplit}
-use Rattle.process.specs.Leaves.{IsLeafAt, HasLeafWithin, HasRoomFor, IsFromDeepest, AtMost, AreInOrder, IsPartedOnce, above, deepest_within, cells_of_all, cells}
+use Rattle.process.specs.Leaves.{IsLeafAt, HasLeafWithin, HasRoomFor, IsFromDeepest}
+use Rattle.process.specs.working.Leaves.{AtMost, AreInOrder, IsPartedOnce, above, deepest_within, cells_of_all, cells}
 use Rattle.process.proofs.LeafWays.{LeavesFit, leaves_fit, leaves_turned, from_part}
 
 -- ---- what holds of two parts of an id, of which one has a leaf that is no deeper

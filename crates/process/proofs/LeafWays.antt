@@ -5,7 +5,8 @@ use Rattle.id_tree.specs.IdTree.{IdTree, Zero, One, Pair}
 use Rattle.id_tree.specs.OneWay.{id_of_way}
 use Rattle.id_tree.specs.Points.{Point, Covers}
 use Rattle.id_tree.specs.Split.{left_part, right_part}
-use Rattle.process.specs.Leaves.{IsLeafAt, HasLeafWithin, HasLeafThere, IsFromDeepest, AtMost, IsAsDeep, above, deepest_within}
+use Rattle.process.specs.Leaves.{IsLeafAt, HasLeafWithin, HasLeafThere, IsFromDeepest}
+use Rattle.process.specs.working.Leaves.{AtMost, IsAsDeep, above, deepest_within}
 
 -- ---- the leaves of two parts
 

@@ -3,4 +3,4 @@ pub mod Faults
 pub mod Texts
 pub mod Leaves
 pub mod Shallow
-pub mod Telling
+pub mod working

@@ -2,8 +2,9 @@
 
 ghost use Rattle.std.specs.Prelude.{◌≡◌, ◌≤◌, ◌<◌, ◌↔◌, ◌⊎◌, false, IsTrue, IsErr, IfOk, IfErr, IfSome, MatchOption};
 ghost use Rattle.id_tree.specs.Points.{AreDisjoint, AreTogether};
-ghost use Rattle.process.specs.Leaves.{IsLeafAt, HasLeafWithin, HasRoomFor, AtMost, AreInOrder, IsPartedOnce, IsCarved, above, deepest_within};
-ghost use Rattle.process.specs.Telling.{RefusesCarving};
+ghost use Rattle.process.specs.Leaves.{IsLeafAt, HasLeafWithin, HasRoomFor};
+ghost use Rattle.process.specs.working.Leaves.{AtMost, AreInOrder, IsPartedOnce, IsCarved, above, deepest_within};
+ghost use Rattle.process.specs.working.Telling.{RefusesCarving};
 
 use crate::fault::ProcessFault;
 use id_tree::{Id, IdPart, IdView, SplitFault, SumFault};

@@ -8,7 +8,7 @@ ghost use Rattle.event_tree.specs.Event.{PassesLimit};
 ghost use Rattle.process.specs.Steps.{Forks, Halves, IsLineOf, fork_report};
 ghost use Rattle.process.specs.Faults.{RefusesFork, RefusesHalves, RefusesLeaf, RefusesCarved, IsWorn};
 ghost use Rattle.process.specs.Leaves.{IsLeafAt, IsFromDeepest, HasRoomFor};
-ghost use Rattle.process.specs.Telling.{AreForkParts, IsForkTold, IsParted, AreCarved, RefusesCarving};
+ghost use Rattle.process.specs.working.Telling.{AreForkParts, IsForkTold, IsParted, AreCarved, RefusesCarving};
 
 use crate::carving::carve;
 use crate::fault::ProcessFault;

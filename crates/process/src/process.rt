@@ -8,7 +8,7 @@ ghost use Rattle.report_line.specs.declared.report.ReportKind.TheVariants as act
 ghost use Rattle.report_line.specs.declared.report.Report.TheVariants.{Begin};
 ghost use Rattle.process.specs.Steps.{Works, Sends, HandsOver, Tells, Receives, Retires, Absorbs, Returns, Counts, IsLineOf};
 ghost use Rattle.process.specs.Faults.{RefusesEvent, RefusesReport, RefusesAgain, RefusesReceipt, RefusesRetirement, RefusesAbsorption, RefusesKept, RefusesStamp, RefusesSum, RefusesReturn, IsWorn, fault_of};
-ghost use Rattle.process.specs.Telling.{IsTold, IsReported, IsAbsorbTold, after_told};
+ghost use Rattle.process.specs.working.Telling.{IsTold, IsReported, IsAbsorbTold, after_told};
 ghost use Rattle.stamp.specs.Operations.{IsNormalJoin, IsReceive, IsAbsorb};
 
 use crate::fault::ProcessFault;

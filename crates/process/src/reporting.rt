@@ -3,7 +3,7 @@
 ghost use Rattle.std.specs.Prelude.{◌≡◌, ◌+◌, ◌<◌, ◌^◌, ◌-◌, MatchOption, IfOk};
 ghost use Rattle.report_line.specs.declared.report.Report.TheVariants.{Begin};
 ghost use Rattle.process.specs.Steps.{IsLineOf, next_report};
-ghost use Rattle.process.specs.Telling.{IsReported};
+ghost use Rattle.process.specs.working.Telling.{IsReported};
 
 use crate::process::Process;
 use report_line::{Name, NumberedReport, PackedReport, Report, ReportKind, write_marked};

@@ -3,4 +3,4 @@ pub mod Numbers
 pub mod Answers
 pub mod Given
 pub mod Refusals
-pub mod Working
+pub mod working

@@ -3,7 +3,7 @@
 ghost use Rattle.std.specs.Prelude.{◌≡◌, IsTrue, false, MatchResult};
 ghost use Rattle.report_line.specs.Names.{is_name};
 ghost use Rattle.process_c.specs.Texts.{IsStateOf, IsMessageOf, IsStartOf, IsRetirementOf};
-ghost use Rattle.process_c.specs.Working.{unread, IsUnreadState, IsUnreadText};
+ghost use Rattle.process_c.specs.working.Causes.{unread, IsUnreadState, IsUnreadText};
 
 use crate::fault::Fault;
 use process::{Message, Process, ProcessFault, Retirement, Start};

@@ -6,7 +6,7 @@ ghost use Rattle.process.specs.Faults.{RefusesEvent, RefusesReport, RefusesAgain
 ghost use Rattle.process_c.specs.Texts.{IsStateOf, IsMessageOf, IsRetirementOf};
 ghost use Rattle.process_c.specs.Given.{IsWork, IsTelling, IsSending, IsHandingOver, IsReceipt, IsHalving, IsCarving, IsAbsorption, IsKeptAbsorption, IsReturn, IsReturned, Becomes, Handed, IsEnd};
 ghost use Rattle.process_c.specs.Refusals.{ByProcess, ByName, ByText, RefusesReturned};
-ghost use Rattle.process_c.specs.Working.{IsUnreturned};
+ghost use Rattle.process_c.specs.working.Causes.{IsUnreturned};
 
 use crate::fault::Fault;
 use crate::reading::{read_kept, read_message, read_name, read_retirement};

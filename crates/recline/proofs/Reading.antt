@@ -5,7 +5,8 @@ use Rattle.client_link.specs.declared.link.LinkFault.{LinkFault}
 use Rattle.client_link.specs.Links.{up, LinkState, IsFault, IsSound, IsRead}
 use Rattle.session.specs.SessionText.{most_reads}
 use Rattle.recline.specs.Checking.{IsReadWhole}
-use Rattle.recline.specs.Driving.{OnlyReads, ReadsAll, WritesPart}
+use Rattle.recline.specs.Driving.{OnlyReads, WritesPart}
+use Rattle.recline.specs.working.Driving.{ReadsAll}
 
 pub consumes_then : (a b c : Option (List ℕ)) (x y : List ℕ) → Consumes a b x → Consumes b c y → Consumes a c (x ++ y)
 consumes_then None b c x y p q = tt

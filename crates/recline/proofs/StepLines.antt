@@ -8,7 +8,8 @@ use Rattle.std.proofs.lemmas.List.Elements.{filter-append}
 use Rattle.std.proofs.lemmas.List.Concat.{flat_map-append}
 use Rattle.report_line.specs.Cutting.{ended, NoBreak}
 use Rattle.script.specs.Driven.{AreLinesOf}
-use Rattle.recline.specs.Commented.{is_passed_on, passed_on, number_in, NumbersSteps, onto_first, lines_of}
+use Rattle.recline.specs.Commented.{is_passed_on, passed_on, number_in, NumbersSteps}
+use Rattle.recline.specs.working.Commented.{onto_first, lines_of}
 
 -- ---- lines
 

@@ -8,7 +8,8 @@ use Rattle.coordinator.specs.Closing.{IsEnded, IsRemainder}
 use Rattle.coordinator.specs.declared.fault.CloseFault.{CloseFault}
 use Rattle.client_link.specs.Links.{LinkState}
 use Rattle.recline.specs.Driving.{WritesAll, WritesPart}
-use Rattle.recline.specs.Serving.{AreServed, EndsNot, EndsShort, EndsWith, IsServed, IsStopped, PrintsPort, PrintsSome, StopsBehind, WritesPort, end_line, port_line}
+use Rattle.recline.specs.Serving.{AreServed, IsServed, IsStopped, PrintsSome, WritesPort, end_line, port_line}
+use Rattle.recline.specs.working.Serving.{EndsNot, EndsShort, EndsWith, PrintsPort, StopsBehind}
 use Rattle.recline.specs.declared.serving.Stop.{Stop}
 use Rattle.recline.specs.declared.serving.Stop.TheVariants as stops
 use Rattle.recline.proofs.Passes.{appends_then}

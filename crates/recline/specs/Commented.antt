@@ -23,15 +23,3 @@ abbrev pub NumbersSteps : Type 0
 NumbersSteps =
     (front : List (List ℕ)) (line : List ℕ) (more : List (List ℕ)) → IsTrue (is_passed_on line)
     → number_in (front ++ line ∷ more) (length (filter is_passed_on front) + 1) ≡ length front + 1
-
--- Working definitions: the lines of a script as a function of its bytes.
-
--- a byte in front of the first of these lines; in front of none it is of no line
-abbrev pub onto_first : ℕ → List (List ℕ) → List (List ℕ)
-onto_first b [] = []
-onto_first b (line ∷ lines) = (b ∷ line) ∷ lines
-
--- the lines of a script (see AreLinesOf)
-unfoldable pub lines_of : List ℕ → List (List ℕ)
-lines_of [] = []
-lines_of (b ∷ bs) = if b == 10 then [] ∷ lines_of bs else onto_first b (lines_of bs)

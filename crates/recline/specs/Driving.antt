@@ -1,5 +1,5 @@
 -- What the program answers when a script was driven.
-use Rattle.std.specs.Prelude.{◌≡◌, ◌≤◌, ◌⊎◌, ℕ, List, [], ◌∷◌, ◌++◌, codes, Result, Ok, Err, ⊤}
+use Rattle.std.specs.Prelude.{◌≡◌, ◌≤◌, ◌⊎◌, ℕ, List, [], ◌∷◌, ◌++◌, codes, Result, Ok, Err}
 use Rattle.std.specs.Fmt.{decimal}
 use Rattle.std.specs.Io.KnownBytes.{Appends, Consumes, IsAtEnd}
 use Rattle.report_line.specs.Cutting.{ended}
@@ -11,13 +11,9 @@ use Rattle.script.specs.declared.end.End.TheVariants.{Done, Refused, Memory}
 use Rattle.script.specs.Causes.{cause_words}
 use Rattle.script.specs.Driven.{AreLinesOf, IsDriven}
 use Rattle.recline.specs.Outcome.{Tells}
-use Rattle.recline.specs.Commented.{passed_on, number_in, lines_of}
+use Rattle.recline.specs.Commented.{passed_on, number_in}
 use Rattle.recline.specs.declared.commented.ScriptForm.{ScriptForm}
 use Rattle.recline.specs.declared.commented.ScriptForm.TheVariants as forms
-use Rattle.recline.specs.declared.driving.ReadScript.{ReadScript}
-use Rattle.recline.specs.declared.driving.ReadScript.TheVariants as scripts
-use Rattle.recline.specs.declared.driving.Unread.{Unread}
-use Rattle.recline.specs.declared.driving.Unread.TheVariants as unread
 
 -- The status of the process: each step was taken, or one was refused, or a device or memory failed.
 abbrev pub script_status : Result End LinkFault → ℕ
@@ -107,47 +103,3 @@ pub record Drives {K F : Type 0} (client_told : K → LinkState) (faults_told : 
   pub driven : IsDrivenOver form (client_told client) (client_told client_after) end
   pub status_is : status ≡ script_status end
   pub faults_are : Tells (faults_told faults) (faults_told faults_after) (script_fault end)
-
--- Working definitions from here on: the parts of it.
-
--- these bytes are all that there was to read; or why they are not
-abbrev pub UnreadBy : LinkState → LinkState → Unread → Type 0
-UnreadBy old new unread.Memory = IsSound old new
-UnreadBy old new unread.Device = ReadsInVain old new
-
-pub record ReadsAll (old new : LinkState) (bytes : List ℕ) : Type 0 where
-  pub only : OnlyReads old new bytes
-  pub at_end : IsAtEnd new.left
-  pub sound : IsSound old new
-
-pub record ReadsSome (old new : LinkState) (why : Unread) : Type 0 where
-  pub bytes : List ℕ
-  pub only : OnlyReads old new bytes
-  pub why_not_all : UnreadBy old new why
-
--- what was written of a text, where nothing was read
-abbrev pub Writes : LinkState → LinkState → Result (Unit {0}) LinkFault → List ℕ → Type 0
-Writes old new (Ok u) text = WritesAll old new text
-Writes old new (Err fault) text = WritesPart old new text
-
--- the script that was read
-abbrev pub script_of : ReadScript → List ℕ
-script_of (scripts.Plain script) = script.items
-script_of (scripts.Commented script steps) = script.items
-
--- what of it is driven
-abbrev pub steps_of : ReadScript → List ℕ
-steps_of (scripts.Plain script) = script.items
-steps_of (scripts.Commented script steps) = steps.items
-
--- the number of the line of a step of it
-abbrev pub line_in : ReadScript → ℕ → ℕ
-line_in (scripts.Plain script) step = step
-line_in (scripts.Commented script steps) step = number_in (lines_of script.items) step
-
--- it is written in this form
-abbrev pub IsIn : ScriptForm → ReadScript → Type 0
-IsIn forms.Plain (scripts.Plain script) = ⊤
-IsIn forms.Plain (scripts.Commented script steps) = ⊥
-IsIn forms.Commented (scripts.Plain script) = ⊥
-IsIn forms.Commented (scripts.Commented script steps) = steps.items ≡ passed_on (lines_of script.items)

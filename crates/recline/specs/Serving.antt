@@ -1,5 +1,5 @@
 -- What the command `serve` answers.
-use Rattle.std.specs.Prelude.{◌≡◌, ◌≢◌, ◌⊎◌, ◌+◌, ◌<◌, ◌≤◌, ℕ, List, [], ◌∷◌, ◌++◌, length, codes, Option, Some, None, IfSome, ⊤}
+use Rattle.std.specs.Prelude.{◌≡◌, ◌≢◌, ◌⊎◌, ◌+◌, ◌<◌, ◌≤◌, ℕ, List, [], ◌∷◌, ◌++◌, length, codes, Option, IfSome, ⊤}
 use Rattle.std.specs.Fmt.{decimal}
 use Rattle.std.specs.Io.KnownBytes.{Appends}
 use Rattle.line_disk.specs.Disk.{View}
@@ -174,28 +174,3 @@ abbrev pub ServesOn : {D K O F : Type 0} → (D → Type 0) → (D → View) →
 ServesOn keeps view failed client_told output_told faults_told sessions disk disk_after output output_after faults faults_after status =
     ServesOpened keeps view client_told output_told faults_told sessions disk disk_after output output_after faults faults_after status
     ⊎ IsNotOpened keeps view failed faults_told disk disk_after output output_after faults faults_after status
-
--- Working definitions from here on: the parts of it.
-
--- the port was printed; or the service stops, and a line that is not whole says that a device failed
-abbrev pub PrintsPort : Option Stop → LinkState → LinkState → Type 0
-PrintsPort None old new = (port : ℕ) × WritesAll old new (port_line port)
-PrintsPort (Some stop) old new = (port : ℕ) × (WritesAll old new (port_line port) ⊎ ((stop ≡ stops.Device) × WritesPart old new (port_line port)))
-
--- why a service stops behind its sessions: as it did before, or for memory where there were others than were wanted
-abbrev pub StopsBehind : Option Stop → ℕ → ℕ → Option Stop → Type 0
-StopsBehind before served wanted None = (before ≡ None) × (served ≡ wanted)
-StopsBehind before served wanted (Some stop) = (before ≡ Some stop) ⊎ ((before ≡ None) × (served ≢ wanted) × (stop ≡ stops.Memory))
-
--- the coordinator ended with this front and left this disk, which comes back, and that was told
-abbrev pub EndsWith : {D : Type 0} → Option Stop → ℕ → D → LinkState → LinkState → D → Type 0
-EndsWith before front disk old new back = (before ≡ None) × (back ≡ disk) × WritesAll old new (end_line front)
-
--- nothing was told of it, since the service stops; or a part of the end
-abbrev pub EndsShort : {D : Type 0} → Option Stop → ℕ → D → LinkState → LinkState → D → Stop → Type 0
-EndsShort before front disk old new back stop =
-    (back ≡ disk) × (((before ≡ Some stop) × (new ≡ old)) ⊎ ((before ≡ None) × (stop ≡ stops.Device) × WritesPart old new (end_line front)))
-
--- the passes are not those of all turns, for this fault
-abbrev pub EndsNot : {D : Type 0} → CloseFault → D → LinkState → LinkState → D → Stop → Type 0
-EndsNot fault disk old new back stop = (back ≡ disk) × (stop ≡ stopped_by fault) × (new ≡ old)

@@ -7,11 +7,9 @@ use Rattle.earlier_file.specs.Facts.{AreFacts}
 use Rattle.earlier_file.specs.declared.found.FileFacts.{FileFacts}
 use Rattle.chains.specs.Held.{Held}
 use Rattle.desk.specs.Records.{Opens}
-use Rattle.desk.specs.Desks.{DeskState}
 use Rattle.desk.specs.Openings.{RefusesFile}
 use Rattle.desk.specs.declared.fault.DeskFault.{DeskFault}
 use Rattle.desk.specs.declared.fault.DeskFault.TheVariants as opening
-use Rattle.line_disk.specs.declared.memory.MemoryDisk.{MemoryDisk}
 use Rattle.client_link.specs.Links.{LinkState}
 use Rattle.inspection.specs.Processes.{shown_file, shown_processes}
 use Rattle.inspection.specs.Tables.{table_text}
@@ -74,12 +72,3 @@ abbrev pub ShowsFront : {K F : Type 0} → (K → LinkState) → (F → LinkStat
 ShowsFront client_told faults_told front bytes form client client_after faults faults_after status =
     ((earlier : List ℕ) × IsFirst front bytes earlier × IsReadAsFirst front bytes earlier × Shows client_told faults_told earlier form client client_after faults faults_after status)
     ⊎ HasNoFront faults_told front bytes faults faults_after status
-
--- Working definitions from here on: the parts of it.
-
--- the desk was opened over a file of these bytes
-abbrev pub IsDeskOf : List ℕ → DeskState MemoryDisk → Type 0
-IsDeskOf bytes desk = Stands desk.found bytes × Opens desk.found desk.held
-
-abbrev pub IsTextOf : List ℕ → FileFacts → DeskState MemoryDisk → Form → List ℕ → Type 0
-IsTextOf bytes facts desk form text = text ≡ shown_text form facts desk.held desk.found

@@ -2,7 +2,8 @@
 
 ghost use Rattle.std.specs.Prelude.{◌≡◌, ◌++◌, ◌∷◌, [], IfOk, OnOk};
 ghost use Rattle.script.specs.Driven.{AreLinesOf};
-ghost use Rattle.recline.specs.Commented.{is_passed_on, lines_of, number_in, passed_on, NumbersSteps};
+ghost use Rattle.recline.specs.Commented.{is_passed_on, number_in, passed_on, NumbersSteps};
+ghost use Rattle.recline.specs.working.Commented.{lines_of};
 
 use script::cut_line;
 use std::alloc::{AllocError, Global};

@@ -7,7 +7,7 @@ ghost use Rattle.line_disk.specs.Disk.{LeavesOnly};
 ghost use Rattle.line_disk.specs.Tape.{bytes_of, disk_failures, disk_view, plan_of, room_of};
 ghost use Rattle.record_file.specs.File.{Stands};
 ghost use Rattle.record_file.specs.Store.{found_records};
-ghost use Rattle.recline.specs.Showing.{IsDeskOf};
+ghost use Rattle.recline.specs.working.Showing.{IsDeskOf};
 
 use desk::{Desk, DeskFault};
 use line_disk::MemoryDisk;

@@ -2,7 +2,8 @@
 
 ghost use Rattle.std.specs.Prelude.{◌≡◌, MatchResult};
 ghost use Rattle.recline.specs.Outcome.{Tells};
-ghost use Rattle.recline.specs.Driving.{Drives, IsDrivenIn, IsDrivenOver, IsIn, ReadsAll, ReadsSome, line_in, numbered_by, script_fault, script_of, script_status, steps_of};
+ghost use Rattle.recline.specs.Driving.{Drives, IsDrivenIn, IsDrivenOver, numbered_by, script_fault, script_status};
+ghost use Rattle.recline.specs.working.Driving.{IsIn, ReadsAll, ReadsSome, line_in, script_of, steps_of};
 
 use crate::commented::{ScriptForm, line_of, without_comments};
 use crate::telling::{tell, tell_refusal, write_all};

@@ -3,8 +3,9 @@
 ghost use Rattle.std.specs.Prelude.{◌≡◌, ◌+◌, ◌++◌, ◌<◌, ◌≤◌, IfOk, IfErr, IfSome, IfNone, MatchResult, OnOk, [], None, length, map};
 ghost use Rattle.std.specs.List.{flat_map};
 ghost use Rattle.std.specs.Thread.{IsSend, IsSync};
-ghost use Rattle.recline.specs.Driving.{Writes};
-ghost use Rattle.recline.specs.Serving.{AreLimited, AreServed, EndsNot, EndsShort, EndsWith, IsService, IsServed, IsStopped, PrintsPort, ServesOn, Stops, StopsBehind, TellsDropped, dropped_in, drops, end_line, port_line, stop_line, stopped_by};
+ghost use Rattle.recline.specs.working.Driving.{Writes};
+ghost use Rattle.recline.specs.Serving.{AreLimited, AreServed, IsService, IsServed, IsStopped, ServesOn, Stops, TellsDropped, dropped_in, drops, end_line, port_line, stop_line, stopped_by};
+ghost use Rattle.recline.specs.working.Serving.{EndsNot, EndsShort, EndsWith, PrintsPort, StopsBehind};
 ghost use Rattle.coordinator.specs.Closing.{IsEnded, IsRemainder};
 ghost use Rattle.coordinator.specs.Passes.{ledger_parts};
 

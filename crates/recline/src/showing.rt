@@ -5,7 +5,8 @@ ghost use Rattle.desk.specs.Openings.{RefusesFile};
 ghost use Rattle.desk.specs.declared.fault.DeskFault.TheVariants as opening;
 ghost use Rattle.earlier_file.specs.Facts.{AreFacts, IsUnread};
 ghost use Rattle.recline.specs.Outcome.{Tells, open_fault_line};
-ghost use Rattle.recline.specs.Showing.{IsDeskOf, IsTextOf, Shows, ShowsFront, ShowsPart};
+ghost use Rattle.recline.specs.Showing.{Shows, ShowsFront, ShowsPart};
+ghost use Rattle.recline.specs.working.Showing.{IsDeskOf, IsTextOf};
 
 use crate::copied::{desk_of, store_behind};
 use crate::earlier::tell_no_front;

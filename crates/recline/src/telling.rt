@@ -6,7 +6,8 @@ ghost use Rattle.desk.specs.declared.fault.DeskFault.TheVariants as opening;
 ghost use Rattle.earlier_file.specs.declared.fault.EarlierFault.TheVariants as early;
 ghost use Rattle.recline.specs.Earlier.{earlier_fault_line};
 ghost use Rattle.recline.specs.Outcome.{Tells, open_fault_line};
-ghost use Rattle.recline.specs.Driving.{Writes, script_fault};
+ghost use Rattle.recline.specs.Driving.{script_fault};
+ghost use Rattle.recline.specs.working.Driving.{Writes};
 
 use client_link::{Link, LinkFault, put_all};
 use desk::DeskFault;

@@ -3,7 +3,7 @@ use Rattle.std.proofs.Common.{◌≡◌, ℕ, ◌+◌, ◌-◌, ◌*◌, ◌^◌
 use Rattle.std.specs.Char.{is_ascii_digit}
 use Rattle.std.proofs.lemmas.Bool.{lt-ltb, le-ltb}
 use Rattle.std.proofs.lemmas.List.{at_drop_more, at_drop_all}
-use Rattle.report_line.specs.Numbers.{digits_from}
+use Rattle.report_line.specs.working.Numbers.{digits_from}
 
 pub digits_more : (n : ℕ) (ds : List ℕ) (i m : ℕ) (total : Option ℕ) → i < length ds → is_ascii_digit (get_or ds i 0) ≡ true → n * 10 + (get_or ds i 0 - 48) ≡ m → m < 2 ^ 32
     → digits_from n (drop i ds) ≡ total → digits_from m (drop (i + 1) ds) ≡ total

@@ -9,7 +9,7 @@ use Rattle.std.proofs.lemmas.Bool.{lt-ltb, ltb-true, ltb-false, eqb-true, eq-eqb
 use Rattle.std.proofs.lemmas.Str.Parse.{IsNumeralModel, numerals_by_fold, tells_all_ascii_digits}
 use Rattle.std.proofs.lemmas.Fmt.{decimal_digit, decimal_by_steps, decimal_nonempty, first_decimal, decimal-digits_value, digits_decimal}
 use Rattle.std.proofs.lemmas.Bool.Decides.{nat_tests}
-use Rattle.report_line.specs.Numbers.{digits_from, number}
+use Rattle.report_line.specs.working.Numbers.{digits_from, number}
 use Rattle.report_line.specs.Cuts.{Lacks}
 use Rattle.report_line.specs.Spelling.{IsCount}
 use Rattle.report_line.proofs.Cutting.{and_both, not_true, Lacks-passing}

@@ -4,7 +4,6 @@ pub mod View
 pub mod Spelling
 pub mod Reading
 pub mod Replies
-pub mod Numbers
 pub mod Cuts
 pub mod Cutting
 pub mod working

@@ -3,3 +3,4 @@ pub mod Codes
 pub mod SessionCodes
 pub mod Parts
 pub mod StepCodes
+pub mod Numbers

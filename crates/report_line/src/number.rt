@@ -3,7 +3,7 @@
 ghost use Rattle.std.specs.Prelude.{◌≡◌, ◌≢◌, ◌<◌, ◌^◌, ℕ, MatchOption};
 ghost use Rattle.std.specs.Fmt.{decimal};
 ghost use Rattle.report_line.specs.Spelling.{IsCount};
-ghost use Rattle.report_line.specs.Numbers.{number, digits_from};
+ghost use Rattle.report_line.specs.working.Numbers.{number, digits_from};
 
 fn digits_of(word: &[u8]) -> Option<u32>
     ensures { result ≡ digits_from 0 word.now }
@@ -23,7 +23,7 @@ fn digits_of(word: &[u8]) -> Option<u32>
 }
 
 // The number that a word says, in digits without leading zeros.
-#[tactic(auto, unfolding(crate::specs::Numbers::number))]
+#[tactic(auto, unfolding(crate::specs::working::Numbers::number))]
 fn said_by(word: &[u8]) -> Option<u32>
     ensures { result ≡ number word.now }
 {

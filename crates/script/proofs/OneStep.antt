@@ -12,7 +12,8 @@ use Rattle.report_line.proofs.Rows.{row_again}
 use Rattle.driver.specs.declared.step.StepRequest.{StepRequest}
 use Rattle.driver.specs.declared.step.StepRequest.TheVariants.{Work, Check, Present, Send, Receive, Fork, Retire, Absorb}
 use Rattle.driver.specs.declared.step.Step.{Step}
-use Rattle.script.specs.Spelling.{act_word, act_names, HasNames, step_words, root_words, settle_words, SpellsStep, SpellsRoot, SpellsSettle, FindsOne, IsStepOf, IsRootOf}
+use Rattle.script.specs.Spelling.{act_word, act_names, HasNames, step_words, root_words, settle_words, SpellsStep, SpellsRoot, SpellsSettle, FindsOne}
+use Rattle.script.specs.working.Spelling.{IsStepOf, IsRootOf}
 
 -- ---- no word has a space
 

@@ -68,17 +68,3 @@ SpellsSettle names line = AreNames names × (line ≡ join_with_byte 32 (settle_
 abbrev pub FindsOne : {X : Type 0} → Option X → (X → Type 0) → Type 0
 FindsOne (Some x) P = P x
 FindsOne {X} None P = (x : X) → ¬ P x
-
--- Working definitions from here on: a line is read word by word.
-
--- the act has this word and these names
-abbrev pub IsActOf : List ℕ → List (List ℕ) → StepRequest → Type 0
-IsActOf kind names a = HasNames a × (kind ≡ act_word a) × (names ≡ act_names a)
-
--- the step has these words
-abbrev pub IsStepOf : List (List ℕ) → Step → Type 0
-IsStepOf words s = IsTrue (is_name s.process) × HasNames s.act × (words ≡ step_words s)
-
--- the root has these words
-abbrev pub IsRootOf : List (List ℕ) → List ℕ → Type 0
-IsRootOf words p = IsTrue (is_name p) × (words ≡ root_words p)

@@ -4,7 +4,8 @@ ghost use Rattle.std.specs.Prelude.{◌≡◌, ◌≢◌, ◌∷◌, [], IsTrue,
 ghost use Rattle.report_line.specs.Names.{is_name};
 ghost use Rattle.report_line.specs.Cuts.{words_in};
 ghost use Rattle.driver.specs.declared.step.Step.{Step as AnyStep};
-ghost use Rattle.script.specs.Spelling.{FindsOne, SpellsRoot, SpellsStep, SpellsSettle, IsActOf, IsRootOf, IsStepOf};
+ghost use Rattle.script.specs.Spelling.{FindsOne, SpellsRoot, SpellsStep, SpellsSettle};
+ghost use Rattle.script.specs.working.Spelling.{IsActOf, IsRootOf, IsStepOf};
 
 use driver::{Step, StepRequest};
 use report_line::{Name, Words, take_name};

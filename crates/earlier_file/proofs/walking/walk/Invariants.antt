@@ -1,5 +1,5 @@
 use Rattle.std.proofs.Common.{◌≤◌, ◌-◌}
-use Rattle.earlier_file.specs.Walks.{IsWalked}
+use Rattle.earlier_file.specs.working.Walks.{IsWalked}
 use Rattle.earlier_file.proofs.walking.walk.Given as goal
 
 abbrev pub invariant-loop-count : goal.invariant-loop-count

@@ -1,4 +1,4 @@
-use Rattle.process.specs.Leaves.{cells}
+use Rattle.process.specs.working.Leaves.{cells}
 use Rattle.process.proofs.carving.+carved.Given as goal
 
 abbrev pub decreases-carved : goal.decreases-carved

@@ -1,5 +1,6 @@
 use Rattle.std.proofs.Common.{◌≡◌, ◌++◌, length}
-use Rattle.recline.specs.Commented.{lines_of, passed_on}
+use Rattle.recline.specs.Commented.{passed_on}
+use Rattle.recline.specs.working.Commented.{lines_of}
 use Rattle.recline.proofs.commented.without_comments.Given as goal
 
 abbrev pub invariant-loop-line : goal.invariant-loop-line

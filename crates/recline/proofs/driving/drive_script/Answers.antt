@@ -3,12 +3,14 @@ use Rattle.std.proofs.Common.{◌≡◌, ℕ, List, refl, sym, subst, ◌∙◌}
 use Rattle.script.specs.declared.end.End.{End}
 use Rattle.script.specs.declared.end.End.TheVariants.{Done, Refused, Memory}
 use Rattle.script.specs.Driven.{IsDriven}
-use Rattle.recline.specs.Commented.{lines_of, number_in}
+use Rattle.recline.specs.Commented.{number_in}
+use Rattle.recline.specs.working.Commented.{lines_of}
 use Rattle.recline.specs.declared.commented.ScriptForm.{ScriptForm}
 use Rattle.recline.specs.declared.commented.ScriptForm.TheVariants as forms
 use Rattle.recline.specs.declared.driving.ReadScript.{ReadScript}
 use Rattle.recline.specs.declared.driving.ReadScript.TheVariants as scripts
-use Rattle.recline.specs.Driving.{IsDrivenIn, IsIn, line_in, numbered_by, script_of, steps_of}
+use Rattle.recline.specs.Driving.{IsDrivenIn, numbered_by}
+use Rattle.recline.specs.working.Driving.{IsIn, line_in, script_of, steps_of}
 use Rattle.recline.proofs.StepLines.{lines_are}
 use Rattle.recline.proofs.driving.drive_script.Goals as goal
 

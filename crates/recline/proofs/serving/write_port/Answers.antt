@@ -1,5 +1,5 @@
 use Rattle.std.proofs.Common.{◌≡◌, ◌∷◌, [], ◌∙◌, List, ℕ, codes, rules, subst}
-use Rattle.recline.specs.Driving.{Writes}
+use Rattle.recline.specs.working.Driving.{Writes}
 use Rattle.recline.proofs.FaultLines.{numbered_line}
 use Rattle.recline.proofs.serving.write_port.Goals as goal
 

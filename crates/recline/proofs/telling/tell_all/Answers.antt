@@ -2,7 +2,7 @@
 use Rattle.std.proofs.Common.{◌≡◌, ℕ, List, Result, Ok, Err, inl, inr}
 use Rattle.client_link.specs.Links.{LinkState}
 use Rattle.client_link.specs.declared.link.LinkFault.{LinkFault}
-use Rattle.recline.specs.Driving.{Writes}
+use Rattle.recline.specs.working.Driving.{Writes}
 use Rattle.recline.specs.Outcome.{Tells}
 use Rattle.recline.proofs.telling.tell_all.Goals as goal
 

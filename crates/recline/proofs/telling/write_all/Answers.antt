@@ -1,6 +1,6 @@
 -- `write_all`: one piece alone.
 use Rattle.std.proofs.Common.{List, ℕ, append-nil, subst}
-use Rattle.recline.specs.Driving.{Writes}
+use Rattle.recline.specs.working.Driving.{Writes}
 use Rattle.recline.proofs.telling.write_all.Goals as goal
 
 pub returns-clause-writes : goal.returns-clause-writes

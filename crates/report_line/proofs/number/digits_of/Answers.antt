@@ -1,6 +1,6 @@
 use Rattle.std.proofs.Common.{◌≡◌, ◌+◌, ◌-◌, ◌*◌, ◌^◌, ◌<◌, true, false, get_or, sym, arith}
 use Rattle.std.specs.Char.{is_ascii_digit}
-use Rattle.report_line.specs.Numbers.{digits_from}
+use Rattle.report_line.specs.working.Numbers.{digits_from}
 use Rattle.report_line.proofs.DigitSteps.{digits_more, digits_wrong, digits_large, digits_end}
 use Rattle.report_line.proofs.number.digits_of.Goals as goal
 

@@ -1,5 +1,5 @@
 use Rattle.std.proofs.Common.{◌≡◌, Some, None}
-use Rattle.report_line.specs.Numbers.{number}
+use Rattle.report_line.specs.working.Numbers.{number}
 use Rattle.report_line.proofs.Numerals.{no_number, no_count, count_is}
 use Rattle.report_line.proofs.number.positive_in.Goals as goal
 

@@ -1,5 +1,6 @@
 use Rattle.std.proofs.Common.{List, ℕ, subst}
-use Rattle.script.specs.Spelling.{FindsOne, IsRootOf}
+use Rattle.script.specs.Spelling.{FindsOne}
+use Rattle.script.specs.working.Spelling.{IsRootOf}
 use Rattle.script.proofs.OneStep.{found_root}
 use Rattle.script.proofs.reading.read_root.Goals as goal
 

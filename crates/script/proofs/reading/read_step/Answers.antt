@@ -1,5 +1,6 @@
 use Rattle.std.proofs.Common.{List, ℕ, subst}
-use Rattle.script.specs.Spelling.{FindsOne, IsStepOf}
+use Rattle.script.specs.Spelling.{FindsOne}
+use Rattle.script.specs.working.Spelling.{IsStepOf}
 use Rattle.script.proofs.OneStep.{found_step}
 use Rattle.script.proofs.reading.read_step.Goals as goal
 

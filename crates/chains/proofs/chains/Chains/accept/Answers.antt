@@ -5,7 +5,7 @@ use Rattle.std.proofs.lemmas.List.Elements.{All-push}
 use Rattle.report_line.specs.declared.report.Report.{Report}
 use Rattle.chains.specs.Processes.{Name}
 use Rattle.chains.specs.Elements.{name_of, lasting_of}
-use Rattle.chains.specs.LastRun.{run_after}
+use Rattle.chains.specs.working.LastRun.{run_after}
 use Rattle.chains.specs.working.Fitting.{MayBePut}
 use Rattle.chains.specs.working.Keeping.{view_of}
 use Rattle.chains.specs.working.Noting.{names_after, IsKeptBy}

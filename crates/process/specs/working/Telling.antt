@@ -1,4 +1,4 @@
--- Working definitions: what a step that is reported leaves behind.
+-- What a step that is reported leaves behind.
 use Rattle.std.specs.Prelude.{◌≡◌, ◌≢◌, ℕ, ◌+◌, ⊤}
 use Rattle.id_tree.specs.IdTree.{IdTree}
 use Rattle.id_tree.specs.Split.{IsSplit}
@@ -15,7 +15,8 @@ use Rattle.process.specs.declared.fault.ProcessFault.{ProcessFault}
 use Rattle.process.specs.declared.fault.ProcessFault.TheVariants as faults
 use Rattle.process.specs.declared.reporting.ReportedStep.{ReportedStep}
 use Rattle.process.specs.declared.forking.ForkResult.{ForkResult}
-use Rattle.process.specs.Leaves.{HasRoomFor, IsCarved}
+use Rattle.process.specs.Leaves.{HasRoomFor}
+use Rattle.process.specs.working.Leaves.{IsCarved}
 use Rattle.process.specs.Steps.{IsLineOf, Counts, next_report, fork_report}
 
 -- the process behind a report

@@ -1,4 +1,4 @@
--- Working definitions: the calls by what stands behind their first word.
+-- The calls by what stands behind their first word.
 use Rattle.std.specs.Prelude.{◌≡◌, ◌⊎◌, ℕ, ◌+◌, List, [], ◌∷◌, Option, Some, None, Result, Ok, Err, alloc_error, codes, ⊤}
 use Rattle.std.specs.declared.alloc.AllocError.{AllocError}
 use Rattle.id_tree.specs.declared.fault.IdFault.{IdFault}

@@ -1,4 +1,4 @@
--- Working definitions: records that are passed from gate to gate.
+-- Records that are passed from gate to gate.
 use Rattle.std.specs.Prelude.{◌≡◌, ◌≢◌, ℕ, ◌+◌, ◌<◌, ◌≤◌, List, ◌∷◌, ◌++◌, length, get_or, drop, take}
 use Rattle.record_file.specs.File.{Spelled, AreFit, header, opened, IsNoRecord, IsForeign, IsDamaged}
 use Rattle.earlier_file.specs.declared.fault.FileFault.{FileFault}

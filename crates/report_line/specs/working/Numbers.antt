@@ -1,4 +1,4 @@
--- Working definitions: the number that a word says, as it is read from left to right.
+-- The number that a word says, as it is read from left to right.
 use Rattle.std.specs.Prelude.{ℕ, ◌+◌, ◌-◌, ◌*◌, ◌^◌, ◌&&◌, ◌==◌, nat_lt, if◌then◌else◌, List, [], ◌∷◌, length, Option, Some, None}
 use Rattle.std.specs.Char.{is_ascii_digit}
 

@@ -1,4 +1,4 @@
--- Working definitions: why a text is not read, and why a process does not return.
+-- Why a text is not read, and why a process does not return.
 use Rattle.std.specs.Prelude.{ℕ, List, ⊤}
 use Rattle.report_line.specs.declared.fault.LineFault.{LineFault}
 use Rattle.report_line.specs.declared.fault.LineFault.TheVariants as lines

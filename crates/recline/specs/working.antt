@@ -1,0 +1,4 @@
+pub mod Commented
+pub mod Driving
+pub mod Serving
+pub mod Showing

@@ -10,14 +10,14 @@ use Rattle.chains.specs.Folded.{IsReached}
 use Rattle.knows_row.proofs.Lawful.{lawful}
 use Rattle.reasons.specs.Certificates.{positions_of}
 use Rattle.reasons.specs.Shown.{IsLineText}
-use Rattle.history_law.specs.Headline.{IsRightLine}
-use Rattle.history_law.proofs.Lines.{line_of_histories}
+use Rattle.law_lines.specs.Headline.{IsRightLine}
+use Rattle.law_lines.proofs.Lines.{line_of_histories}
 use Rattle.propagate.proofs.Certified.{certified_is_greatest}
 use Rattle.desk.specs.Desks.{DeskState}
 use Rattle.desk.specs.Lawful.{unstopped}
 use Rattle.desk.specs.Records.{IsOpened}
-use Rattle.line_text.specs.Questions.{IsAnswer, IsChosenFor}
-use Rattle.line_text.proofs.Texts.{shows_taken}
+use Rattle.line_answer.specs.Questions.{IsAnswer, IsChosenFor}
+use Rattle.line_answer.proofs.Texts.{shows_taken}
 use Rattle.coordinator.specs.Passes.{PassEntry, PassState, IsOneEntry, IsShownOver, Sees}
 use Rattle.coordinator.specs.working.Parts.{IsShownInstead, LastTaken, with_line}
 use Rattle.coordinator.specs.Calls.{IsTakenFor}

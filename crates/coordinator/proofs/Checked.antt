@@ -28,8 +28,8 @@ use Rattle.desk.proofs.Turning.{replays_more}
 use Rattle.coordinator.specs.declared.marking.Owner.{Owner}
 use Rattle.coordinator.specs.declared.fault.CloseFault.{CloseFault}
 use Rattle.coordinator.specs.declared.fault.CloseFault.TheVariants.{Stranger, Missing, Memory}
-use Rattle.line_text.specs.Asking.{AsksForLine}
-use Rattle.line_text.specs.Questions.{IsLineFor}
+use Rattle.line_answer.specs.Asking.{AsksForLine}
+use Rattle.line_answer.specs.Questions.{IsLineFor}
 use Rattle.coordinator.specs.Passes.{PassEntry, PassState}
 use Rattle.coordinator.specs.Closing.{IsCause, ShowsRightly}
 use Rattle.coordinator.specs.working.Marks.{owner_at}

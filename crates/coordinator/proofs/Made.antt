@@ -15,7 +15,7 @@ use Rattle.desk.specs.Lawful.{IsLawfulDesk}
 use Rattle.desk.specs.Records.{IsOpened, recorded}
 use Rattle.desk.proofs.Running.{is_unstopped}
 use Rattle.desk.proofs.Turning.{records_more}
-use Rattle.line_text.specs.Questions.{IsAnswer}
+use Rattle.line_answer.specs.Questions.{IsAnswer}
 use Rattle.coordinator.specs.Passes.{PassState, IsAnswered, IsShownOver}
 use Rattle.coordinator.specs.working.Parts.{MayShowLine, with_line}
 use Rattle.coordinator.specs.Calls.{IsOneTurn, IsTakenFor, IsTurnFor}

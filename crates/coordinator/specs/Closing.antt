@@ -13,7 +13,7 @@ use Rattle.desk.specs.Lawful.{IsLawfulDesk, unstopped}
 use Rattle.desk.specs.Replays.{Replays}
 use Rattle.coordinator.specs.declared.fault.CloseFault.{CloseFault}
 use Rattle.coordinator.specs.declared.fault.CloseFault.TheVariants.{Stranger, Missing, Memory}
-use Rattle.line_text.specs.Questions.{IsLineFor}
+use Rattle.line_answer.specs.Questions.{IsLineFor}
 use Rattle.coordinator.specs.Passes.{PassEntry, PassState}
 
 -- ---- entries and turns

@@ -8,9 +8,9 @@ use Rattle.chains.specs.Processes.{Name}
 use Rattle.chains.specs.Held.{Held}
 use Rattle.chains.specs.Turns.{no_memory}
 use Rattle.reasons.specs.Shown.{IsShown}
-use Rattle.history_law.specs.Headline.{IsRightLine}
-use Rattle.line_text.specs.Asking.{AsksForLine}
-use Rattle.line_text.specs.Questions.{IsChosenFor}
+use Rattle.law_lines.specs.Headline.{IsRightLine}
+use Rattle.line_answer.specs.Asking.{AsksForLine}
+use Rattle.line_answer.specs.Questions.{IsChosenFor}
 use Rattle.desk.specs.declared.turn.Receipt.{Receipt}
 use Rattle.desk.specs.Lawful.{unstopped}
 use Rattle.desk.specs.Records.{IsOpened}

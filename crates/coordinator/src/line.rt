@@ -2,13 +2,13 @@
 
 ghost use Rattle.std.specs.Prelude.{◌<◌, ◌≤◌, ℕ, IfSome};
 ghost use Rattle.chains.specs.Held.{held_of};
-ghost use Rattle.line_text.specs.Questions.{IsAnswer};
+ghost use Rattle.line_answer.specs.Questions.{IsAnswer};
 ghost use Rattle.coordinator.specs.working.Parts.{LastTaken, MayShowLine};
 
 use crate::pass::Pass;
 use chains::Chains;
 use knows_row::{ChunkGate, needs};
-use line_text::answer_for;
+use line_answer::answer_for;
 use report_line::{Call, Text};
 use std::sync::ledger::Ledger;
 use std::thread::Threads;

@@ -9,7 +9,7 @@ ghost use Rattle.reasons.specs.declared.fault.CertificateFault.TheVariants as fa
 ghost use Rattle.reasons.specs.Certificates.{Certifies, IsForNames};
 ghost use Rattle.reasons.specs.CertificateText.{certificate_text};
 ghost use Rattle.reasons.specs.Shown.{IsLineText};
-ghost use Rattle.line_text.specs.Questions.{IsLineFor};
+ghost use Rattle.line_answer.specs.Questions.{IsLineFor};
 ghost use Rattle.coordinator.specs.working.Checks.{RightOver, WrongOver};
 
 use crate::entry::Entry;

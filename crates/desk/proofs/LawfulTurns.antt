@@ -11,13 +11,13 @@ use Rattle.report_line.specs.declared.reply.Reply.TheVariants.{Accepted}
 use Rattle.report_line.specs.histories.History.{Name, History}
 use Rattle.chains.specs.Held.{Held, present, with_report}
 use Rattle.chains.specs.Turns.{Fate, IsTurnWith, IsTurn}
-use Rattle.lawful_reports.specs.HandedOver.{handed_over, IsTargetBorn, IsReportable}
-use Rattle.lawful_reports.specs.Accepting.{IsRoomTurn, IsRefusalForRoom}
-use Rattle.lawful_reports.proofs.Going.{turns_refuse_for_room_alone, accepted_or_refused}
+use Rattle.law_admission.specs.HandedOver.{handed_over, IsTargetBorn, IsReportable}
+use Rattle.law_admission.specs.Accepting.{IsRoomTurn, IsRefusalForRoom}
+use Rattle.law_admission.proofs.Going.{turns_refuse_for_room_alone, accepted_or_refused}
 use Rattle.desk.specs.Replays.{ReplaysFrom, Replays}
 use Rattle.desk.specs.OfHistories.{IsTurnOfHistories, of_epoch, AreAcceptedAmongOthers, AreTurnsOfHistories}
 use Rattle.desk.specs.declared.turn.Turn.{Turn}
-use Rattle.lawful_reports.proofs.OtherEpochs.{other_epoch_unmoved}
+use Rattle.law_admission.proofs.OtherEpochs.{other_epoch_unmoved}
 
 abbrev bearing : ℕ → Report → MarkedReport
 bearing epoch r = record { epoch = epoch; report = r }

@@ -8,8 +8,8 @@ use Rattle.report_line.specs.declared.reply.Reply.{Reply}
 use Rattle.report_line.specs.declared.reply.Reply.TheVariants.{Accepted}
 use Rattle.report_line.specs.histories.History.{Name, History}
 use Rattle.chains.specs.Held.{Held, with_report}
-use Rattle.lawful_reports.specs.HandedOver.{handed_over, IsNext, IsTargetBorn, IsReportable}
-use Rattle.lawful_reports.specs.Accepting.{IsRefusalForRoom}
+use Rattle.law_admission.specs.HandedOver.{handed_over, IsNext, IsTargetBorn, IsReportable}
+use Rattle.law_admission.specs.Accepting.{IsRefusalForRoom}
 use Rattle.desk.specs.declared.turn.Turn.{Turn}
 
 -- A turn of a report of the present epoch that comes next of a lawful history behind the accepted ones, over a store that is not

@@ -11,11 +11,11 @@ use Rattle.report_line.specs.declared.step.Step.{Step}
 use Rattle.report_line.specs.histories.History.{Name, History, Event, Status, Unborn, Living, Retired, status_of_other, status}
 use Rattle.report_line.specs.histories.Lawful.{IsAllowed, IsLawfulAbsorption, IsLawful, start, next}
 use Rattle.report_line.specs.histories.StepReports.{report_by}
-use Rattle.histories.proofs.Bytes.{bytes_other, cases_name}
-use Rattle.histories.proofs.Status.{root_born, unborn_after, status_others}
+use Rattle.law_histories.proofs.Bytes.{bytes_other, cases_name}
+use Rattle.law_histories.proofs.Status.{root_born, unborn_after, status_others}
 use Rattle.chains.specs.Processes.{known, IsKnown, newborn}
 use Rattle.std.proofs.lemmas.List.Elements.{filter_map-append}
-use Rattle.history_law.proofs.Listed.{first_in, in_cases, none_in}
+use Rattle.law_lines.proofs.Listed.{first_in, in_cases, none_in}
 use Rattle.driver.proofs.ElementEvents.{list_of, reported_of}
 
 -- who is born by a deed

@@ -10,11 +10,11 @@ use Rattle.report_line.specs.declared.step.Step.{Step}
 use Rattle.report_line.specs.histories.History.{Name, Message, History, Event, event_of, birth_by, Status, Unborn, Living, Retired, Absorbed, status_of_other, last_of, status, sends, sending}
 use Rattle.report_line.specs.histories.Lawful.{IsAllowed, IsLawful, start, next}
 use Rattle.report_line.specs.histories.Events.{Edge, to_next, to_birth, to_receive, to_absorption, earlier}
-use Rattle.histories.proofs.Bytes.{bytes_are, bytes_other, cases_name}
-use Rattle.histories.proofs.Status.{status_acts, status_others, first_holds, held_process, held_occurs, number_within}
-use Rattle.histories.proofs.Steps.{fork_of}
-use Rattle.settled_histories.specs.Kept.{Cut, IsClosed, kept}
-use Rattle.settled_histories.proofs.Follows.{kept_taken, kept_left, follows, closed_before, actor_retires, other_retired}
+use Rattle.law_histories.proofs.Bytes.{bytes_are, bytes_other, cases_name}
+use Rattle.law_histories.proofs.Status.{status_acts, status_others, first_holds, held_process, held_occurs, number_within}
+use Rattle.law_histories.proofs.Steps.{fork_of}
+use Rattle.law_histories.specs.Kept.{Cut, IsClosed, kept}
+use Rattle.law_histories.proofs.Follows.{kept_taken, kept_left, follows, closed_before, actor_retires, other_retired}
 
 -- ---- the edges that a step adds
 

@@ -27,15 +27,15 @@ use Rattle.chains.specs.Processes.{last_events, registered_id, expected_id}
 use Rattle.chains.specs.Admission.{AreGrown}
 use Rattle.chains.specs.Folded.{IsFitAction, IsFitReport, IsFit, IsFolded, nothing_folded, one_folded}
 use Rattle.chains.specs.Agrees.{BeginsWith, AreReportsOfSteps}
-use Rattle.histories.proofs.Steps.{never_falls_by, rises_by}
-use Rattle.history_law.specs.Places.{IsPremise}
-use Rattle.history_law.proofs.Agreeing.{step_of, begin_no_report}
-use Rattle.history_law.proofs.Agreement.{reports_of_steps_agree}
-use Rattle.history_law.proofs.Listed.{in_cases}
-use Rattle.lawful_reports.specs.HandedOver.{handed_over, HasLine, IsReportable}
-use Rattle.lawful_reports.proofs.Actions.{fork_of, report_with}
-use Rattle.lawful_reports.proofs.Tied.{IsHeld, AreTied, then_below}
-use Rattle.lawful_reports.proofs.Next.{ends, tied_all}
+use Rattle.law_histories.proofs.Steps.{never_falls_by, rises_by}
+use Rattle.law_lines.specs.Places.{IsPremise}
+use Rattle.law_lines.proofs.Agreeing.{step_of, begin_no_report}
+use Rattle.law_lines.proofs.Agreement.{reports_of_steps_agree}
+use Rattle.law_lines.proofs.Listed.{in_cases}
+use Rattle.law_admission.specs.HandedOver.{handed_over, HasLine, IsReportable}
+use Rattle.law_admission.proofs.Actions.{fork_of, report_with}
+use Rattle.law_admission.proofs.Tied.{IsHeld, AreTied, then_below}
+use Rattle.law_admission.proofs.Next.{ends, tied_all}
 
 none_report : (y : Report) → None ≢ Some y
 none_report y is = cc

@@ -16,10 +16,10 @@ use Rattle.report_line.specs.histories.Events.{Edge}
 use Rattle.report_line.specs.histories.StepReports.{reporting_steps}
 use Rattle.chains.specs.declared.position.Position.{Position}
 use Rattle.chains.specs.declared.position.Position.TheVariants.{At, Retired as Gone}
-use Rattle.settled_histories.specs.Kept.{Cut, IsClosed, kept}
-use Rattle.settled_histories.proofs.Follows.{kept_taken, kept_left, follows, closed_before}
-use Rattle.settled_histories.proofs.Keeping.{kept_is_lawful}
-use Rattle.settled_lists.proofs.Folding.{within, is_within}
+use Rattle.law_histories.specs.Kept.{Cut, IsClosed, kept}
+use Rattle.law_histories.proofs.Follows.{kept_taken, kept_left, follows, closed_before}
+use Rattle.law_histories.proofs.Keeping.{kept_is_lawful}
+use Rattle.law_lines.proofs.Folding.{within, is_within}
 use Rattle.driver.specs.declared.fault.StepFault.{StepFault}
 use Rattle.driver.specs.declared.known.Known.{Known}
 use Rattle.driver.specs.declared.known.Known.TheVariants.{Born, Lives, Waits, Gone as Away}

@@ -13,7 +13,7 @@ use Rattle.std.proofs.lemmas.Option.{slice_get-get_or, get_or_from_slice_get, sl
 use Rattle.report_line.specs.declared.report.Report.{Report}
 use Rattle.report_line.specs.histories.History.{Name, History, Event}
 use Rattle.report_line.specs.histories.Lawful.{IsLawful}
-use Rattle.histories.proofs.Bytes.{bytes_are}
+use Rattle.law_histories.proofs.Bytes.{bytes_are}
 use Rattle.chains.specs.declared.position.Position.{Position}
 use Rattle.chains.specs.declared.position.Position.TheVariants.{At, Retired}
 use Rattle.chains.specs.Processes.{known, IsKnown}
@@ -21,10 +21,10 @@ use Rattle.chains.specs.Elements.{name_of}
 use Rattle.chains.specs.Failures.{IsFailedSet}
 use Rattle.chains.specs.Positions.{position_in, IsChosen, IsCut}
 use Rattle.chains.proofs.Listing.{AreListedTo, listed_none, listed_more, listed_other}
-use Rattle.settled_histories.specs.Kept.{IsClosed as IsClosedFor}
-use Rattle.history_law.specs.Places.{IsUpTo, IsClosed}
-use Rattle.history_law.proofs.Listed.{at_in}
-use Rattle.settled_lists.specs.Agreeing.{HasEventsOf}
+use Rattle.law_histories.specs.Kept.{IsClosed as IsClosedFor}
+use Rattle.law_lines.specs.Places.{IsUpTo, IsClosed}
+use Rattle.law_lines.proofs.Listed.{at_in}
+use Rattle.law_lines.specs.Agreeing.{HasEventsOf}
 use Rattle.driver.specs.declared.line.NamedPosition.{NamedPosition}
 use Rattle.driver.specs.declared.mark.Mark.{Mark}
 use Rattle.driver.specs.Lines.{position_of, positions_by}

@@ -17,7 +17,7 @@ use Rattle.report_line.specs.histories.History.{Name, History, Event, Living, st
 use Rattle.report_line.specs.Names.{is_name}
 use Rattle.report_line.specs.Spelling.{IsAction, AreFields}
 use Rattle.report_line.specs.histories.StepReports.{is_reported, reporting_steps, id_of, numbered, report_by}
-use Rattle.lawful_reports.specs.HandedOver.{HasLine}
+use Rattle.law_admission.specs.HandedOver.{HasLine}
 use Rattle.driver.specs.declared.step.StepRequest.{StepRequest}
 use Rattle.driver.specs.working.Made.{Made}
 use Rattle.driver.specs.Stamping.{stamp_of}

@@ -11,7 +11,7 @@ use Rattle.report_line.specs.declared.step.StepKind.TheVariants as deeds
 use Rattle.report_line.specs.histories.History.{Name, History, Event, Unborn, Retired, status, sending}
 use Rattle.report_line.specs.histories.Lawful.{IsOwnWork}
 use Rattle.report_line.specs.histories.StepReports.{reporting_steps, id_of}
-use Rattle.histories.proofs.Status.{root_born}
+use Rattle.law_histories.proofs.Status.{root_born}
 use Rattle.driver.specs.declared.step.StepRequest.TheVariants.{Work, Check, Present, Send, Receive, Fork, Retire, Absorb}
 use Rattle.driver.specs.declared.known.Known.TheVariants.{Born, Gone}
 use Rattle.driver.specs.working.Made.{Made, step_of, silently, openly}

@@ -10,8 +10,8 @@ use Rattle.std.proofs.lemmas.List.{map-append, take_more, take_all, take-append-
 use Rattle.std.proofs.lemmas.List.Folds.{list_any-append}
 use Rattle.std.proofs.lemmas.Option.{slice_get-map, slice_get-get_or, slice_get_within}
 use Rattle.report_line.specs.histories.History.{Name}
-use Rattle.histories.proofs.Bytes.{bytes_are, bytes_same}
-use Rattle.history_law.proofs.Listed.{at_front}
+use Rattle.law_histories.proofs.Bytes.{bytes_are, bytes_same}
+use Rattle.law_lines.proofs.Listed.{at_front}
 use Rattle.driver.specs.declared.line.NamedPosition.{NamedPosition}
 use Rattle.driver.specs.declared.mark.Mark.{Mark}
 use Rattle.driver.specs.Lines.{names_of, IsNamedOnce}

@@ -4,8 +4,8 @@ use Rattle.std.specs.Prelude.{IsTrue}
 use Rattle.id_tree.specs.Points.{owns, OwnsSome, Overlap}
 use Rattle.stamp.specs.declared.stamp.Stamp.{Stamp}
 use Rattle.report_line.specs.histories.History.{Name, Event, Living, Retired, last_of, status}
-use Rattle.histories.proofs.Owners.{holder_owns}
-use Rattle.histories.proofs.Chain.{one_holder}
+use Rattle.law_histories.proofs.Owners.{holder_owns}
+use Rattle.law_histories.proofs.Chain.{one_holder}
 use Rattle.driver.specs.declared.tables.Tables.{Tables}
 use Rattle.driver.specs.declared.making.Alive.{Alive}
 use Rattle.driver.specs.working.Tables.{AreSound, history_in}

@@ -4,7 +4,7 @@ use Rattle.std.specs.Prelude.{slice_get, Contains}
 use Rattle.std.specs.Str.{bytes_eq}
 use Rattle.std.proofs.lemmas.Bool.{cond-true, cond-false}
 use Rattle.std.proofs.lemmas.List.Elements.{All-contains}
-use Rattle.histories.proofs.Bytes.{bytes_same, bytes_other}
+use Rattle.law_histories.proofs.Bytes.{bytes_same, bytes_other}
 use Rattle.report_line.specs.declared.report.Report.{Report}
 use Rattle.report_line.specs.histories.History.{Name}
 use Rattle.report_line.specs.histories.Lawful.{IsLawful}
@@ -13,13 +13,13 @@ use Rattle.chains.specs.Folded.{IsFolded}
 use Rattle.chains.specs.Greatest.{IsConsistentCut}
 use Rattle.chains.specs.Positions.{position_in}
 use Rattle.chains.specs.Processes.{known, IsKnown}
-use Rattle.history_law.proofs.Closing.{closed_is_consistent}
-use Rattle.history_law.proofs.Known.{same_number_of}
-use Rattle.history_law.proofs.Lines.{greatest_is_greatest_closed}
-use Rattle.history_law.proofs.Listed.{first_in, later_in, at_in}
-use Rattle.settled_histories.proofs.Keeping.{kept_is_lawful}
-use Rattle.settled_lists.proofs.Agreeing.{closed as closed_by}
-use Rattle.settled_lists.proofs.Standing.{settled_known}
+use Rattle.law_lines.proofs.Closing.{closed_is_consistent}
+use Rattle.law_lines.proofs.Known.{same_number_of}
+use Rattle.law_lines.proofs.Lines.{greatest_is_greatest_closed}
+use Rattle.law_lines.proofs.Listed.{first_in, later_in, at_in}
+use Rattle.law_histories.proofs.Keeping.{kept_is_lawful}
+use Rattle.law_lines.proofs.SettledAgreeing.{closed as closed_by}
+use Rattle.law_lines.proofs.Standing.{settled_known}
 use Rattle.driver.specs.declared.fault.StepFault.{StepFault}
 use Rattle.driver.specs.declared.fault.StepFault.TheVariants as faults
 use Rattle.driver.specs.declared.line.NamedPosition.{NamedPosition}
@@ -30,8 +30,8 @@ use Rattle.driver.specs.Settling.{HasUnknownName, IsClosedLine, Settles, Refuses
 use Rattle.driver.proofs.Born.{known_is_born}
 use Rattle.driver.proofs.ElementEvents.{reported_of}
 use Rattle.driver.proofs.InLine.{position_at}
-use Rattle.history_law.specs.Places.{IsPremise, IsClosedCut}
-use Rattle.settled_lists.proofs.KeptReports.{kept_hands_over}
+use Rattle.law_lines.specs.Places.{IsPremise, IsClosedCut}
+use Rattle.law_lines.proofs.KeptReports.{kept_hands_over}
 
 -- ---- the greatest cut is a line to return to
 

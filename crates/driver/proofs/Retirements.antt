@@ -9,7 +9,7 @@ use Rattle.stamp.specs.declared.stamp.Stamp.{Stamp}
 use Rattle.report_line.specs.declared.step.Step.{Step as Taken}
 use Rattle.report_line.specs.histories.History.{Name, Event, Status, Unborn, Living, Retired, Absorbed, status}
 use Rattle.report_line.specs.histories.StepReports.{reporting_steps}
-use Rattle.histories.proofs.Bytes.{bytes_are}
+use Rattle.law_histories.proofs.Bytes.{bytes_are}
 use Rattle.driver.specs.declared.known.Known.{Known}
 use Rattle.driver.specs.declared.known.Known.TheVariants.{Waits}
 use Rattle.driver.specs.declared.tables.Tables.{Tables}

@@ -12,9 +12,9 @@ use Rattle.chains.specs.Processes.{IsKnown}
 use Rattle.chains.specs.Failures.{IsFailedSet}
 use Rattle.chains.specs.Positions.{IsCut}
 use Rattle.chains.proofs.Certain.{known_or_not}
-use Rattle.settled_histories.specs.Kept.{IsClosed}
-use Rattle.history_law.proofs.Listed.{at_in, in_at, in_cases, first_in, later_in, none_in}
-use Rattle.settled_lists.specs.Agreeing.{HasEventsOf}
+use Rattle.law_histories.specs.Kept.{IsClosed}
+use Rattle.law_lines.proofs.Listed.{at_in, in_at, in_cases, first_in, later_in, none_in}
+use Rattle.law_lines.specs.Agreeing.{HasEventsOf}
 use Rattle.driver.specs.declared.fault.StepFault.{StepFault}
 use Rattle.driver.specs.declared.fault.StepFault.TheVariants.{Unknown, Retired, SelfTarget, Taken, NoMessage, NotWaiting, NotClosed, ClockFull, TooDeep, Memory}
 use Rattle.driver.specs.declared.line.NamedPosition.{NamedPosition}

@@ -20,11 +20,11 @@ use Rattle.report_line.specs.histories.StepReports.{is_reported, reporting_steps
 use Rattle.report_line.specs.Names.{is_name}
 use Rattle.report_line.specs.declared.report.Report.{Report}
 use Rattle.report_line.specs.declared.report.Report.TheVariants.{Begin}
-use Rattle.lawful_reports.specs.HandedOver.{handed_over, HasLine}
-use Rattle.histories.proofs.Bytes.{bytes_same, bytes_other, bytes_are}
-use Rattle.histories.proofs.Status.{status_acts, status_others}
-use Rattle.histories.proofs.Reported.{unborn_reports}
-use Rattle.histories.proofs.Steps.{fork_of}
+use Rattle.law_admission.specs.HandedOver.{handed_over, HasLine}
+use Rattle.law_histories.proofs.Bytes.{bytes_same, bytes_other, bytes_are}
+use Rattle.law_histories.proofs.Status.{status_acts, status_others}
+use Rattle.law_histories.proofs.Reported.{unborn_reports}
+use Rattle.law_histories.proofs.Steps.{fork_of}
 use Rattle.driver.proofs.Places.{here, events_stay, events_here, standing_stays}
 use Rattle.driver.specs.declared.known.Known.{Known}
 use Rattle.driver.specs.declared.known.Known.TheVariants.{Born, Gone}

@@ -15,17 +15,17 @@ use Rattle.report_line.specs.histories.History.{Name, History, Event, event_of, 
 use Rattle.report_line.specs.histories.Lawful.{IsLawful}
 use Rattle.report_line.specs.histories.Events.{Occurs, root_birth, step, birth, earlier}
 use Rattle.report_line.proofs.Cutting.{and_both}
-use Rattle.histories.proofs.Bytes.{bytes_are}
+use Rattle.law_histories.proofs.Bytes.{bytes_are}
 use Rattle.chains.specs.declared.position.Position.{Position}
 use Rattle.chains.specs.declared.position.Position.TheVariants.{At, Retired}
 use Rattle.chains.specs.Processes.{target_of}
 use Rattle.chains.specs.Elements.{name_of, elements, lasting, lasting_of}
 use Rattle.chains.specs.Positions.{is_retired, IsChosen}
 use Rattle.chains.proofs.Counting.{elements_is}
-use Rattle.history_law.specs.Places.{IsEventAt, place, IsUpTo}
-use Rattle.history_law.proofs.Listed.{at_append, at_front}
-use Rattle.history_law.proofs.Ordered.{one_event}
-use Rattle.settled_lists.proofs.Folding.{within, is_within}
+use Rattle.law_lines.specs.Places.{IsEventAt, place, IsUpTo}
+use Rattle.law_lines.proofs.Listed.{at_append, at_front}
+use Rattle.law_lines.proofs.Ordered.{one_event}
+use Rattle.law_lines.proofs.Folding.{within, is_within}
 use Rattle.driver.specs.declared.mark.Mark.{Mark}
 use Rattle.driver.specs.Stamping.{stamp_of}
 use Rattle.driver.specs.working.Marks.{wanted, last_kept, stands_at, reaches_at}

@@ -5,7 +5,7 @@ use Rattle.std.specs.Option.{option_map}
 use Rattle.std.proofs.lemmas.List.Elements.{All-contains}
 use Rattle.std.proofs.lemmas.Option.{slice_get-map}
 use Rattle.report_line.specs.histories.History.{Name, Unborn, status}
-use Rattle.history_law.proofs.Listed.{at_in, in_at}
+use Rattle.law_lines.proofs.Listed.{at_in, in_at}
 use Rattle.driver.specs.declared.line.NamedPosition.{NamedPosition}
 use Rattle.driver.specs.Chronicle.{Chronicle}
 use Rattle.driver.specs.Lines.{names_of}

@@ -12,7 +12,7 @@ use Rattle.report_line.specs.declared.step.StepKind.{StepKind}
 use Rattle.report_line.specs.declared.step.StepKind.TheVariants.{Work, Check, Present, Send, Receive, Fork, Retire, Absorb}
 use Rattle.report_line.specs.declared.step.Step.{Step}
 use Rattle.report_line.specs.histories.History.{Name, History, Event, event_of, birth_by, birth_of_root}
-use Rattle.history_law.proofs.Listed.{at_append}
+use Rattle.law_lines.proofs.Listed.{at_append}
 use Rattle.driver.specs.declared.mark.Mark.{Mark}
 use Rattle.driver.specs.working.Marks.{lasts, reports as reporting, own, born, walked, rooted}
 use Rattle.driver.proofs.ElementEvents.{lasting_by, lasting_events, present_by, present_event, retired_by, retired_in}

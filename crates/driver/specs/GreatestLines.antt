@@ -6,7 +6,7 @@ use Rattle.chains.specs.Failures.{IsFailedSet}
 use Rattle.chains.specs.Greatest.{IsGreatestCut}
 use Rattle.chains.specs.Processes.{known}
 use Rattle.chains.specs.Settled.{settled}
-use Rattle.history_law.specs.Places.{IsPremise}
+use Rattle.law_lines.specs.Places.{IsPremise}
 use Rattle.driver.specs.declared.fault.StepFault.{StepFault}
 use Rattle.driver.specs.declared.fault.StepFault.TheVariants.{Memory}
 use Rattle.driver.specs.declared.line.NamedPosition.{NamedPosition}

@@ -3,9 +3,9 @@ use Rattle.std.specs.Prelude.{◌≡◌, ◌≢◌, ◌⊎◌, ℕ, suc, List, C
 use Rattle.report_line.specs.histories.History.{Name, Unborn, status}
 use Rattle.chains.specs.Positions.{before_birth}
 use Rattle.chains.specs.Failures.{IsFailedSet}
-use Rattle.settled_histories.specs.Kept.{Cut, kept}
-use Rattle.history_law.specs.Places.{IsClosedCut}
-use Rattle.settled_lists.specs.Agreeing.{HasEventsOf}
+use Rattle.law_histories.specs.Kept.{Cut, kept}
+use Rattle.law_lines.specs.Places.{IsClosedCut}
+use Rattle.law_lines.specs.Agreeing.{HasEventsOf}
 use Rattle.driver.specs.declared.fault.StepFault.{StepFault}
 use Rattle.driver.specs.declared.fault.StepFault.TheVariants.{Unknown, NotClosed, Memory}
 use Rattle.driver.specs.declared.line.NamedPosition.{NamedPosition}

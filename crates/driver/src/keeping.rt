@@ -4,7 +4,7 @@ ghost use Rattle.std.specs.Prelude.{◌≡◌, ◌≢◌, ◌<◌, ◌+◌, ◌�
 ghost use Rattle.std.specs.Str.{bytes_eq};
 ghost use Rattle.indexmap.specs.IndexMap.{get};
 ghost use Rattle.report_line.specs.histories.Lawful.{IsLawful};
-ghost use Rattle.settled_histories.specs.Kept.{IsClosed};
+ghost use Rattle.law_histories.specs.Kept.{IsClosed};
 ghost use Rattle.driver.specs.working.Keeping.{AreKept, bears, is_due, is_waiting};
 ghost use Rattle.driver.specs.working.Making.{Adds};
 ghost use Rattle.driver.specs.working.Marks.{cut_by};

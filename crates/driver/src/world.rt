@@ -4,8 +4,8 @@ ghost use Rattle.std.specs.Prelude.{◌≡◌, ◌≢◌, ◌++◌, [], Some, No
 ghost use Rattle.std.specs.List.{cons_option};
 ghost use Rattle.report_line.specs.histories.Lawful.{IsLawful};
 ghost use Rattle.report_line.specs.histories.StepReports.{reports};
-ghost use Rattle.history_law.specs.Places.{IsPremise};
-ghost use Rattle.lawful_reports.specs.HandedOver.{IsReportable};
+ghost use Rattle.law_lines.specs.Places.{IsPremise};
+ghost use Rattle.law_admission.specs.HandedOver.{IsReportable};
 ghost use Rattle.driver.specs.Lines.{reported};
 ghost use Rattle.driver.specs.Stamping.{Takes};
 ghost use Rattle.driver.specs.Verdicts.{IsVerdict};

@@ -12,7 +12,7 @@ use Rattle.chains.proofs.LookUps.{known_from}
 use Rattle.knows_row.proofs.Lawful.{lawful}
 use Rattle.reasons.specs.declared.certificate.Certificate.{Certificate}
 use Rattle.reasons.specs.Certificates.{IsForNames, positions_of}
-use Rattle.history_law.proofs.GarbageLine.{garbage_line_never_falls}
+use Rattle.law_lines.proofs.GarbageLine.{garbage_line_never_falls}
 use Rattle.propagate.specs.Choice.{IsChosenCertificate}
 use Rattle.propagate.specs.Cuts.{IsCertificateFor}
 use Rattle.propagate.proofs.Certified.{certified_is_greatest}

@@ -6,7 +6,7 @@ use Rattle.chains.specs.Held.{Held}
 use Rattle.chains.specs.Greatest.{IsGreatestCut}
 use Rattle.reasons.specs.declared.certificate.Certificate.{Certificate}
 use Rattle.reasons.specs.Certificates.{Certifies, IsForNames, positions_of}
-use Rattle.history_law.specs.Headline.{IsLineOfHistories}
+use Rattle.law_lines.specs.Headline.{IsLineOfHistories}
 use Rattle.propagate.specs.Choice.{IsChosenCertificate}
 use Rattle.garbage_line.specs.LaterLines.{IsBeforeLaterLines}
 

@@ -3,7 +3,7 @@
 //! A process stamps its steps by interval tree clocks (Almeida, Baquero, Fonte 2008). Each call is one step, and gives the line by which the
 //! process reports it, if it does. What goes to another process is a message, the start of a child or a retirement; all of them, and the
 //! process itself, have a text of one line. Where what is handed in was given out by these calls, the steps are those of a lawful history:
-//! `process_law` has the law.
+//! `law_process` has the law.
 #![tactic(auto)]
 
 ghost use Rattle.std.specs.Prelude.{◌≡◌};

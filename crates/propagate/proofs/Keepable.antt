@@ -10,8 +10,8 @@ use Rattle.chains.specs.Positions.{position_in, positions_of, IsChosen, IsCut}
 use Rattle.chains.specs.Folded.{IsFolded}
 use Rattle.chains.specs.Greatest.{IsGreatestCut}
 use Rattle.chains.specs.Settled.{CanBeKept}
-use Rattle.settled_lists.proofs.Closing.{settled_is_folded}
-use Rattle.settled_lists.proofs.Elements.{settled_elements}
+use Rattle.law_lines.proofs.SettledClosing.{settled_is_folded}
+use Rattle.law_lines.proofs.Elements.{settled_elements}
 use Rattle.propagate.proofs.Fallen.{no_member}
 
 -- what survives of failed processes is there where none failed

@@ -5,7 +5,7 @@ use Rattle.chains.specs.declared.position.Place.{Place}
 use Rattle.chains.specs.Folded.{IsFolded}
 use Rattle.knows_row.proofs.Lawful.{lawful}
 use Rattle.reasons.specs.Certificates.{AreReasons, positions_of}
-use Rattle.history_law.proofs.Lines.{line_of_histories}
+use Rattle.law_lines.proofs.Lines.{line_of_histories}
 use Rattle.propagate.specs.declared.cut.Reached.{Reached}
 use Rattle.propagate.specs.working.Ranks.{IsStage}
 use Rattle.propagate.specs.Rounds.{AreRounds}

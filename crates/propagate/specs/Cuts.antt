@@ -7,7 +7,7 @@ use Rattle.chains.specs.Processes.{known}
 use Rattle.chains.specs.Held.{Held}
 use Rattle.reasons.specs.declared.certificate.Certificate.{Certificate}
 use Rattle.reasons.specs.Certificates.{AreReasons, Certifies, positions_of}
-use Rattle.history_law.specs.Headline.{IsLineOfHistories}
+use Rattle.law_lines.specs.Headline.{IsLineOfHistories}
 use Rattle.propagate.specs.declared.cut.Cut.{Cut}
 use Rattle.propagate.specs.Greatest.{IsGreatestCut}
 use Rattle.propagate.specs.Rounds.{AreTops, AreRounds}

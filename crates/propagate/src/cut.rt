@@ -11,7 +11,7 @@ ghost use Rattle.chains.specs.Held.{Held, held_of};
 ghost use Rattle.knows_row.specs.Looks.{last_ranks};
 ghost use Rattle.knows_row.specs.Needs.{IsTableOf};
 ghost use Rattle.reasons.specs.Certificates.{Certifies, positions_of};
-ghost use Rattle.history_law.specs.Headline.{IsLineOfHistories};
+ghost use Rattle.law_lines.specs.Headline.{IsLineOfHistories};
 ghost use Rattle.propagate.specs.Greatest.{IsGreatestCut};
 ghost use Rattle.propagate.specs.working.Ranks.{AreNextRanks, RanksAfter};
 ghost use Rattle.propagate.specs.working.Stages.{IsStageFrom, AreThere, AreChosenBy, chains_at, chains_due};

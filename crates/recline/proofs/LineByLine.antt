@@ -6,10 +6,10 @@ use Rattle.client_link.specs.declared.link.LinkFault.{LinkFault}
 use Rattle.client_link.specs.Links.{up, LinkState, IsSound, IsRead}
 use Rattle.client_link.proofs.Sent.{appends_none, appends_then, sound_none, sound_then, fault_then}
 use Rattle.report_line.specs.Cutting.{cut_from}
-use Rattle.line_fault.specs.declared.explained.Explained.{Explained}
-use Rattle.line_fault.specs.declared.stream.Explanations.{Explanations}
-use Rattle.line_fault.specs.Streams.{told_lines, IsAfter, Goes}
-use Rattle.line_fault.proofs.Streamed.{told_lines-append}
+use Rattle.line_explain.specs.declared.explained.Explained.{Explained}
+use Rattle.line_explain.specs.declared.stream.Explanations.{Explanations}
+use Rattle.line_explain.specs.Streams.{told_lines, IsAfter, Goes}
+use Rattle.line_explain.proofs.Streamed.{told_lines-append}
 use Rattle.session.specs.SessionText.{most_reads}
 use Rattle.recline.proofs.Reading.{consumes_then}
 use Rattle.recline.specs.Driving.{HasFewReads, WritesAll, WritesPart}

@@ -6,12 +6,12 @@ use Rattle.report_line.specs.declared.report.Report.{Report}
 use Rattle.chains.specs.Kept.{Kept}
 use Rattle.chains.specs.Held.{Held, held_of}
 use Rattle.desk.specs.Lawful.{unstopped}
-use Rattle.inspection.specs.declared.shown.ShownFile.{ShownFile}
-use Rattle.inspection.specs.declared.shown.ShownProcess.{ShownProcess}
-use Rattle.inspection.specs.Processes.{shown_file, shown_processes}
-use Rattle.inspection.specs.Tables.{table_text}
-use Rattle.inspection.specs.Lines.{lines_text}
-use Rattle.inspection.specs.Json.{json_text}
+use Rattle.record_show.specs.declared.shown.ShownFile.{ShownFile}
+use Rattle.record_show.specs.declared.shown.ShownProcess.{ShownProcess}
+use Rattle.record_show.specs.Processes.{shown_file, shown_processes}
+use Rattle.record_show.specs.Tables.{table_text}
+use Rattle.record_show.specs.Lines.{lines_text}
+use Rattle.record_show.specs.Json.{json_text}
 use Rattle.recline.specs.Showing.{shown_text}
 
 -- a text by what is shown of a file, of its processes and of its records, where the chains hold what the desk holds

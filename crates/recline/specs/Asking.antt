@@ -11,8 +11,8 @@ use Rattle.report_line.specs.declared.call.Call.TheVariants as calls
 use Rattle.report_line.specs.declared.reply.Reply.TheVariants as replies
 use Rattle.chains.specs.Processes.{Name}
 use Rattle.chains.specs.Held.{Held}
-use Rattle.history_law.specs.Headline.{IsRightLine}
-use Rattle.line_text.specs.Asking.{AsksForLine}
+use Rattle.law_lines.specs.Headline.{IsRightLine}
+use Rattle.line_answer.specs.Asking.{AsksForLine}
 use Rattle.desk.specs.Desks.{DeskState}
 use Rattle.desk.specs.Lawful.{IsLawfulDesk}
 use Rattle.desk.specs.Records.{Opens}

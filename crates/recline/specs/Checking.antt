@@ -13,7 +13,7 @@ use Rattle.reason_check.specs.declared.answer.Verdict.{Verdict}
 use Rattle.reason_check.specs.declared.answer.Verdict.TheVariants.{Yes, No}
 use Rattle.reason_check.specs.Causes.{IsVerdict}
 use Rattle.reason_check.specs.Texts.{verdict_text}
-use Rattle.history_law.specs.Headline.{IsLineOfHistories}
+use Rattle.law_lines.specs.Headline.{IsLineOfHistories}
 use Rattle.desk.specs.Desks.{DeskState}
 use Rattle.desk.specs.Lawful.{IsLawfulDesk}
 use Rattle.client_link.specs.Links.{LinkState, IsSound}

@@ -3,8 +3,8 @@ use Rattle.std.specs.Prelude.{◌≡◌, ◌⊎◌, ℕ, true, false, List, [], 
 use Rattle.std.specs.Io.KnownBytes.{Appends, Consumes, IsAtEnd}
 use Rattle.report_line.specs.Cutting.{ended}
 use Rattle.client_link.specs.Links.{LinkState, IsSound, IsFault}
-use Rattle.line_fault.specs.declared.explained.Explained.{Explained}
-use Rattle.line_fault.specs.Streams.{Explain, told_lines, are_calls, IsTooLong}
+use Rattle.line_explain.specs.declared.explained.Explained.{Explained}
+use Rattle.line_explain.specs.Streams.{Explain, told_lines, are_calls, IsTooLong}
 use Rattle.recline.specs.Outcome.{Tells}
 use Rattle.recline.specs.Driving.{HasFewReads, ReadsInVain}
 use Rattle.recline.specs.declared.explaining.LinesEnd.{LinesEnd}

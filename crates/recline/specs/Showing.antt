@@ -11,10 +11,10 @@ use Rattle.desk.specs.Openings.{RefusesFile}
 use Rattle.desk.specs.declared.fault.DeskFault.{DeskFault}
 use Rattle.desk.specs.declared.fault.DeskFault.TheVariants as opening
 use Rattle.client_link.specs.Links.{LinkState}
-use Rattle.inspection.specs.Processes.{shown_file, shown_processes}
-use Rattle.inspection.specs.Tables.{table_text}
-use Rattle.inspection.specs.Lines.{lines_text}
-use Rattle.inspection.specs.Json.{json_text}
+use Rattle.record_show.specs.Processes.{shown_file, shown_processes}
+use Rattle.record_show.specs.Tables.{table_text}
+use Rattle.record_show.specs.Lines.{lines_text}
+use Rattle.record_show.specs.Json.{json_text}
 use Rattle.recline.specs.declared.showing.Form.{Form}
 use Rattle.recline.specs.Driving.{WritesPart}
 use Rattle.recline.specs.Earlier.{HasNoFront}

@@ -1,7 +1,7 @@
 //! The command `explain`.
 
 ghost use Rattle.std.specs.Prelude.{◌≡◌, []};
-ghost use Rattle.line_fault.specs.Streams.{IsAfter};
+ghost use Rattle.line_explain.specs.Streams.{IsAfter};
 ghost use Rattle.recline.specs.Outcome.{Tells};
 ghost use Rattle.recline.specs.Driving.{HasFewReads};
 ghost use Rattle.recline.specs.Explaining.{ExplainsOn, IsExplainedOver, lines_fault, lines_status};
@@ -9,7 +9,7 @@ ghost use Rattle.recline.specs.Explaining.{ExplainsOn, IsExplainedOver, lines_fa
 use crate::driving::MOST_READS;
 use crate::telling::{tell, write_all};
 use client_link::Link;
-use line_fault::Explanations;
+use line_explain::Explanations;
 use std::alloc::Global;
 
 /// How explaining a stream of lines ended.

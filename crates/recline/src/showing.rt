@@ -14,8 +14,8 @@ use crate::telling::{tell_unopened, write_all};
 use client_link::Link;
 use desk::{Desk, DeskFault};
 use earlier_file::{EarlierFault, FileFacts, FileFault, facts, first_records};
-use inspection::{to_json, to_lines, to_table};
 use line_disk::MemoryDisk;
+use record_show::{to_json, to_lines, to_table};
 use std::alloc::{AllocError, Global};
 
 /// How a record file is shown.

@@ -18,7 +18,7 @@ use Rattle.chains.specs.Processes.{IsKnown}
 use Rattle.chains.specs.Settled.{settled, IsSettled}
 use Rattle.chains.proofs.Certain.{known_or_not}
 use Rattle.propagate.proofs.Outcomes.{one_cut, one_failed_set}
-use Rattle.history_law.specs.Places.{IsPremise}
+use Rattle.law_lines.specs.Places.{IsPremise}
 use Rattle.driver.specs.declared.fault.StepFault.{StepFault}
 use Rattle.driver.specs.declared.fault.StepFault.TheVariants as faults
 use Rattle.driver.specs.declared.line.NamedPosition.{NamedPosition}

@@ -17,7 +17,7 @@ use Rattle.reasons.specs.CertificateText.{certificate_text}
 use Rattle.desk.specs.Lawful.{unstopped}
 use Rattle.propagate.specs.Choice.{IsChosenCertificate}
 use Rattle.propagate.proofs.Once.{one_certificate}
-use Rattle.line_text.specs.Questions.{IsChosenText, IsChosenFor}
+use Rattle.line_answer.specs.Questions.{IsChosenText, IsChosenFor}
 
 -- ---- one text
 

@@ -10,9 +10,9 @@ use Rattle.report_line.specs.declared.reply.Reply.{Reply}
 use Rattle.report_line.specs.declared.reply.Reply.TheVariants.{Accepted, Settled}
 use Rattle.chains.specs.Held.{Held, counting}
 use Rattle.chains.specs.Turns.{fine, IsReported, IsSettleAnswered, IsTurn}
-use Rattle.settled_turns.specs.Traces.{Trace, Stepped, Turned, turns_of, AreTurns}
-use Rattle.settled_turns.proofs.Following.{from_nothing}
-use Rattle.settled_turns.proofs.Parted.{turns_alone}
+use Rattle.law_turns.specs.Traces.{Trace, Stepped, Turned, turns_of, AreTurns}
+use Rattle.law_turns.proofs.Following.{from_nothing}
+use Rattle.law_turns.proofs.Parted.{turns_alone}
 use Rattle.desk.specs.Records.{line_of, settle_line, marked, recorded_by, IsLineOf, AdmitsCall, Opens, no_records, one_more}
 use Rattle.desk.proofs.Recording.{still_goes}
 use Rattle.session.specs.Current.{recorded_in, EachFileTellsARun}

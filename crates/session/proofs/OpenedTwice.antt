@@ -5,15 +5,15 @@ use Rattle.id_tree.specs.IdTree.{One}
 use Rattle.event_tree.specs.EventTree.{Leaf}
 use Rattle.record_file.specs.File.{Said}
 use Rattle.report_line.specs.declared.report.ReportKind.TheVariants as reported
-use Rattle.histories.specs.Example.{a, b, right, halves}
-use Rattle.lawful_reports.proofs.Example.{line, name_a, name_b, one, on_left, on_right, leaf, halved}
-use Rattle.history_law.specs.Example.{forked}
+use Rattle.law_histories.specs.Example.{a, b, right, halves}
+use Rattle.law_admission.proofs.Example.{line, name_a, name_b, one, on_left, on_right, leaf, halved}
+use Rattle.law_lines.specs.Example.{forked}
 use Rattle.chains.specs.Held.{Held, counting}
 use Rattle.chains.proofs.Unfailing.{stays_stopped}
-use Rattle.settled_turns.specs.Traces.{Trace, Stepped, Turned, AreTurns}
-use Rattle.settled_turns.specs.Example.{settled_once, held_then}
-use Rattle.settled_turns.proofs.Parted.{turns_in_parts}
-use Rattle.settled_turns.proofs.Written.{settled_once_is_taken, settled_once_is_right}
+use Rattle.law_turns.specs.Traces.{Trace, Stepped, Turned, AreTurns}
+use Rattle.law_turns.specs.Example.{settled_once, held_then}
+use Rattle.law_turns.proofs.Parted.{turns_in_parts}
+use Rattle.law_turns.proofs.Written.{settled_once_is_taken, settled_once_is_right}
 use Rattle.desk.specs.Records.{Opens, no_records}
 use Rattle.desk.proofs.Running.{is_unstopped}
 use Rattle.session.specs.Current.{recorded_in}

@@ -15,8 +15,8 @@ use Rattle.chains.specs.Admission.{held_after}
 use Rattle.chains.specs.Turns.{Fate, fine, memory, before, unknown, LeavesSettled, IsSettleAnswered, IsTurn}
 use Rattle.chains.proofs.Turning.{unchanged, after_report_turn}
 use Rattle.reasons.specs.declared.certificate.Certificate.{Certificate}
-use Rattle.history_law.specs.Headline.{IsRightLine}
-use Rattle.line_text.specs.Asking.{AsksForLine}
+use Rattle.law_lines.specs.Headline.{IsRightLine}
+use Rattle.line_answer.specs.Asking.{AsksForLine}
 use Rattle.session.specs.Exchanges.{Exchange, ReplayTo}
 use Rattle.session.specs.Headline.{EachLineIsRight}
 use Rattle.session.specs.Answered.{ok_report, ok_reports, with_ok_reports, EachLineIsRightOverAnswers, IsNoSettlement, AreUnsettled, WhatIsAcceptedWasAnswered, BothHeadlinesAreOne}

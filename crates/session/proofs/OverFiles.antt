@@ -14,9 +14,9 @@ use Rattle.chains.specs.Held.{Held, counting}
 use Rattle.chains.specs.Turns.{fine, IsReported, IsSettleAnswered, IsTurn}
 use Rattle.chains.proofs.Turning.{unchanged}
 use Rattle.reasons.specs.Shown.{IsLineText}
-use Rattle.settled_lists.specs.Runs.{Run, Made, nothing}
-use Rattle.settled_turns.specs.Traces.{Trace, Stepped, Turned, AreTurns, ProcessesObey}
-use Rattle.settled_turns.proofs.Following.{held_at_first}
+use Rattle.law_lines.specs.Runs.{Run, Made, nothing}
+use Rattle.law_turns.specs.Traces.{Trace, Stepped, Turned, AreTurns, ProcessesObey}
+use Rattle.law_turns.proofs.Following.{held_at_first}
 use Rattle.desk.specs.declared.turn.Turn.{Turn}
 use Rattle.desk.specs.Lawful.{unstopped}
 use Rattle.desk.specs.Records.{said_of, said_settled, recorded_by, recorded, AdmitsCall, Admits, Opens, no_records, one_more}

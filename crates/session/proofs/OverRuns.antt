@@ -10,18 +10,18 @@ use Rattle.knows_row.proofs.Lawful.{lawful}
 use Rattle.reasons.specs.declared.certificate.Certificate.{Certificate}
 use Rattle.reasons.specs.Certificates.{IsForNames, positions_of}
 use Rattle.reasons.specs.Shown.{IsLineText}
-use Rattle.history_law.specs.Headline.{IsRightLine}
+use Rattle.law_lines.specs.Headline.{IsRightLine}
 use Rattle.propagate.proofs.Certified.{certified_is_greatest}
-use Rattle.settled_lists.specs.Runs.{Run, IsObeyed}
-use Rattle.settled_turns.specs.Obeyed.{IsHeldAfter}
-use Rattle.settled_turns.specs.Traces.{Trace, Stepped, Turned, turns_of, AreTurns, Extends, ProcessesObey}
-use Rattle.settled_turns.proofs.Following.{the_run_is_obeyed, turns_make_a_run, headline_of_turns}
-use Rattle.settled_turns.proofs.Parted.{turns_alone, turns_in_parts, processes_obey_in_parts, no_line_is_below_earlier_garbage, who_is_gone_was_unborn_then}
+use Rattle.law_lines.specs.Runs.{Run, IsObeyed}
+use Rattle.law_turns.specs.Obeyed.{IsHeldAfter}
+use Rattle.law_turns.specs.Traces.{Trace, Stepped, Turned, turns_of, AreTurns, Extends, ProcessesObey}
+use Rattle.law_turns.proofs.Following.{the_run_is_obeyed, turns_make_a_run, headline_of_turns}
+use Rattle.law_turns.proofs.Parted.{turns_alone, turns_in_parts, processes_obey_in_parts, no_line_is_below_earlier_garbage, who_is_gone_was_unborn_then}
 use Rattle.desk.specs.declared.turn.Turn.{Turn}
 use Rattle.desk.specs.Replays.{Replays, ReplaysFrom}
 use Rattle.desk.proofs.OneTurn.{turn_once}
 use Rattle.session.specs.Exchanges.{Exchange, ReplayTo}
-use Rattle.line_text.specs.Asking.{AsksForLine}
+use Rattle.line_answer.specs.Asking.{AsksForLine}
 use Rattle.session.specs.Current.{traced, IsRightNow, EachLineIsRightNow, trace_of, EachSharedLineIsRightNow, AreInOrder, NoLineIsBelowGarbage, NoSharedLineIsBelowGarbage}
 
 -- ---- exchanges as turns of a trace
@@ -121,8 +121,8 @@ in_order root run held first at earlier trace all names lowest text obeyed holds
     }
 
 -- what is right is the text of a line
-line_text : (held : Held) (names : List Name) (text : List ℕ) → IsRightLine held names text → IsLineText held names text
-line_text held names text right = record {
+line_answer : (held : Held) (names : List Name) (text : List ℕ) → IsRightLine held names text → IsLineText held names text
+line_answer held names text right = record {
   certificate = right.certificate;
   for_names = right.for_names;
   certifies = right.certifies;
@@ -136,7 +136,7 @@ no_line_is_below_garbage root run held first at exchanges before between later c
     let g = right before (between ++ exchange ∷ later) collected lowest first same comes low in
     let c = right (before ++ collected ∷ between) later exchange text at (same ∙ sym (append_assoc before (collected ∷ between) (exchange ∷ later))) (come_on held first at before (collected ∷ between) comes more) shown in
     let each = subst (λ (call : Call). AsksForLine first call g.0) asks g.1 in
-    in_order root run held first at earlier trace g.0 c.0 lowest text obeyed holds turns rest processes each (line_text first g.0 lowest g.2) (line_text at c.0 text c.2)
+    in_order root run held first at earlier trace g.0 c.0 lowest text obeyed holds turns rest processes each (line_answer first g.0 lowest g.2) (line_answer at c.0 text c.2)
 
 -- ---- nor is one of those who share a desk
 

@@ -12,12 +12,12 @@ use Rattle.chains.proofs.Unfailing.{no_line}
 use Rattle.knows_row.proofs.Lawful.{lawful}
 use Rattle.reasons.specs.Certificates.{positions_of}
 use Rattle.reasons.specs.Shown.{IsLineText, IsLineShown, IsShown}
-use Rattle.history_law.specs.Headline.{IsRightLine}
-use Rattle.history_law.proofs.Lines.{line_of_histories}
+use Rattle.law_lines.specs.Headline.{IsRightLine}
+use Rattle.law_lines.proofs.Lines.{line_of_histories}
 use Rattle.propagate.proofs.Certified.{certified_is_greatest}
 use Rattle.session.specs.Exchanges.{Exchange}
 use Rattle.session.specs.Turned.{IsExchange, AreExchanges}
-use Rattle.line_text.specs.Asking.{AsksForLine}
+use Rattle.line_answer.specs.Asking.{AsksForLine}
 use Rattle.session.specs.Headline.{EachLineIsRight}
 use Rattle.session.proofs.Places.{served_at, comes_reached}
 

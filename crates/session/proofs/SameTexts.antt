@@ -13,7 +13,7 @@ use Rattle.report_line.specs.Cutting.{cut_of}
 use Rattle.session.specs.Exchanges.{Exchange}
 use Rattle.session.specs.declared.kind.SessionEndKind.TheVariants as kinds
 use Rattle.session.specs.SessionText.{Means, Mean, ServedOver, IsSession, joined, session_text}
-use Rattle.line_text.specs.Questions.{IsChosenFor}
+use Rattle.line_answer.specs.Questions.{IsChosenFor}
 use Rattle.session.specs.Turned.{IsExchange, AreExchanges, ShowsChosen, EachLineIsChosen}
 use Rattle.session.specs.OneText.{HadEnough, IsUndisturbed}
 use Rattle.desk.proofs.OneTurn.{turn_once}

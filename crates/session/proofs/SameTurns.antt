@@ -17,7 +17,7 @@ use Rattle.chains.specs.Turns.{Fate, fine, memory, before, unknown, no_memory, I
 use Rattle.chains.proofs.FirstUnknown.{one_first, none_first}
 use Rattle.chains.proofs.OneAnswer.{one, one_answer, one_settling}
 use Rattle.reasons.specs.Shown.{IsLineShown, IsShown}
-use Rattle.line_text.specs.Questions.{IsChosenFor}
+use Rattle.line_answer.specs.Questions.{IsChosenFor}
 use Rattle.session.proofs.ChosenTexts.{one_for}
 
 -- ---- questions

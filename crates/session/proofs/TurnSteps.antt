@@ -26,7 +26,7 @@ use Rattle.desk.specs.declared.turn.Turn.{Turn}
 use Rattle.reasons.specs.Shown.{IsLineShown, IsShown}
 use Rattle.chains.proofs.Unfailing.{no_line}
 use Rattle.session.specs.SessionText.{Means}
-use Rattle.line_text.specs.Questions.{IsChosenFor}
+use Rattle.line_answer.specs.Questions.{IsChosenFor}
 use Rattle.session.specs.Turned.{MakesTurns}
 use Rattle.session.specs.working.Parts.{call_read}
 use Rattle.session.proofs.ChosenTexts.{chosen_at}

@@ -7,8 +7,8 @@ use Rattle.report_line.specs.declared.reply.Reply.{Reply}
 use Rattle.report_line.specs.declared.reply.Reply.TheVariants as replies
 use Rattle.chains.specs.Processes.{Name}
 use Rattle.chains.specs.Held.{Held}
-use Rattle.history_law.specs.Headline.{IsRightLine}
-use Rattle.line_text.specs.Asking.{AsksForLine}
+use Rattle.law_lines.specs.Headline.{IsRightLine}
+use Rattle.line_answer.specs.Asking.{AsksForLine}
 use Rattle.session.specs.Exchanges.{Exchange, ReplayTo}
 use Rattle.session.specs.Headline.{EachLineIsRight}
 

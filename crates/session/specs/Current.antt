@@ -10,19 +10,19 @@ use Rattle.chains.specs.Processes.{Name, known, IsKnown}
 use Rattle.reasons.specs.declared.certificate.Certificate.{Certificate}
 use Rattle.reasons.specs.Certificates.{IsForNames, positions_of}
 use Rattle.reasons.specs.CertificateText.{certificate_text}
-use Rattle.history_law.specs.Headline.{IsGreatestClosedCut}
-use Rattle.settled_lists.specs.Garbage.{IsNotAfter}
-use Rattle.settled_lists.specs.Runs.{Run, current, IsObeyed}
-use Rattle.settled_lists.specs.Settled.{position_for}
-use Rattle.settled_turns.specs.Obeyed.{IsHeldAfter}
-use Rattle.settled_turns.specs.Traces.{Trace, Stepped, Turned, turns_of, AreTurns, Extends, ProcessesObey}
+use Rattle.law_lines.specs.Headline.{IsGreatestClosedCut}
+use Rattle.law_lines.specs.Garbage.{IsNotAfter}
+use Rattle.law_lines.specs.Runs.{Run, current, IsObeyed}
+use Rattle.law_lines.specs.Settled.{position_for}
+use Rattle.law_turns.specs.Obeyed.{IsHeldAfter}
+use Rattle.law_turns.specs.Traces.{Trace, Stepped, Turned, turns_of, AreTurns, Extends, ProcessesObey}
 use Rattle.desk.specs.declared.turn.Turn.{Turn}
 use Rattle.desk.specs.Records.{recorded_by, Opens}
 use Rattle.desk.specs.Replays.{Replays}
 use Rattle.coordinator.specs.Passes.{PassEntry}
 use Rattle.coordinator.specs.Closing.{ShowsRightly}
 use Rattle.session.specs.Exchanges.{Exchange, ReplayTo}
-use Rattle.line_text.specs.Asking.{AsksForLine}
+use Rattle.line_answer.specs.Asking.{AsksForLine}
 use Rattle.session.specs.Headline.{EachLineIsRight}
 
 -- ---- what happened

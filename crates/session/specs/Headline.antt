@@ -3,8 +3,8 @@ use Rattle.std.specs.Prelude.{◌≡◌, ℕ, List, ◌∷◌, ◌++◌}
 use Rattle.report_line.specs.declared.reply.Reply.TheVariants as replies
 use Rattle.chains.specs.Processes.{Name}
 use Rattle.chains.specs.Held.{Held}
-use Rattle.history_law.specs.Headline.{IsRightLine}
-use Rattle.line_text.specs.Asking.{AsksForLine}
+use Rattle.law_lines.specs.Headline.{IsRightLine}
+use Rattle.line_answer.specs.Asking.{AsksForLine}
 use Rattle.session.specs.Exchanges.{Exchange, ReplayTo}
 
 -- Wherever among the exchanges a LINE is shown, a question for a line asked for it, and it is right over what was held at that

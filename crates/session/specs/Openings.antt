@@ -8,8 +8,8 @@ use Rattle.report_line.specs.declared.call.Call.TheVariants as calls
 use Rattle.report_line.specs.declared.reply.Reply.{Reply}
 use Rattle.chains.specs.Processes.{Name}
 use Rattle.chains.specs.Held.{Held}
-use Rattle.line_text.specs.Questions.{IsLineFor}
-use Rattle.settled_turns.specs.Traces.{Trace, Stepped, Turned, AreTurns, ProcessesObey}
+use Rattle.line_answer.specs.Questions.{IsLineFor}
+use Rattle.law_turns.specs.Traces.{Trace, Stepped, Turned, AreTurns, ProcessesObey}
 use Rattle.desk.specs.declared.turn.Turn.{Turn}
 use Rattle.desk.specs.Files.{UsesDevice}
 use Rattle.desk.specs.Lawful.{unstopped}

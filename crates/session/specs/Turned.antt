@@ -8,7 +8,7 @@ use Rattle.reasons.specs.Shown.{IsShown}
 use Rattle.desk.specs.Desks.{DeskState}
 use Rattle.desk.specs.declared.turn.Turn.{Turn}
 use Rattle.session.specs.Exchanges.{Exchange}
-use Rattle.line_text.specs.Questions.{IsChosenFor}
+use Rattle.line_answer.specs.Questions.{IsChosenFor}
 
 -- the call takes its turn with this reply, and what is shown is shown for it
 pub record IsExchange (held : Held) (exchange : Exchange) (after : Held) : Type 0 where

@@ -1,9 +1,9 @@
 -- Two openings of one file with a settlement in the second, written out: so the law of openings speaks of something.
 use Rattle.std.specs.Prelude.{◌≡◌, [], ◌++◌, take, drop}
-use Rattle.histories.specs.Example.{a}
+use Rattle.law_histories.specs.Example.{a}
 use Rattle.chains.specs.Held.{Held}
-use Rattle.settled_turns.specs.Traces.{Trace, ProcessesObey}
-use Rattle.settled_turns.specs.Example.{settled_once, held_then}
+use Rattle.law_turns.specs.Traces.{Trace, ProcessesObey}
+use Rattle.law_turns.specs.Example.{settled_once, held_then}
 use Rattle.session.specs.Current.{recorded_in}
 use Rattle.session.specs.Openings.{AreRecordable, IsHeldOver}
 

@@ -10,7 +10,7 @@ ghost use Rattle.desk.specs.Lawful.{unstopped};
 ghost use Rattle.session.specs.Answered.{BothHeadlinesAreOne, WhatIsAcceptedWasAnswered};
 ghost use Rattle.session.specs.Exchanges.{Exchange, ReplayTo};
 ghost use Rattle.session.specs.declared.kind.SessionEndKind.TheVariants as kinds;
-ghost use Rattle.line_text.specs.Questions.{IsChosenText};
+ghost use Rattle.line_answer.specs.Questions.{IsChosenText};
 ghost use Rattle.session.specs.Current.{EachFileTellsARun, EachLineIsRightNow, EachSharedLineIsRightNow, NoLineIsBelowGarbage, NoSharedLineIsBelowGarbage};
 ghost use Rattle.session.specs.OneText.{IsUndisturbed};
 ghost use Rattle.session.specs.Openings.{DesksAreOverFiles, EachFileHasATrace, NoLineIsBelowGarbageOverFiles, SessionsAreOverFiles, WhatIsHeldIsOpened};

@@ -5,13 +5,13 @@ ghost use Rattle.chains.specs.Held.{held_of};
 ghost use Rattle.desk.specs.Files.{IsShort};
 ghost use Rattle.desk.specs.Records.{IsReadOff};
 ghost use Rattle.reasons.specs.Shown.{IsShown};
-ghost use Rattle.line_text.specs.Questions.{IsChosenFor};
+ghost use Rattle.line_answer.specs.Questions.{IsChosenFor};
 ghost use Rattle.session.specs.working.Parts.{MakesTurn, call_read};
 
 use chains::Chains;
 use desk::{Desk, TurnFault};
+use line_answer::answer_for;
 use line_disk::Disk;
-use line_text::answer_for;
 use report_line::{Call, Code, LineFault, Reply};
 
 /// Memory was wanting.

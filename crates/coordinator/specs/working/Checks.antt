@@ -8,7 +8,7 @@ use Rattle.desk.specs.declared.turn.Turn.{Turn}
 use Rattle.coordinator.specs.declared.marking.Owner.{Owner}
 use Rattle.coordinator.specs.declared.fault.CloseFault.{CloseFault}
 use Rattle.coordinator.specs.declared.fault.CloseFault.TheVariants.{Stranger, Missing, Memory}
-use Rattle.line_text.specs.Questions.{IsLineFor}
+use Rattle.line_answer.specs.Questions.{IsLineFor}
 use Rattle.coordinator.specs.Passes.{PassEntry, PassState}
 use Rattle.coordinator.specs.Closing.{ShowsRightly, ShowsWrongly}
 use Rattle.coordinator.specs.working.Marks.{owner_at}

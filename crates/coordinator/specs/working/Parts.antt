@@ -6,7 +6,7 @@ use Rattle.report_line.specs.declared.reply.Reply.TheVariants.{Line, Taken}
 use Rattle.chains.specs.Held.{Held}
 use Rattle.chains.specs.Folded.{IsReached}
 use Rattle.chains.specs.Turns.{no_memory}
-use Rattle.line_text.specs.Questions.{IsAnswer}
+use Rattle.line_answer.specs.Questions.{IsAnswer}
 use Rattle.coordinator.specs.Passes.{PassEntry, PassState}
 
 -- the reply that is shown: the one that stands in its place, if one does

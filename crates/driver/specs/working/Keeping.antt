@@ -7,7 +7,7 @@ use Rattle.report_line.specs.declared.step.StepKind.{StepKind}
 use Rattle.report_line.specs.declared.step.StepKind.TheVariants.{Receive, Fork, Absorb}
 use Rattle.report_line.specs.declared.step.Step.{Step as Taken}
 use Rattle.report_line.specs.histories.History.{Name, History}
-use Rattle.settled_histories.specs.Kept.{Cut, IsClosed, kept}
+use Rattle.law_histories.specs.Kept.{Cut, IsClosed, kept}
 use Rattle.driver.specs.declared.known.Known.{Known}
 use Rattle.driver.specs.declared.known.Known.TheVariants.{Waits}
 use Rattle.driver.specs.declared.tables.Tables.{Tables}

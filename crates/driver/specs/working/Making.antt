@@ -21,7 +21,7 @@ use Rattle.report_line.specs.declared.step.StepKind.{StepKind}
 use Rattle.report_line.specs.declared.step.StepKind.TheVariants.{Fork, Retire, Absorb}
 use Rattle.report_line.specs.Names.{is_name}
 use Rattle.report_line.specs.Spelling.{AreFields}
-use Rattle.lawful_reports.specs.HandedOver.{HasLine}
+use Rattle.law_admission.specs.HandedOver.{HasLine}
 use Rattle.driver.specs.declared.step.StepRequest.{StepRequest}
 use Rattle.driver.specs.declared.fault.StepFault.{StepFault}
 use Rattle.driver.specs.declared.fault.StepFault.TheVariants as faults

@@ -9,7 +9,7 @@ use Rattle.report_line.specs.declared.step.Step.{Step as Taken}
 use Rattle.report_line.specs.histories.History.{Name, History}
 use Rattle.chains.specs.declared.position.Position.{Position}
 use Rattle.chains.specs.declared.position.Position.TheVariants.{At, Retired}
-use Rattle.settled_histories.specs.Kept.{Cut}
+use Rattle.law_histories.specs.Kept.{Cut}
 use Rattle.driver.specs.declared.line.NamedPosition.{NamedPosition}
 use Rattle.driver.specs.declared.mark.Mark.{Mark}
 

@@ -11,7 +11,7 @@ use Rattle.report_line.specs.declared.step.Step.{Step as Taken}
 use Rattle.report_line.specs.histories.History.{Name, History, Event, Status, Unborn, Living, Retired, Absorbed, status, sending}
 use Rattle.report_line.specs.histories.Lawful.{IsLawful}
 use Rattle.report_line.specs.histories.StepReports.{is_reported, reporting_steps, report_of}
-use Rattle.lawful_reports.specs.HandedOver.{handed_over, HasLine}
+use Rattle.law_admission.specs.HandedOver.{handed_over, HasLine}
 use Rattle.driver.specs.Stamping.{stamp_of}
 use Rattle.driver.specs.declared.known.Known.{Known}
 use Rattle.driver.specs.declared.known.Known.TheVariants.{Born, Lives, Waits, Gone}

@@ -2,7 +2,7 @@
 
 use super::answer::put_number;
 use chains::Chains;
-use lawful_reports::{Refused, hand_over};
+use law_admission::{Refused, hand_over};
 use report_line::{Call, PackedReport, read_line};
 use std::alloc::{AllocError, Global};
 

@@ -2,7 +2,7 @@ use Rattle.std.proofs.Common.{◌≡◌, ◌≢◌, Bool, false, refl, sym, ◌�
 use Rattle.std.specs.Str.{bytes_eq}
 use Rattle.std.proofs.lemmas.Bool.{true≢false}
 use Rattle.report_line.specs.histories.History.{Name}
-use Rattle.histories.proofs.Bytes.{bytes_same}
+use Rattle.law_histories.proofs.Bytes.{bytes_same}
 use Rattle.driver.proofs.Owners.{owner}
 use Rattle.driver.proofs.Made.{makes_retire}
 use Rattle.driver.proofs.making.retire.Goals as goal

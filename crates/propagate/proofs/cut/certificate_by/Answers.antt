@@ -3,7 +3,7 @@ use Rattle.chains.specs.Processes.{known}
 use Rattle.std.specs.List.Sorted.{IsStrictlyIncreasing}
 use Rattle.chains.specs.Positions.{IsCut}
 use Rattle.reasons.specs.Certificates.{AreReasons, positions_of}
-use Rattle.history_law.specs.Headline.{IsLineOfHistories}
+use Rattle.law_lines.specs.Headline.{IsLineOfHistories}
 use Rattle.propagate.specs.Choice.{AreChosen}
 use Rattle.propagate.proofs.cut.certificate_by.Goals as goal
 

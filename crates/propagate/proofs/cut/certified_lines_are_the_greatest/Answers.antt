@@ -1,7 +1,7 @@
 -- What certifies is the greatest stamp-consistent cut, and so the greatest closed one.
 use Rattle.reasons.specs.Certificates.{positions_of}
 use Rattle.knows_row.proofs.Lawful.{lawful}
-use Rattle.history_law.proofs.Lines.{line_of_histories}
+use Rattle.law_lines.proofs.Lines.{line_of_histories}
 use Rattle.propagate.proofs.Certified.{certified_is_greatest}
 use Rattle.propagate.proofs.cut.certified_lines_are_the_greatest.Goals as goal
 

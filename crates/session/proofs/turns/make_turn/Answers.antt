@@ -4,7 +4,7 @@ use Rattle.chains.specs.Held.{held_of}
 use Rattle.desk.specs.declared.turn.Turn.{Turn}
 use Rattle.reasons.specs.Shown.{IsShown}
 use Rattle.report_line.specs.declared.reply.Reply.TheVariants as replies
-use Rattle.line_text.specs.Questions.{IsChosenFor}
+use Rattle.line_answer.specs.Questions.{IsChosenFor}
 use Rattle.session.proofs.TurnSteps.{last_turn, makes_turn}
 use Rattle.session.proofs.turns.make_turn.Goals as goal
 

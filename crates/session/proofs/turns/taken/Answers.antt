@@ -2,8 +2,8 @@
 use Rattle.std.proofs.Common.{◌≡◌, ℕ, List, subst}
 use Rattle.report_line.specs.declared.reply.Reply.TheVariants.{Line}
 use Rattle.chains.specs.Held.{held_of}
-use Rattle.line_text.specs.Questions.{IsChosenFor}
-use Rattle.line_text.proofs.Texts.{shows_taken}
+use Rattle.line_answer.specs.Questions.{IsChosenFor}
+use Rattle.line_answer.proofs.Texts.{shows_taken}
 use Rattle.session.proofs.turns.taken.Goals as goal
 
 same_text : (s t : List ℕ) → Line s ≡ Line t → s ≡ t

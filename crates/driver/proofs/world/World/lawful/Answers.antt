@@ -1,5 +1,5 @@
 use Rattle.std.proofs.Common.{subst}
-use Rattle.history_law.specs.Places.{IsPremise}
+use Rattle.law_lines.specs.Places.{IsPremise}
 use Rattle.driver.specs.Chronicle.{Chronicle}
 use Rattle.driver.specs.Lines.{reported}
 use Rattle.driver.specs.working.Tables.{history_in}

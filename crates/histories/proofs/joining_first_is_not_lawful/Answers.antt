@@ -1,5 +1,0 @@
-use Rattle.histories.proofs.JoinFirst.{joins_first, not_lawful}
-use Rattle.histories.proofs.joining_first_is_not_lawful.Goals as goal
-
-pub returns : goal.returns
-returns c = record { joined = joins_first; unlawful = not_lawful }

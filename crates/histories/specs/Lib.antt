@@ -1,4 +1,0 @@
-pub mod Law
-pub mod Rules
-pub mod Example
-pub mod JoinFirst

@@ -1,4 +1,0 @@
-pub mod Places
-pub mod Headline
-pub mod TheLaw
-pub mod Example

@@ -1,5 +1,0 @@
-use Rattle.inspection.specs.working.Absorbed.{AreFlaggedTo}
-use Rattle.inspection.proofs.absorbed.absorbed.Given as goal
-
-abbrev pub invariant-loop-i : goal.invariant-loop-i
-invariant-loop-i l = AreFlaggedTo l.chains.accepted l.i l.flags.items

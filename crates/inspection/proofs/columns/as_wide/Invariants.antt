@@ -1,6 +1,0 @@
-use Rattle.std.proofs.Common.{◌≡◌, take}
-use Rattle.inspection.specs.Tables.{width}
-use Rattle.inspection.proofs.columns.as_wide.Given as goal
-
-abbrev pub invariant-loop-process : goal.invariant-loop-process
-invariant-loop-process l = l.width ≡ width (take l.process-index l.processes) l.column

@@ -1,5 +1,0 @@
-use Rattle.inspection.proofs.Sequences.{four}
-use Rattle.inspection.proofs.json.push_counts.Goals as goal
-
-pub returns : goal.returns
-returns c = four _ _ _ _ _ _ _ _ _ c.in_ok-push_number.ensures c.in_ok-push_number-2.ensures c.in_ok-push_number-3.ensures c.in_ok-push_number-4.ensures

@@ -1,0 +1,11 @@
+pub mod Places
+pub mod Headline
+pub mod TheLaw
+pub mod Example
+pub mod Settled
+pub mod Agreeing
+pub mod Returned
+pub mod Runs
+pub mod SettledExample
+pub mod TwoSettlements
+pub mod Garbage

@@ -1,6 +1,0 @@
-use Rattle.std.proofs.lemmas.Result.{IfOk-weaker}
-use Rattle.process_law.proofs.Calls.{first_is_newest}
-use Rattle.process_law.proofs.accounted.root.Goals as goal
-
-pub returns-clause-newest : goal.returns-clause-newest
-returns-clause-newest c = IfOk-weaker c.root.result _ _ (λ begun is. first_is_newest c.args.name.now begun.0 is) c.root.ensures.process

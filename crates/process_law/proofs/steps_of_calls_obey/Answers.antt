@@ -1,6 +1,0 @@
--- The law is proved in `Turning`.
-use Rattle.process_law.proofs.Turning.{steps_of_calls_obey}
-use Rattle.process_law.proofs.steps_of_calls_obey.Goals as goal
-
-pub returns : goal.returns
-returns c = steps_of_calls_obey

@@ -1,4 +1,4 @@
--- Working definitions: records as the code keeps them.
+-- Records as the code keeps them.
 use Rattle.std.specs.Prelude.{ℕ, List, map, Vec}
 use Rattle.std.specs.declared.alloc.Global.{Global}
 use Rattle.record_file.specs.File.{Said}

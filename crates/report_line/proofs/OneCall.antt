@@ -22,7 +22,7 @@ use Rattle.report_line.specs.declared.fault.LineFault.{LineFault}
 use Rattle.report_line.specs.declared.fault.LineFault.TheVariants.{Grammar, Memory}
 use Rattle.report_line.specs.Spelling.{AreFields, mark_text, action_word, action_fields, report_words, words_of, spelling, IsAction, IsSpelledIn, HasSpelling}
 use Rattle.report_line.specs.Cuts.{Lacks, words_in}
-use Rattle.report_line.specs.Reading.{Finds, Takes, Reads, IsCallOf, IsActionOf, IsNumberedOf, IsMarkedWord, IsOtherKind}
+use Rattle.report_line.specs.Reading.{Finds, Reads, Takes, IsCallOf, IsActionOf, IsNumberedOf, IsMarkedWord, IsOtherKind}
 use Rattle.report_line.proofs.Parting.{words_joined, joined_words}
 use Rattle.report_line.proofs.Marks.{one_word_and_epoch}
 use Rattle.report_line.proofs.Plain.{ArePlain, plain_words}

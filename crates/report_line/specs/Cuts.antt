@@ -1,5 +1,5 @@
 -- A line as the words that its spaces part.
-use Rattle.std.specs.Prelude.{◌≡◌, ℕ, ◌==◌, false, List, [], ◌∷◌, ◌++◌, Option, Some, None}
+use Rattle.std.specs.Prelude.{◌≡◌, ◌⊎◌, ℕ, ◌==◌, false, List, [], ◌∷◌, ◌++◌, Option, Some, None}
 use Rattle.std.specs.List.{AllByRecursion, slice_split}
 use Rattle.std.specs.Borrow.{Bor}
 
@@ -20,3 +20,7 @@ words_left (Some rest) = words_in rest.now
 abbrev pub spaced : List (List ℕ) → List ℕ
 spaced [] = []
 spaced (word ∷ words) = 32 ∷ (word ++ spaced words)
+
+-- one word was taken, if one was left
+abbrev pub IsOneTaken : List (List ℕ) → List (List ℕ) → Type 0
+IsOneTaken old new = ((old ≡ []) × (new ≡ [])) ⊎ ((word : List ℕ) × (old ≡ word ∷ new))

@@ -19,7 +19,7 @@ is_name (b ∷ bs) = is_letter b && nat_le (length bs) 31 && list_all is_name_by
 abbrev pub AreNames : List (List ℕ) → Type 0
 AreNames ns = AllByRecursion (λ n. IsTrue (is_name n)) ns
 
--- the parts of a list, which commas end
+-- the parts of a list, with commas between them
 unfoldable pub parts_in : List ℕ → List (List ℕ)
 parts_in list = slice_split (λ b. b == 44) list
 

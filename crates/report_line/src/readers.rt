@@ -6,6 +6,7 @@ ghost use Rattle.std.specs.Fmt.{decimal};
 ghost use Rattle.id_tree.specs.NormalForm.{IsId};
 ghost use Rattle.id_tree.specs.Spelling as ids;
 ghost use Rattle.stamp.specs.Stamps.{IsStamp, stamp_text};
+ghost use Rattle.report_line.specs.Cuts.{IsOneTaken};
 ghost use Rattle.report_line.specs.Names.{is_name, wrong_part};
 ghost use Rattle.report_line.specs.Spelling.{IsCount, AreNames, names_text};
 ghost use Rattle.report_line.specs.Reading.{Finds, Takes};
@@ -69,7 +70,7 @@ pub fn read_names(alloc: Global, word: &[u8]) -> Result<Names, LineFault>
     Ok(names)
 }
 
-/// The first part of a list that is no name, where commas end the parts; nothing if each is a name. `-` is no name. It takes no memory.
+/// The first part of a list that is no name, with commas between them; nothing if each is a name. `-` is no name. It takes no memory.
 pub fn wrong_part(word: &[u8]) -> Option<&[u8]>
     ensures { option_copied result ≡ wrong_part word.now }
 {
@@ -85,7 +86,8 @@ pub fn wrong_part(word: &[u8]) -> Option<&[u8]>
 
 /// Takes the next word, and answers the name that it is; nothing if it is no name, or if no word is left.
 pub fn take_name(words: &mut Words<'_>) -> Option<Name>
-    ensures { MatchOption result ((p : List ℕ) → IsTrue (is_name p) → (rest : List (List ℕ)) → words.old ≢ p ∷ rest) (λ p. IsTrue (is_name p) × (words.old ≡ p ∷ words.new)) }
+    ensures name { MatchOption result ((p : List ℕ) → IsTrue (is_name p) → (rest : List (List ℕ)) → words.old ≢ p ∷ rest) (λ p. IsTrue (is_name p) × (words.old ≡ p ∷ words.new)) }
+    ensures taken { IsOneTaken words.old words.new }
 {
     Name::from_bytes(words.next()?)
 }

@@ -1,6 +1,5 @@
 -- What is accepted among exchanges without a settlement is what was answered OK, and so the headline may be said over that.
-use Rattle.std.proofs.Common.{◌≡◌, ◌⊎◌, inl, inr, ℕ, ◌+◌, Bool, true, false, List, [], ◌∷◌, ◌++◌, length, ◌∙◌, refl, sym, ap, subst, arith}
-use Rattle.std.specs.Prelude.{◌↔◌, ⊤}
+use Rattle.std.proofs.Common.{◌≡◌, ℕ, ◌+◌, Bool, true, false, List, [], ◌∷◌, ◌++◌, length, ◌∙◌, refl, sym, ap, subst, arith}
 use Rattle.std.proofs.lemmas.List.{append_assoc, append-nil, length-append}
 use Rattle.report_line.specs.declared.report.Report.{Report}
 use Rattle.report_line.specs.declared.marked.MarkedReport.{MarkedReport}
@@ -14,7 +13,6 @@ use Rattle.chains.specs.Held.{Held, with_stop}
 use Rattle.chains.specs.Admission.{held_after}
 use Rattle.chains.specs.Turns.{Fate, fine, memory, before, unknown, LeavesSettled, IsSettleAnswered, IsTurn}
 use Rattle.chains.proofs.Turning.{unchanged, after_report_turn}
-use Rattle.reasons.specs.declared.certificate.Certificate.{Certificate}
 use Rattle.law_lines.specs.Headline.{IsRightLine}
 use Rattle.line_answer.specs.Asking.{AsksForLine}
 use Rattle.session.specs.Exchanges.{Exchange, ReplayTo}
@@ -85,11 +83,11 @@ what_is_accepted_was_answered = exchanges_add
 
 -- ---- the front part of exchanges
 
-unsettled_before : (before later : List Exchange) → AreUnsettled (before ++ later) → AreUnsettled before
+unsettled_before : (earlier later : List Exchange) → AreUnsettled (earlier ++ later) → AreUnsettled earlier
 unsettled_before [] later none = tt
 unsettled_before (e ∷ es) later none = (none.0, unsettled_before es later none.1)
 
-come_before : (held after : Held) (before later : List Exchange) → ReplayTo held (before ++ later) after → (at : Held) × ReplayTo held before at
+come_before : (held after : Held) (earlier later : List Exchange) → ReplayTo held (earlier ++ later) after → (at : Held) × ReplayTo held earlier at
 come_before held after [] later comes = (held, refl)
 come_before held after (e ∷ es) later (mid, turned, more) = let rest = come_before mid after es later more in (rest.0, (mid, turned, rest.1))
 
@@ -133,15 +131,15 @@ moved : (a b : Held) (call : Call) (text : List ℕ) → a.accepted ≡ b.accept
 moved a b call text list front (names, asks, right) = (names, asks_over a b call names list asks, right_over a b names text list front right)
 
 to_answers : (held after : Held) (exchanges : List Exchange) → AreUnsettled exchanges → ReplayTo held exchanges after → EachLineIsRight held exchanges → EachLineIsRightOverAnswers held.accepted held.front exchanges
-to_answers held after exchanges none comes each before later exchange text split shown =
-    let at = come_before held after before (exchange ∷ later) (subst (λ (es : List Exchange). ReplayTo held es after) split comes) in
-    let adds = exchanges_add held at.0 before (unsettled_before before (exchange ∷ later) (subst AreUnsettled split none)) at.1 in
-    moved at.0 (with_ok_reports held.accepted held.front before) exchange.call text adds.0 adds.1 (each before later exchange text at.0 split at.1 shown)
+to_answers held after exchanges none comes each earlier later exchange text split shown =
+    let at = come_before held after earlier (exchange ∷ later) (subst (λ (es : List Exchange). ReplayTo held es after) split comes) in
+    let adds = exchanges_add held at.0 earlier (unsettled_before earlier (exchange ∷ later) (subst AreUnsettled split none)) at.1 in
+    moved at.0 (with_ok_reports held.accepted held.front earlier) exchange.call text adds.0 adds.1 (each earlier later exchange text at.0 split at.1 shown)
 
 from_answers : (held : Held) (exchanges : List Exchange) → AreUnsettled exchanges → EachLineIsRightOverAnswers held.accepted held.front exchanges → EachLineIsRight held exchanges
-from_answers held exchanges none each before later exchange text at split came shown =
-    let adds = exchanges_add held at before (unsettled_before before (exchange ∷ later) (subst AreUnsettled split none)) came in
-    moved (with_ok_reports held.accepted held.front before) at exchange.call text (sym adds.0) (sym adds.1) (each before later exchange text split shown)
+from_answers held exchanges none each earlier later exchange text at split came shown =
+    let adds = exchanges_add held at earlier (unsettled_before earlier (exchange ∷ later) (subst AreUnsettled split none)) came in
+    moved (with_ok_reports held.accepted held.front earlier) at exchange.call text (sym adds.0) (sym adds.1) (each earlier later exchange text split shown)
 
 pub both_headlines_are_one : BothHeadlinesAreOne
 both_headlines_are_one held after exchanges none comes = (to_answers held after exchanges none comes, from_answers held exchanges none)

@@ -11,7 +11,7 @@ use Rattle.report_line.specs.declared.report.Report.{Report}
 use Rattle.report_line.specs.declared.report.Report.TheVariants.{Begin, Numbered}
 use Rattle.chains.specs.declared.process.Process.{Process}
 use Rattle.chains.specs.Processes.{Name, known, is_numbered_of}
-use Rattle.chains.specs.Elements.{name_of, lasting_of}
+use Rattle.chains.specs.Elements.{name_of, stable_of}
 use Rattle.chains.specs.working.LastRun.{run_by, run_after}
 use Rattle.chains.specs.Admission.{report_limit, process_limit}
 use Rattle.chains.specs.Folded.{IsFit, IsFolded, one_folded}
@@ -49,9 +49,9 @@ may_be_kept k names processes (Numbered r) i h rooms at room = record {
 -- the last run of the process that reports, after its report
 abbrev pub IsRunAfter : List Report → Report → ℕ → Type 0
 IsRunAfter accepted (Begin p) run = ⊤
-IsRunAfter accepted (Numbered r) run = run ≡ run_by (lasting_of r.process accepted) r.stamp r.action
+IsRunAfter accepted (Numbered r) run = run ≡ run_by (stable_of r.process accepted) r.stamp r.action
 
-pub is_run_after : (accepted : List Report) (r : Report) (i run : ℕ) → IsNumberOf accepted r i → ((p : Name) → name_of accepted i ≡ Some p → run ≡ run_after (lasting_of p accepted) r) → IsRunAfter accepted r run
+pub is_run_after : (accepted : List Report) (r : Report) (i run : ℕ) → IsNumberOf accepted r i → ((p : Name) → name_of accepted i ≡ Some p → run ≡ run_after (stable_of p accepted) r) → IsRunAfter accepted r run
 is_run_after accepted (Begin p) i run at h = tt
 is_run_after accepted (Numbered r) i run at h = h r.process at
 

@@ -12,7 +12,7 @@ use Rattle.id_tree.specs.Points.{Point, owns, OwnsSome}
 use Rattle.id_tree.specs.Split.{IsSplit}
 use Rattle.event_tree.specs.EventTree.{EventTree}
 use Rattle.event_tree.specs.Values.{value_at, IsAtOrBelow, ExceedsOn}
-use Rattle.event_tree.specs.Tests.{exceeds_from}
+use Rattle.event_tree.specs.working.Tests.{exceeds_from}
 use Rattle.event_tree.proofs.Orders.{exceeding_is_pointwise}
 use Rattle.report_line.specs.declared.report.Report.{Report}
 use Rattle.chains.specs.Processes.{Name, known, IsKnown, target_of, is_absorbed, Waits}

@@ -18,8 +18,8 @@ use Rattle.report_line.specs.declared.report.NumberedReport.{NumberedReport}
 use Rattle.report_line.specs.declared.report.Report.{Report}
 use Rattle.report_line.specs.declared.report.Report.TheVariants.{Begin, Numbered}
 use Rattle.chains.specs.Processes.{Name, newborn, child_of, known, IsKnown, first_of, last_passing, is_numbered_of, is_birth_of, is_absorb_of, is_absorbed, target_after}
-use Rattle.chains.specs.Elements.{name_of, lasting_made, lasting_by, lasting_of}
-use Rattle.chains.specs.LastRun.{last_run}
+use Rattle.chains.specs.Elements.{name_of, stable_made, stable_by, stable_of}
+use Rattle.chains.specs.LastRun.{same_id_from}
 use Rattle.chains.specs.working.LastRun.{run_by}
 use Rattle.report_line.specs.declared.marked.MarkedReport.{MarkedReport}
 use Rattle.chains.specs.Held.{Held}
@@ -74,7 +74,7 @@ one_changed f g change names i p lt here elsewhere =
 
 -- ---- a known process, beside the one that reports
 
-module _ (accepted : List Report) (r : NumberedReport) (i run : ℕ) (is_run : run ≡ run_by (lasting_of r.process accepted) r.stamp r.action) (fit : IsFitReport accepted r) (distinct : AreDistinctNames (known accepted)) (at : name_of accepted i ≡ Some r.process) where
+module _ (accepted : List Report) (r : NumberedReport) (i run : ℕ) (is_run : run ≡ run_by (stable_of r.process accepted) r.stamp r.action) (fit : IsFitReport accepted r) (distinct : AreDistinctNames (known accepted)) (at : name_of accepted i ≡ Some r.process) where
   within : i < length (known accepted)
   within = slice_get_within (known accepted) i r.process at
 
@@ -93,7 +93,7 @@ module _ (accepted : List Report) (r : NumberedReport) (i run : ℕ) (is_run : r
 
   -- what is kept, but for absorbs
   abbrev pub mid : Name → KeptProcess
-  mid q = merged (length accepted) run (is_numbered_of q (Numbered r)) (is_some (lasting_made q (Numbered r))) false (kept_of accepted q)
+  mid q = merged (length accepted) run (is_numbered_of q (Numbered r)) (is_some (stable_made q (Numbered r))) false (kept_of accepted q)
 
   mid_own : mid r.process ≡ noted (length accepted) run (is_check r.action) (kept_of accepted r.process)
   mid_own = rw (same_bytes r.process, own_lasts r r.action (old r.process fit.is_known)) (merged_own (length accepted) run (is_check r.action) (kept_of accepted r.process))
@@ -111,7 +111,7 @@ module _ (accepted : List Report) (r : NumberedReport) (i run : ℕ) (is_run : r
   pub kept_mid : (q : Name) → IsKnown accepted q → is_absorb_of q (Numbered r) ≡ false → kept_of (accepted ++ Numbered r ∷ []) q ≡ mid q
   kept_mid q is e =
       kept-push accepted (Numbered r) q run (no_birth q r r.action (old q is)) (run-push accepted r q run (old q is) is_run)
-      ∙ ap (λ (b : Bool). merged (length accepted) run (is_numbered_of q (Numbered r)) (is_some (lasting_made q (Numbered r))) b (kept_of accepted q)) e
+      ∙ ap (λ (b : Bool). merged (length accepted) run (is_numbered_of q (Numbered r)) (is_some (stable_made q (Numbered r))) b (kept_of accepted q)) e
 
   -- no process is absorbed
   pub kept_plain : ((q : Name) → is_absorb_of q (Numbered r) ≡ false) → map (kept_of (accepted ++ Numbered r ∷ [])) (known accepted) ≡ changed_at (noted (length accepted) run (is_check r.action)) i (map (kept_of accepted) (known accepted))
@@ -133,24 +133,24 @@ none_index : {X : Type 0} (test : X → Bool) (xs : List X) → list_any test xs
 none_index test [] e = refl
 none_index test (x ∷ xs) e = let both = or_parts (test x) (list_any test xs) e in rw (both.0, none_index test xs both.1) refl
 
-nothing_by : (q : Name) (r : NumberedReport) (a : ReportKind) → is_birth_of q (Numbered (doing r a)) ≡ false → bytes_eq q r.process ≡ false → is_some (lasting_by q r a) ≡ false
+nothing_by : (q : Name) (r : NumberedReport) (a : ReportKind) → is_birth_of q (Numbered (doing r a)) ≡ false → bytes_eq q r.process ≡ false → is_some (stable_by q r a) ≡ false
 nothing_by q r Check b e = some_if (bytes_eq q r.process) r.stamp ∙ e
 nothing_by q r (Fork f) b e = some_if (bytes_eq q f.child) _ ∙ b
 nothing_by q r _ b e = refl
 
-pub nothing_made : (q : Name) (r : Report) → is_birth_of q r ≡ false → is_numbered_of q r ≡ false → is_some (lasting_made q r) ≡ false
+pub nothing_made : (q : Name) (r : Report) → is_birth_of q r ≡ false → is_numbered_of q r ≡ false → is_some (stable_made q r) ≡ false
 nothing_made q (Begin p) b n = some_if (bytes_eq q p) _ ∙ b
 nothing_made q (Numbered r) b e = nothing_by q r r.action b e
 
-nothing_lasts : (q : Name) (n : ℕ) (xs : List Report) → list_any (is_birth_of q) xs ≡ false → list_any (is_numbered_of q) xs ≡ false → indexes_from (lasting_made q) n xs ≡ []
+nothing_lasts : (q : Name) (n : ℕ) (xs : List Report) → list_any (is_birth_of q) xs ≡ false → list_any (is_numbered_of q) xs ≡ false → indexes_from (stable_made q) n xs ≡ []
 nothing_lasts q n [] b e = refl
 nothing_lasts q n (r ∷ rs) b e =
     let births = or_parts (is_birth_of q r) (list_any (is_birth_of q) rs) b in
     let numbers = or_parts (is_numbered_of q r) (list_any (is_numbered_of q) rs) e in
     rw (nothing_made q r births.0 numbers.0) (nothing_lasts q (suc n) rs births.1 numbers.1)
 
-no_elements : (q : Name) (xs : List Report) → list_any (is_birth_of q) xs ≡ false → list_any (is_numbered_of q) xs ≡ false → lasting_of q xs ≡ []
-no_elements q xs b e = none_there (lasting_of q xs) (sym (indexes-length (lasting_made q) 0 xs) ∙ ap (λ (js : List ℕ). length js) (nothing_lasts q 0 xs b e))
+no_elements : (q : Name) (xs : List Report) → list_any (is_birth_of q) xs ≡ false → list_any (is_numbered_of q) xs ≡ false → stable_of q xs ≡ []
+no_elements q xs b e = none_there (stable_of q xs) (sym (indexes-length (stable_made q) 0 xs) ∙ ap (λ (js : List ℕ). length js) (nothing_lasts q 0 xs b e))
   where
     none_there : (ss : List Stamp) → length ss ≡ 0 → ss ≡ []
     none_there [] same = refl
@@ -177,7 +177,7 @@ unknown_none accepted q folded unknown =
     )
 
 -- what is kept of a process that is born
-pub kept_born : (accepted : List Report) (x : Report) (q : Name) → IsFolded accepted → ¬ IsKnown accepted q → is_birth_of q x ≡ true → is_numbered_of q x ≡ false → is_some (lasting_made q x) ≡ true → is_absorb_of q x ≡ false
+pub kept_born : (accepted : List Report) (x : Report) (q : Name) → IsFolded accepted → ¬ IsKnown accepted q → is_birth_of q x ≡ true → is_numbered_of q x ≡ false → is_some (stable_made q x) ≡ true → is_absorb_of q x ≡ false
     → kept_of (accepted ++ x ∷ []) q ≡ born (length accepted)
 kept_born accepted x q folded unknown birth number lasts absorbs =
     let none = unknown_none accepted q folded unknown in
@@ -185,7 +185,7 @@ kept_born accepted x q folded unknown birth number lasts absorbs =
     (reports-push q accepted x ∙ rw (none_counted (is_numbered_of q) accepted none.1, number) refl)
     (last_index-push (is_numbered_of q) accepted x ∙ rw (none_index (is_numbered_of q) accepted none.1, number) refl)
     (ap (λ (o : Option ℕ). unwrap_or o 0) (last_index-push (is_birth_of q) accepted x) ∙ rw birth refl)
-    (indexes-push (lasting_made q) 0 accepted x ∙ rw (nothing_lasts q 0 accepted none.0 none.1, lasts) (ap (λ (m : ℕ). m ∷ []) (let e : 0 + length accepted ≡ length accepted = omega arith in e)))
+    (indexes-push (stable_made q) 0 accepted x ∙ rw (nothing_lasts q 0 accepted none.0 none.1, lasts) (ap (λ (m : ℕ). m ∷ []) (let e : 0 + length accepted ≡ length accepted = omega arith in e)))
     (run_born q accepted x (no_elements q accepted none.0 none.1))
     (absorbed-push q accepted x ∙ rw (none.2, absorbs) refl)
 
@@ -197,7 +197,7 @@ new_name accepted q unknown =
 
 -- ---- a retirement that is absorbed
 
-pub kept_taken : (accepted : List Report) (r : NumberedReport) (retired : Name) (i run : ℕ) (o : Option ℕ) (after : List KeptProcess) → run ≡ last_run (lasting_of r.process accepted) → IsFitReport accepted (doing r (Absorb retired)) → AreDistinctNames (known accepted) → name_of accepted i ≡ Some r.process
+pub kept_taken : (accepted : List Report) (r : NumberedReport) (retired : Name) (i run : ℕ) (o : Option ℕ) (after : List KeptProcess) → run ≡ same_id_from (stable_of r.process accepted) → IsFitReport accepted (doing r (Absorb retired)) → AreDistinctNames (known accepted) → name_of accepted i ≡ Some r.process
     → position (pointwise nat_eq retired) (known accepted) ≡ o → TakenAt (known accepted) retired o (changed_at (noted (length accepted) run false) i (map (kept_of accepted) (known accepted))) after
     → after ≡ map (kept_of (accepted ++ Numbered (doing r (Absorb retired)) ∷ [])) (known accepted)
 kept_taken accepted r retired i run None after is_run fit distinct at e is =
@@ -217,8 +217,8 @@ kept_taken accepted r retired i run (Some j) after is_run fit distinct at e is =
     let kept = kept_of (accepted ++ x ∷ []) in
     let m = mid accepted own i run is_run fit distinct at in
     let here : kept (get_or (known accepted) j retired) ≡ taken (m (get_or (known accepted) j retired)) =
-    rw found.1 (kept-push accepted x retired run (no_birth retired r (Absorb retired) (λ child f. absurd (none_some child f))) (run-push accepted own retired run (λ child f. absurd (none_some child f)) is_run) ∙ ap (λ (b : Bool). merged (length accepted) run (is_numbered_of retired x) (is_some (lasting_made retired x)) b (kept_of accepted retired)) (same_bytes retired)
-    ∙ merged_absorbed (length accepted) run (is_numbered_of retired x) (is_some (lasting_made retired x)) (kept_of accepted retired)) in
+    rw found.1 (kept-push accepted x retired run (no_birth retired r (Absorb retired) (λ child f. absurd (none_some child f))) (run-push accepted own retired run (λ child f. absurd (none_some child f)) is_run) ∙ ap (λ (b : Bool). merged (length accepted) run (is_numbered_of retired x) (is_some (stable_made retired x)) b (kept_of accepted retired)) (same_bytes retired)
+    ∙ merged_absorbed (length accepted) run (is_numbered_of retired x) (is_some (stable_made retired x)) (kept_of accepted retired)) in
     let elsewhere : (k : ℕ) → k < length (known accepted) → k ≢ j → kept (get_or (known accepted) k retired) ≡ m (get_or (known accepted) k retired) =
     λ k lt d. kept_mid accepted own i run is_run fit distinct at (get_or (known accepted) k retired) (k, lt, get_or_default (known accepted) k (get_or (known accepted) k retired) retired lt)
     (other_bytes (get_or (known accepted) k retired) retired (λ f. d (distinct k j retired lt found.0 (f ∙ sym found.1)))) in
@@ -249,7 +249,7 @@ plain accepted r after none is =
     let same : known (accepted ++ Numbered r ∷ []) ≡ known accepted = known-push accepted (Numbered r) ∙ ap (λ (o : Option Name). known accepted ++ cons_option o []) none ∙ append-nil (known accepted) in
     (ap (names_with (known accepted)) none ∙ sym same, is ∙ sym (ap (map (kept_of (accepted ++ Numbered r ∷ []))) same))
 
-pub in_order_numbered : (accepted : List Report) (r : NumberedReport) (a : ReportKind) (i run : ℕ) (after : List KeptProcess) → run ≡ run_by (lasting_of r.process accepted) r.stamp a → IsFolded accepted → AreDistinctNames (known accepted) → name_of accepted i ≡ Some r.process
+pub in_order_numbered : (accepted : List Report) (r : NumberedReport) (a : ReportKind) (i run : ℕ) (after : List KeptProcess) → run ≡ run_by (stable_of r.process accepted) r.stamp a → IsFolded accepted → AreDistinctNames (known accepted) → name_of accepted i ≡ Some r.process
     → IsFitReport accepted (doing r a) → IsKeptByAction (known accepted) (changed_at (noted (length accepted) run (is_check a)) i (map (kept_of accepted) (known accepted))) a (length accepted) after
     → (names_with (known accepted) (child_of a) ≡ known (accepted ++ Numbered (doing r a) ∷ [])) × (after ≡ map (kept_of (accepted ++ Numbered (doing r a) ∷ [])) (known (accepted ++ Numbered (doing r a) ∷ [])))
 in_order_numbered accepted r (Absorb retired) i run after is_run folded distinct at fit is =

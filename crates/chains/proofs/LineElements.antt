@@ -13,7 +13,7 @@ use Rattle.chains.specs.declared.position.Place.{Place}
 use Rattle.chains.specs.declared.position.Position.{Position}
 use Rattle.chains.specs.declared.position.Position.TheVariants.{At}
 use Rattle.chains.specs.Processes.{Name, known, IsKnown, is_birth_of, is_numbered_of, last_report}
-use Rattle.chains.specs.Elements.{name_of, elements, elements_of, lasting_made, lasting_of, present_in}
+use Rattle.chains.specs.Elements.{name_of, elements, elements_of, stable_made, stable_of, present_in}
 use Rattle.chains.specs.Positions.{rank, position_in, positions_of, IsChosen, IsCut}
 use Rattle.chains.specs.Folded.{IsFolded}
 use Rattle.chains.specs.working.Inside.{first_stamp}
@@ -73,14 +73,14 @@ chosen_there accepted line i cut lt =
 
 -- ---- a process that is not known has no elements
 
-none_made : (p : Name) (xs : List Report) → list_any (is_birth_of p) xs ≡ false → list_any (is_numbered_of p) xs ≡ false → lasting_of p xs ≡ []
+none_made : (p : Name) (xs : List Report) → list_any (is_birth_of p) xs ≡ false → list_any (is_numbered_of p) xs ≡ false → stable_of p xs ≡ []
 none_made p [] b e = refl
 none_made p (r ∷ rs) b e =
     let births = or_parts (is_birth_of p r) (list_any (is_birth_of p) rs) b in
     let numbers = or_parts (is_numbered_of p r) (list_any (is_numbered_of p) rs) e in
-    by (lasting_made p r) (nothing_made p r births.0 numbers.0) ∙ none_made p rs births.1 numbers.1
+    by (stable_made p r) (nothing_made p r births.0 numbers.0) ∙ none_made p rs births.1 numbers.1
   where
-    by : (o : Option Stamp) → is_some o ≡ false → cons_option o (lasting_of p rs) ≡ lasting_of p rs
+    by : (o : Option Stamp) → is_some o ≡ false → cons_option o (stable_of p rs) ≡ stable_of p rs
     by None is = refl
     by (Some s) is = absurd (true≢false is)
 

@@ -12,11 +12,11 @@ use Rattle.report_line.specs.declared.report.NumberedReport.{NumberedReport}
 use Rattle.report_line.specs.declared.report.Report.{Report}
 use Rattle.report_line.specs.declared.report.Report.TheVariants.{Begin, Numbered}
 use Rattle.chains.specs.Processes.{Name, first_of, last_report}
-use Rattle.chains.specs.Elements.{lasting_made, lasting_of, makes_lasting, present_in, present_report, elements_of, makers_of, element_made}
+use Rattle.chains.specs.Elements.{stable_made, stable_of, makes_stable, present_in, present_report, elements_of, makers_of, element_made}
 use Rattle.chains.proofs.Stepping.{doing}
 use Rattle.chains.proofs.Showing.{get_front, get_behind}
 
--- ---- the lasting ones
+-- ---- the stable ones
 
 same_count_step : {X Y : Type 0} (x : X) (xs : List X) (ys : List Y) (o : Option Y) → length xs ≡ length ys → length (if is_some o then x ∷ xs else xs) ≡ length (cons_option o ys)
 same_count_step x xs ys None e = e
@@ -62,27 +62,27 @@ one_present_report (Some (Numbered r)) = one_by_action r r.action
 
 pub makers_make : (p : Name) (accepted : List Report) → map (element_made p) (makers_of p accepted) ≡ map (λ s. Some s) (elements_of p accepted)
 makers_make p accepted =
-    map-append (element_made p) (filter (makes_lasting p) accepted) (present_report (last_report p accepted))
-    ∙ ap (λ (l : List (Option Stamp)). l ++ map (element_made p) (present_report (last_report p accepted))) (all_made (lasting_made p) (λ r. slice_get (present_in (Some r)) 0) accepted)
-    ∙ ap (λ (l : List (Option Stamp)). map (λ s. Some s) (lasting_of p accepted) ++ l) (present_made p (last_report p accepted))
-    ∙ sym (map-append (λ s. Some s) (lasting_of p accepted) (present_in (last_report p accepted)))
+    map-append (element_made p) (filter (makes_stable p) accepted) (present_report (last_report p accepted))
+    ∙ ap (λ (l : List (Option Stamp)). l ++ map (element_made p) (present_report (last_report p accepted))) (all_made (stable_made p) (λ r. slice_get (present_in (Some r)) 0) accepted)
+    ∙ ap (λ (l : List (Option Stamp)). map (λ s. Some s) (stable_of p accepted) ++ l) (present_made p (last_report p accepted))
+    ∙ sym (map-append (λ s. Some s) (stable_of p accepted) (present_in (last_report p accepted)))
 
 -- the maker of an element that lasts
-pub maker_lasting : (p : Name) (accepted : List Report) (k : ℕ) (r : Report) → Some r ≡ slice_get (filter (makes_lasting p) accepted) k → Some r ≡ slice_get (makers_of p accepted) k
-maker_lasting p accepted k r at =
-    at ∙ sym (get_front (filter (makes_lasting p) accepted) (present_report (last_report p accepted)) k (slice_get_within (filter (makes_lasting p) accepted) k r (sym at)))
+pub maker_stable : (p : Name) (accepted : List Report) (k : ℕ) (r : Report) → Some r ≡ slice_get (filter (makes_stable p) accepted) k → Some r ≡ slice_get (makers_of p accepted) k
+maker_stable p accepted k r at =
+    at ∙ sym (get_front (filter (makes_stable p) accepted) (present_report (last_report p accepted)) k (slice_get_within (filter (makes_stable p) accepted) k r (sym at)))
 
 -- that of the present state
-pub maker_present : (p : Name) (accepted : List Report) (k n : ℕ) (last o : Option Report) → n ≡ length (lasting_of p accepted) → k ≡ n → last ≡ last_report p accepted → o ≡ slice_get (present_report last) 0 → o ≡ slice_get (makers_of p accepted) k
+pub maker_present : (p : Name) (accepted : List Report) (k n : ℕ) (last o : Option Report) → n ≡ length (stable_of p accepted) → k ≡ n → last ≡ last_report p accepted → o ≡ slice_get (present_report last) 0 → o ≡ slice_get (makers_of p accepted) k
 maker_present p accepted k n last o all at e shown =
-    let count = same_count (lasting_made p) accepted in
-    shown ∙ ap (λ (r : Option Report). slice_get (present_report r) 0) e ∙ sym (get_behind (filter (makes_lasting p) accepted) (present_report (last_report p accepted)))
+    let count = same_count (stable_made p) accepted in
+    shown ∙ ap (λ (r : Option Report). slice_get (present_report r) 0) e ∙ sym (get_behind (filter (makes_stable p) accepted) (present_report (last_report p accepted)))
     ∙ ap (λ (m : ℕ). slice_get (makers_of p accepted) m) (sym (at ∙ all ∙ sym count))
 
 -- none behind it
-pub maker_none : (p : Name) (accepted : List Report) (k n : ℕ) → n ≡ length (lasting_of p accepted) → n < k → None ≡ slice_get (makers_of p accepted) k
+pub maker_none : (p : Name) (accepted : List Report) (k n : ℕ) → n ≡ length (stable_of p accepted) → n < k → None ≡ slice_get (makers_of p accepted) k
 maker_none p accepted k n all lt =
-    let count = same_count (lasting_made p) accepted in
-    let sum = length-append (filter (makes_lasting p) accepted) (present_report (last_report p accepted)) in
+    let count = same_count (stable_made p) accepted in
+    let sum = length-append (filter (makes_stable p) accepted) (present_report (last_report p accepted)) in
     let one = one_present_report (last_report p accepted) in
     sym (slice_get_past (makers_of p accepted) k (omega arith))

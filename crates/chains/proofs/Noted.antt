@@ -16,10 +16,10 @@ changed processes i old new f lt at is =
     let there : view_of old ≡ get_or (map view_of processes) i (born 0) = ap view_of at ∙ sym (get_or-map view_of processes i old (born 0) lt) in
     map-set view_of processes i new ∙ ap (set (map view_of processes) i) (is ∙ ap f there)
 
-pub noted_lasting : (index run : ℕ) (b : Bool) (old new : Process) → b ≡ true → new.reports ≡ old.reports + 1 → new.last ≡ Some index → new.birth ≡ old.birth → new.absorbed ≡ old.absorbed → new.lasting.items ≡ old.lasting.items ++ index ∷ [] → new.last_run ≡ run → view_of new ≡ noted index run b (view_of old)
-noted_lasting index run b old new t e f g h i j = rw t cc
+pub noted_stable : (index run : ℕ) (b : Bool) (old new : Process) → b ≡ true → new.reports ≡ old.reports + 1 → new.last ≡ Some index → new.birth ≡ old.birth → new.absorbed ≡ old.absorbed → new.stable.items ≡ old.stable.items ++ index ∷ [] → new.same_id_from ≡ run → view_of new ≡ noted index run b (view_of old)
+noted_stable index run b old new t e f g h i j = rw t cc
 
-pub noted_other : (index run : ℕ) (b : Bool) (old new : Process) → b ≡ false → new.reports ≡ old.reports + 1 → new.last ≡ Some index → new.birth ≡ old.birth → new.absorbed ≡ old.absorbed → new.lasting.items ≡ old.lasting.items → new.last_run ≡ run → view_of new ≡ noted index run b (view_of old)
+pub noted_other : (index run : ℕ) (b : Bool) (old new : Process) → b ≡ false → new.reports ≡ old.reports + 1 → new.last ≡ Some index → new.birth ≡ old.birth → new.absorbed ≡ old.absorbed → new.stable.items ≡ old.stable.items → new.same_id_from ≡ run → view_of new ≡ noted index run b (view_of old)
 noted_other index run b old new t e f g h i j = rw t cc
 
 -- a retirement that is found is absorbed

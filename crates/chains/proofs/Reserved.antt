@@ -13,7 +13,7 @@ pub kept_same : (processes : List Process) (i : ℕ) (old new : Process) → old
 kept_same processes i old new at same = map-set_same view_of processes i new old (same ∙ ap view_of at)
 
 -- room for one more element
-pub has_place : {E : Type 0} (processes : List Process) (number : Option ℕ) (i : ℕ) (new : Process) (r : Result (Unit {0}) E) → number ≡ Some i → i < length processes → OnOk r (vec_len new.lasting + 1 ≤ vec_capacity new.lasting)
+pub has_place : {E : Type 0} (processes : List Process) (number : Option ℕ) (i : ℕ) (new : Process) (r : Result (Unit {0}) E) → number ≡ Some i → i < length processes → OnOk r (vec_len new.stable + 1 ≤ vec_capacity new.stable)
     → OnOk r (HasPlace number (map element_room (set processes i new)))
 has_place processes number i new (Err e) is within room = tt
 has_place processes number i new (Ok u) is within room =

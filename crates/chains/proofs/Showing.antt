@@ -7,11 +7,11 @@ use Rattle.std.proofs.lemmas.Option.{same_Some, slice_get-get_or, slice_get_with
 use Rattle.stamp.specs.declared.stamp.Stamp.{Stamp}
 use Rattle.report_line.specs.declared.report.Report.{Report}
 use Rattle.chains.specs.Processes.{Name, last_report}
-use Rattle.chains.specs.Elements.{name_of, lasting_made, makes_lasting, lasting_of, present_in, elements_of, elements}
+use Rattle.chains.specs.Elements.{name_of, stable_made, makes_stable, stable_of, present_in, elements_of, elements}
 use Rattle.chains.specs.declared.process.Process.{Process}
 use Rattle.chains.specs.working.Keeping.{KeptProcess, indexes_from}
 use Rattle.chains.proofs.Keeps.{AreKept, looked_up}
-use Rattle.chains.proofs.Counting.{lasting_there, elements_is, one_present}
+use Rattle.chains.proofs.Counting.{stable_there, elements_is, one_present}
 
 -- ---- what an index stands for
 
@@ -48,28 +48,28 @@ pub made_at : {X Y : Type 0} (made : X → Option Y) (n : ℕ) (xs : List X) (k 
 made_at made n [] k j at = absurd cc
 made_at made n (x ∷ xs) k j at = made_step made n x xs k j (made x) refl (λ i. made_at made (suc n) xs i j) at
 
--- what is kept of the lasting elements says which report made one
-pub lasting_at : (accepted : List Report) (processes : List Process) (i k j : ℕ) (p : Name) (kept : Process) → AreKept accepted processes → name_of accepted i ≡ Some p → kept ≡ get_or processes i kept
-    → k < length (lasting_of p accepted) → j ≡ get_or kept.lasting.items k j → IsMadeAt (lasting_made p) 0 accepted (lasting_of p accepted) k j
-lasting_at accepted processes i k j p kept h is there lt at =
-    let items = ap (λ (v : KeptProcess). v.lasting) (looked_up accepted processes i p kept h is there) in
-    let within : k < length kept.lasting.items = omega (arith, lt, lasting_there accepted processes i p kept h is there) in
-    made_at (lasting_made p) 0 accepted k j (ap (λ (js : List ℕ). slice_get js k) (sym items) ∙ slice_get-get_or kept.lasting.items k j within ∙ ap (λ (m : ℕ). Some m) (sym at))
+-- what is kept of the stable elements says which report made one
+pub stable_at : (accepted : List Report) (processes : List Process) (i k j : ℕ) (p : Name) (kept : Process) → AreKept accepted processes → name_of accepted i ≡ Some p → kept ≡ get_or processes i kept
+    → k < length (stable_of p accepted) → j ≡ get_or kept.stable.items k j → IsMadeAt (stable_made p) 0 accepted (stable_of p accepted) k j
+stable_at accepted processes i k j p kept h is there lt at =
+    let items = ap (λ (v : KeptProcess). v.stable) (looked_up accepted processes i p kept h is there) in
+    let within : k < length kept.stable.items = omega (arith, lt, stable_there accepted processes i p kept h is there) in
+    made_at (stable_made p) 0 accepted k j (ap (λ (js : List ℕ). slice_get js k) (sym items) ∙ slice_get-get_or kept.stable.items k j within ∙ ap (λ (m : ℕ). Some m) (sym at))
 
-pub source_within : (p : Name) (accepted : List Report) (k j : ℕ) → IsMadeAt (lasting_made p) 0 accepted (lasting_of p accepted) k j → j < length accepted
+pub source_within : (p : Name) (accepted : List Report) (k j : ℕ) → IsMadeAt (stable_made p) 0 accepted (stable_of p accepted) k j → j < length accepted
 source_within p accepted k j h = omega (arith, h.offset, slice_get_within accepted h.place h.source h.there)
 
 -- the report at the index is the source
-source_is : (p : Name) (accepted : List Report) (k j : ℕ) (r : Report) → (h : IsMadeAt (lasting_made p) 0 accepted (lasting_of p accepted) k j) → r ≡ get_or accepted j r → r ≡ h.source
+source_is : (p : Name) (accepted : List Report) (k j : ℕ) (r : Report) → (h : IsMadeAt (stable_made p) 0 accepted (stable_of p accepted) k j) → r ≡ get_or accepted j r → r ≡ h.source
 source_is p accepted k j r h at =
     let same : j ≡ h.place = omega (arith, h.offset) in
     let found = sym (slice_get-get_or accepted j r (source_within p accepted k j h)) ∙ ap (λ (m : ℕ). slice_get accepted m) same ∙ h.there in
     at ∙ same_Some (get_or accepted j r) h.source found
 
-pub source_makes : (p : Name) (accepted : List Report) (k j : ℕ) (r : Report) → IsMadeAt (lasting_made p) 0 accepted (lasting_of p accepted) k j → r ≡ get_or accepted j r → lasting_made p r ≡ slice_get (lasting_of p accepted) k
-source_makes p accepted k j r h at = ap (λ (x : Report). lasting_made p x) (source_is p accepted k j r h at) ∙ h.makes
+pub source_makes : (p : Name) (accepted : List Report) (k j : ℕ) (r : Report) → IsMadeAt (stable_made p) 0 accepted (stable_of p accepted) k j → r ≡ get_or accepted j r → stable_made p r ≡ slice_get (stable_of p accepted) k
+source_makes p accepted k j r h at = ap (λ (x : Report). stable_made p x) (source_is p accepted k j r h at) ∙ h.makes
 
-pub source_among : (p : Name) (accepted : List Report) (k j : ℕ) (r : Report) → IsMadeAt (lasting_made p) 0 accepted (lasting_of p accepted) k j → r ≡ get_or accepted j r → Some r ≡ slice_get (filter (makes_lasting p) accepted) k
+pub source_among : (p : Name) (accepted : List Report) (k j : ℕ) (r : Report) → IsMadeAt (stable_made p) 0 accepted (stable_of p accepted) k j → r ≡ get_or accepted j r → Some r ≡ slice_get (filter (makes_stable p) accepted) k
 source_among p accepted k j r h at = ap (λ (x : Report). Some x) (source_is p accepted k j r h at) ∙ h.among
 
 -- ---- element k
@@ -92,22 +92,22 @@ of_process : (accepted : List Report) (i k : ℕ) (p : Name) → name_of accepte
 of_process accepted i k p is = ap (λ (es : List Stamp). slice_get es k) (elements_is accepted i p is)
 
 -- one that lasts
-pub shows_lasting : (accepted : List Report) (i k n : ℕ) (p : Name) (r : Report) (s : Stamp) → name_of accepted i ≡ Some p → n ≡ length (lasting_of p accepted) → k < n
-    → lasting_made p r ≡ slice_get (lasting_of p accepted) k → (lasting_made p r ≢ None → lasting_made p r ≡ Some s) → Some s ≡ slice_get (elements accepted i) k
-shows_lasting accepted i k n p r s is all lt made shown =
-    let within : k < length (lasting_of p accepted) = omega (arith, all, lt) in
-    sym (shown (λ e. some_get (lasting_of p accepted) k within (sym made ∙ e))) ∙ made ∙ sym (get_front (lasting_of p accepted) (present_in (last_report p accepted)) k within) ∙ sym (of_process accepted i k p is)
+pub shows_stable : (accepted : List Report) (i k n : ℕ) (p : Name) (r : Report) (s : Stamp) → name_of accepted i ≡ Some p → n ≡ length (stable_of p accepted) → k < n
+    → stable_made p r ≡ slice_get (stable_of p accepted) k → (stable_made p r ≢ None → stable_made p r ≡ Some s) → Some s ≡ slice_get (elements accepted i) k
+shows_stable accepted i k n p r s is all lt made shown =
+    let within : k < length (stable_of p accepted) = omega (arith, all, lt) in
+    sym (shown (λ e. some_get (stable_of p accepted) k within (sym made ∙ e))) ∙ made ∙ sym (get_front (stable_of p accepted) (present_in (last_report p accepted)) k within) ∙ sym (of_process accepted i k p is)
 
 -- the present state
-pub shows_present : (accepted : List Report) (i k n : ℕ) (p : Name) (last : Option Report) (o : Option Stamp) → name_of accepted i ≡ Some p → n ≡ length (lasting_of p accepted) → k ≡ n
+pub shows_present : (accepted : List Report) (i k n : ℕ) (p : Name) (last : Option Report) (o : Option Stamp) → name_of accepted i ≡ Some p → n ≡ length (stable_of p accepted) → k ≡ n
     → last ≡ last_report p accepted → o ≡ slice_get (present_in last) 0 → o ≡ slice_get (elements accepted i) k
 shows_present accepted i k n p last o is all at e shown =
-    shown ∙ ap (λ (r : Option Report). slice_get (present_in r) 0) e ∙ sym (get_behind (lasting_of p accepted) (present_in (last_report p accepted)))
+    shown ∙ ap (λ (r : Option Report). slice_get (present_in r) 0) e ∙ sym (get_behind (stable_of p accepted) (present_in (last_report p accepted)))
     ∙ ap (λ (m : ℕ). slice_get (elements_of p accepted) m) (sym (at ∙ all)) ∙ sym (of_process accepted i k p is)
 
 -- none behind it
-pub shows_none : (accepted : List Report) (i k n : ℕ) (p : Name) → name_of accepted i ≡ Some p → n ≡ length (lasting_of p accepted) → n < k → None ≡ slice_get (elements accepted i) k
+pub shows_none : (accepted : List Report) (i k n : ℕ) (p : Name) → name_of accepted i ≡ Some p → n ≡ length (stable_of p accepted) → n < k → None ≡ slice_get (elements accepted i) k
 shows_none accepted i k n p is all lt =
-    let sum = length-append (lasting_of p accepted) (present_in (last_report p accepted)) in
+    let sum = length-append (stable_of p accepted) (present_in (last_report p accepted)) in
     let one = one_present (last_report p accepted) in
     sym (of_process accepted i k p is ∙ slice_get_past (elements_of p accepted) k (omega arith))

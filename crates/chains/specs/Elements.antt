@@ -17,21 +17,21 @@ use Rattle.chains.specs.Processes.{Name, first_of, known, last_report}
 abbrev pub only_if : {X : Type 0} → Bool → X → Option X
 only_if b x = if b then Some x else None
 
--- the lasting element of p that a report makes by its action, which stands beside it, if it makes one: a checkpoint its own
+-- the stable element of p that a report makes by its action, which stands beside it, if it makes one: a checkpoint its own
 -- stamp, a child's birth its part of the id with the events of the fork
-abbrev pub lasting_by : Name → NumberedReport → ReportKind → Option Stamp
-lasting_by p r Check = only_if (bytes_eq p r.process) r.stamp
-lasting_by p r (Fork f) = only_if (bytes_eq p f.child) (record { id = f.given; events = r.stamp.events })
-lasting_by p r _ = None
+abbrev pub stable_by : Name → NumberedReport → ReportKind → Option Stamp
+stable_by p r Check = only_if (bytes_eq p r.process) r.stamp
+stable_by p r (Fork f) = only_if (bytes_eq p f.child) (record { id = f.given; events = r.stamp.events })
+stable_by p r _ = None
 
--- the lasting element of p that a report makes, if it makes one: the root's birth has the stamp 1;0
-abbrev pub lasting_made : Name → Report → Option Stamp
-lasting_made p (Begin q) = only_if (bytes_eq p q) (record { id = One; events = Leaf 0 })
-lasting_made p (Numbered r) = lasting_by p r r.action
+-- the stable element of p that a report makes, if it makes one: the root's birth has the stamp 1;0
+abbrev pub stable_made : Name → Report → Option Stamp
+stable_made p (Begin q) = only_if (bytes_eq p q) (record { id = One; events = Leaf 0 })
+stable_made p (Numbered r) = stable_by p r r.action
 
 -- the birth and the checkpoints of p, in order
-abbrev pub lasting_of : Name → List Report → List Stamp
-lasting_of p accepted = filter_map (lasting_made p) accepted
+abbrev pub stable_of : Name → List Report → List Stamp
+stable_of p accepted = filter_map (stable_made p) accepted
 
 -- the element of this stamp, if the action is a present state
 abbrev pub present_by : Stamp → ReportKind → List Stamp
@@ -47,11 +47,11 @@ present_in (Some (Numbered r)) = present_by r.stamp r.action
 -- The elements of the process of this name, in order: its birth, its checkpoints, and its present state, which stands
 -- until its next report. Each is seen as its id and events.
 abbrev pub elements_of : Name → List Report → List Stamp
-elements_of p accepted = lasting_of p accepted ++ present_in (last_report p accepted)
+elements_of p accepted = stable_of p accepted ++ present_in (last_report p accepted)
 
--- whether a report makes a lasting element of p
-abbrev pub makes_lasting : Name → Report → Bool
-makes_lasting p r = is_some (lasting_made p r)
+-- whether a report makes a stable element of p
+abbrev pub makes_stable : Name → Report → Bool
+makes_stable p r = is_some (stable_made p r)
 
 -- the report, by its action, if that is a present state
 abbrev pub present_report_by : NumberedReport → ReportKind → List Report
@@ -65,11 +65,11 @@ present_report (Some (Numbered r)) = present_report_by r r.action
 
 -- the reports that made the elements of p, in the order of the elements
 abbrev pub makers_of : Name → List Report → List Report
-makers_of p accepted = filter (makes_lasting p) accepted ++ present_report (last_report p accepted)
+makers_of p accepted = filter (makes_stable p) accepted ++ present_report (last_report p accepted)
 
--- the element of p that a report makes: a lasting one, or the present state that it is
+-- the element of p that a report makes: a stable one, or the present state that it is
 abbrev pub element_made : Name → Report → Option Stamp
-element_made p r = first_of (lasting_made p r) (slice_get (present_in (Some r)) 0)
+element_made p r = first_of (stable_made p r) (slice_get (present_in (Some r)) 0)
 
 -- the name of a process by its number, counted from 0 in order of birth
 abbrev pub name_of : List Report → ℕ → Option Name
@@ -80,8 +80,8 @@ abbrev pub elements : List Report → ℕ → List Stamp
 elements accepted p = option_map_or (λ name. elements_of name accepted) (name_of accepted p) []
 
 -- those of them that last
-abbrev pub lasting : List Report → ℕ → List Stamp
-lasting accepted p = option_map_or (λ name. lasting_of name accepted) (name_of accepted p) []
+abbrev pub stable : List Report → ℕ → List Stamp
+stable accepted p = option_map_or (λ name. stable_of name accepted) (name_of accepted p) []
 
 -- element k, counted from 1
 abbrev pub element : List Report → ℕ → ℕ → Option Stamp

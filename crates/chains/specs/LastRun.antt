@@ -12,6 +12,6 @@ same_id (Pair a b) (Pair c d) = same_id a c && same_id b d
 same_id _ _ = false
 
 -- the first of these stamps, counted from 0, from which on all have one id
-abbrev pub last_run : List Stamp → ℕ
-last_run [] = 0
-last_run (s ∷ ss) = if list_all (λ t. same_id s.id t.id) ss then 0 else suc (last_run ss)
+abbrev pub same_id_from : List Stamp → ℕ
+same_id_from [] = 0
+same_id_from (s ∷ ss) = if list_all (λ t. same_id s.id t.id) ss then 0 else suc (same_id_from ss)

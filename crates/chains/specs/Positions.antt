@@ -7,7 +7,7 @@ use Rattle.chains.specs.declared.position.Place.{Place}
 use Rattle.chains.specs.declared.position.Position.{Position}
 use Rattle.chains.specs.declared.position.Position.TheVariants.{At, Retired}
 use Rattle.chains.specs.Processes.{known, target_of}
-use Rattle.chains.specs.Elements.{name_of, elements, lasting}
+use Rattle.chains.specs.Elements.{name_of, elements, stable}
 
 -- the position of a process that is not born
 abbrev pub before_birth : Position
@@ -20,7 +20,7 @@ is_retired accepted p = option_map_or (λ name. is_some (target_of name accepted
 -- Of these failed processes, the position survives: an element of the process, for a failed process one that lasts (its
 -- present state is lost); or Retired once it retired.
 abbrev pub IsSurviving : List Report → List ℕ → ℕ → Position → Type 0
-IsSurviving accepted failed p (At k) = (1 ≤ k) × (k ≤ length (elements accepted p)) × (Contains failed p → k ≤ length (lasting accepted p))
+IsSurviving accepted failed p (At k) = (1 ≤ k) × (k ≤ length (elements accepted p)) × (Contains failed p → k ≤ length (stable accepted p))
 IsSurviving accepted failed p Retired = is_retired accepted p ≡ true
 
 -- the place of a position in the order unborn, elements, retired

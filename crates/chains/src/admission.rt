@@ -294,7 +294,7 @@ impl Chains {
         requires lives { target_of fields.process.now self.now.accepted ≡ None }
         ensures { Tests (IsStandingReply None (held_of self.now) (numbered_of fields.entry)) self.now.front result }
     {
-        self.lawful();
+        self.recall_lawful();
         let next = self.reports_of(place) + 1;
         if fields.number != next {
             return Err(refusal_with(
@@ -316,7 +316,7 @@ impl Chains {
     pub(crate) fn waiting(&self, retired: &Name, target: &Name) -> Option<u32>
         ensures { MatchOption result (¬ Waits self.now.accepted retired.now target.now) (λ r. Waits self.now.accepted retired.now target.now × (name_of self.now.accepted r ≡ Some retired.now)) }
     {
-        self.lawful();
+        self.recall_lawful();
         match self.number_of(retired) {
             None => None,
             Some(partner) => {
@@ -531,9 +531,9 @@ fn sum_text(alloc: Global, left: &Id, right: &Id) -> Result<Text, AllocError>
 {
     match left.sum(alloc, right) {
         Ok(sum) => {
-            left.known();
-            right.known();
-            sum.known();
+            left.recall_facts();
+            right.recall_facts();
+            sum.recall_facts();
             id_text(alloc, &sum)
         }
         Err(SumFault::Memory) => Err(AllocError),

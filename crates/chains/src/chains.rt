@@ -6,8 +6,8 @@ ghost use Rattle.report_line.specs.View.{action_of};
 ghost use Rattle.id_tree.specs.IdTree.{One};
 ghost use Rattle.event_tree.specs.EventTree.{Leaf};
 ghost use Rattle.chains.specs.Processes.{Name as AnyName, known, newborn, IsKnown, reports_of, last_report, last_epoch, birth_report, id_after, id_at_birth, events_after, registered_id, last_events, target_of, target_after, is_absorbed};
-ghost use Rattle.chains.specs.Elements.{name_of, element, elements, elements_of, lasting_of, lasting_made, makes_lasting, present_in, present_report, makers_of};
-ghost use Rattle.chains.specs.LastRun.{last_run};
+ghost use Rattle.chains.specs.Elements.{name_of, element, elements, elements_of, stable_of, stable_made, makes_stable, present_in, present_report, makers_of};
+ghost use Rattle.chains.specs.LastRun.{same_id_from};
 ghost use Rattle.chains.specs.working.LastRun.{run_after};
 ghost use Rattle.chains.specs.Stamps.{stamp_of};
 ghost use Rattle.stamp.specs.declared.stamp.Stamp.{Stamp as AnyStamp};
@@ -146,7 +146,7 @@ impl Chains {
     }
 
     /// Tells a proof what holds of all chains.
-    pub fn lawful(&self)
+    pub fn recall_lawful(&self)
         ensures folded { IsFolded self.now.accepted }
         // Each accepted report has its epoch.
         ensures marked { length self.now.epochs ≡ length self.now.accepted }
@@ -154,9 +154,9 @@ impl Chains {
         ensures past { All (λ e. e ≤ self.now.epoch) self.now.epochs }
         // The front counts the accepted reports and the settlements, and may count more lines.
         ensures counted { length self.now.accepted + self.now.epoch ≤ self.now.front }
-        ensures few_lines { self.now.front ≤ report_limit }
-        ensures few { length self.now.accepted ≤ report_limit }
-        ensures few_known { length (known self.now.accepted) ≤ process_limit }
+        ensures lines_at_most { self.now.front ≤ report_limit }
+        ensures at_most { length self.now.accepted ≤ report_limit }
+        ensures known_at_most { length (known self.now.accepted) ≤ process_limit }
         // The ids of live processes and of retirements that wait.
         ensures parts { ArePartsOfAll self.now.accepted }
         // The events of a process, from report to report.
@@ -262,8 +262,8 @@ impl Chains {
         &self.reports[birth as usize]
     }
 
-    /// Whether its retirement was absorbed.
-    pub(crate) fn is_absorbed(&self, process: u32) -> bool
+    /// Whether the retirement of a process was absorbed. It takes no memory.
+    pub fn is_absorbed(&self, process: u32) -> bool
         requires { process < length (known self.now.accepted) }
         ensures { (p : AnyName) → name_of self.now.accepted process ≡ Some p → result ≡ is_absorbed p self.now.accepted }
     {
@@ -292,8 +292,8 @@ impl Chains {
         }
     }
 
-    /// The process into which it retired, if it did.
-    pub(crate) fn target_of(&self, process: u32) -> Option<&Name>
+    /// The process into which a process retired, if it did. It takes no memory.
+    pub fn target_of(&self, process: u32) -> Option<&Name>
         requires { process < length (known self.now.accepted) }
         ensures { (p : AnyName) → name_of self.now.accepted process ≡ Some p → option_copied result ≡ target_of p self.now.accepted }
     {
@@ -307,18 +307,18 @@ impl Chains {
     pub(crate) fn element_count(&self, process: u32) -> u32
         requires { process < length (known self.now.accepted) }
         ensures count { (p : AnyName) → name_of self.now.accepted process ≡ Some p → result ≡ length (elements_of p self.now.accepted) }
-        ensures few { result ≤ report_limit + 1 }
+        ensures at_most { result ≤ report_limit + 1 }
     {
-        self.lasting_count(process) + present_count(self.last_report(process))
+        self.stable_count(process) + present_count(self.last_report(process))
     }
 
     /// How many elements it has that last: its birth and its checkpoints.
-    pub(crate) fn lasting_count(&self, process: u32) -> u32
+    pub(crate) fn stable_count(&self, process: u32) -> u32
         requires { process < length (known self.now.accepted) }
-        ensures count { (p : AnyName) → name_of self.now.accepted process ≡ Some p → result ≡ length (lasting_of p self.now.accepted) }
-        ensures few { result ≤ report_limit }
+        ensures count { (p : AnyName) → name_of self.now.accepted process ≡ Some p → result ≡ length (stable_of p self.now.accepted) }
+        ensures at_most { result ≤ report_limit }
     {
-        self.processes[process as usize].lasting.len() as u32
+        self.processes[process as usize].stable.len() as u32
     }
 
     /// The elements of a process by its number, in order. It takes no memory.
@@ -334,57 +334,57 @@ impl Chains {
         requires { process < length (known self.now.accepted) }
         ensures { option_map stamp_of result ≡ slice_get (elements self.now.accepted process) k }
     {
-        let lasting = self.lasting_count(process);
-        if k < lasting {
-            Some(element_made(self.lasting_report(process, k), &self.first))
-        } else if k == lasting {
+        let stable = self.stable_count(process);
+        if k < stable {
+            Some(element_made(self.stable_report(process, k), &self.first))
+        } else if k == stable {
             element_present(self.last_report(process))
         } else {
             None
         }
     }
 
-    /// The report that made the lasting element k of a process, counted from 0.
-    fn lasting_report(&self, process: u32, k: u32) -> &PackedReport
+    /// The report that made the stable element k of a process, counted from 0.
+    fn stable_report(&self, process: u32, k: u32) -> &PackedReport
         requires process { process < length (known self.now.accepted) }
-        requires within { (p : AnyName) → name_of self.now.accepted process ≡ Some p → k < length (lasting_of p self.now.accepted) }
-        ensures makes { (p : AnyName) → name_of self.now.accepted process ≡ Some p → lasting_made p result.now ≡ slice_get (lasting_of p self.now.accepted) k }
-        ensures among { (p : AnyName) → name_of self.now.accepted process ≡ Some p → Some result.now ≡ slice_get (filter (makes_lasting p) self.now.accepted) k }
+        requires within { (p : AnyName) → name_of self.now.accepted process ≡ Some p → k < length (stable_of p self.now.accepted) }
+        ensures makes { (p : AnyName) → name_of self.now.accepted process ≡ Some p → stable_made p result.now ≡ slice_get (stable_of p self.now.accepted) k }
+        ensures among { (p : AnyName) → name_of self.now.accepted process ≡ Some p → Some result.now ≡ slice_get (filter (makes_stable p) self.now.accepted) k }
     {
-        let index = self.processes[process as usize].lasting[k as usize];
+        let index = self.processes[process as usize].stable[k as usize];
         &self.reports[index as usize]
     }
 
     /// From which of its elements on, counted from 0, all have one id.
-    pub(crate) fn last_run(&self, process: u32) -> u32
+    pub(crate) fn same_id_from(&self, process: u32) -> u32
         requires { process < length (known self.now.accepted) }
-        ensures run { (p : AnyName) → name_of self.now.accepted process ≡ Some p → result ≡ last_run (elements_of p self.now.accepted) }
-        ensures few { result ≤ report_limit }
+        ensures run { (p : AnyName) → name_of self.now.accepted process ≡ Some p → result ≡ same_id_from (elements_of p self.now.accepted) }
+        ensures at_most { result ≤ report_limit }
     {
         match element_present(self.last_report(process)) {
-            None => self.processes[process as usize].last_run,
+            None => self.processes[process as usize].same_id_from,
             Some(present) => self.run_with(process, present.id),
         }
     }
 
-    /// The same of its lasting elements and one more, with this id.
+    /// The same of its stable elements and one more, with this id.
     fn run_with(&self, process: u32, id: &Id) -> u32
         requires { process < length (known self.now.accepted) }
-        ensures { (p : AnyName) (s : AnyStamp) → name_of self.now.accepted process ≡ Some p → s.id ≡ id.now → result ≡ last_run (lasting_of p self.now.accepted ++ s ∷ []) }
+        ensures { (p : AnyName) (s : AnyStamp) → name_of self.now.accepted process ≡ Some p → s.id ≡ id.now → result ≡ same_id_from (stable_of p self.now.accepted ++ s ∷ []) }
     {
-        let lasting = self.lasting_count(process);
-        let last = element_made(self.lasting_report(process, lasting - 1), &self.first);
+        let stable = self.stable_count(process);
+        let last = element_made(self.stable_report(process, stable - 1), &self.first);
         if last.id.equal(id) {
-            self.processes[process as usize].last_run
+            self.processes[process as usize].same_id_from
         } else {
-            lasting
+            stable
         }
     }
 
-    /// The same of its lasting elements after this report, which is its own.
+    /// The same of its stable elements after this report, which is its own.
     fn run_after(&self, process: u32, report: &PackedReport) -> u32
         requires { IsNumberOf self.now.accepted report.now process }
-        ensures { (p : AnyName) → name_of self.now.accepted process ≡ Some p → result ≡ run_after (lasting_of p self.now.accepted) report.now }
+        ensures { (p : AnyName) → name_of self.now.accepted process ≡ Some p → result ≡ run_after (stable_of p self.now.accepted) report.now }
     {
         match report.view() {
             ReportView::Begin { .. } => 0,
@@ -392,7 +392,7 @@ impl Chains {
                 if is_check(fields.action) {
                     self.run_with(process, &fields.stamp.id)
                 } else {
-                    self.processes[process as usize].last_run
+                    self.processes[process as usize].same_id_from
                 }
             }
         }
@@ -403,10 +403,10 @@ impl Chains {
         requires { process < length (known self.now.accepted) }
         ensures { (p : AnyName) → name_of self.now.accepted process ≡ Some p → option_copied result ≡ slice_get (makers_of p self.now.accepted) k }
     {
-        let lasting = self.lasting_count(process);
-        if k < lasting {
-            Some(self.lasting_report(process, k))
-        } else if k == lasting {
+        let stable = self.stable_count(process);
+        if k < stable {
+            Some(self.stable_report(process, k))
+        } else if k == stable {
             if_present(self.last_report(process))
         } else {
             None
@@ -520,7 +520,7 @@ impl Chains {
             return Position::Retired;
         }
         if is_failed {
-            Position::At(self.lasting_count(process))
+            Position::At(self.stable_count(process))
         } else {
             Position::At(self.element_count(process))
         }
@@ -531,7 +531,7 @@ impl Chains {
     /// Makes room for one more report, of the process of this number if it is that of a known one.
     fn grow(&mut self, number: Option<u32>) -> Result<(), AllocError>
         requires { IsPlaceWithin number (length (known self.old.accepted)) }
-        ensures same { held_of self.new ≡ held_of self.old }
+        ensures unchanged { held_of self.new ≡ held_of self.old }
         ensures room { OnOk result (0 < self.new.room) }
         ensures element_room { OnOk result (HasPlace number self.new.rooms) }
     {
@@ -550,12 +550,12 @@ impl Chains {
     ) -> Result<Ready, AllocError>
         requires number { IsNumberIn self.old.accepted report.report number }
         requires known { IsFound report.report number }
-        ensures same { held_of self.new ≡ held_of self.old }
+        ensures unchanged { held_of self.new ≡ held_of self.old }
         ensures report { IfOk result (λ r. r.report ≡ report) }
         ensures ready { IfOk result (λ r. IsNumberOf self.new.accepted report.report r.process × (0 < self.new.room) × HasRoomFor self.new report.report r.process) }
     {
         self.grow(number)?;
-        let lasting = if is_birth(&report.report) {
+        let stable = if is_birth(&report.report) {
             Vec::with_capacity(self.alloc, 1)?
         } else {
             Vec::new(self.alloc)
@@ -563,14 +563,14 @@ impl Chains {
         Ok(Ready {
             report,
             process: number.unwrap_or(0),
-            lasting,
+            stable,
         })
     }
 
     /// Makes the tests of a report and every growth that accepting it needs. What is held stays as it is, also where what is
     /// answered is dropped.
     pub fn prepare(&mut self, report: &PackedReport, epoch: u32) -> Result<Prepared, No>
-        ensures same { held_of self.new ≡ held_of self.old }
+        ensures unchanged { held_of self.new ≡ held_of self.old }
         ensures answer { Prepares (held_of self.old) (record { epoch = epoch; report = report.now }) result }
         ensures ready { IfOk result (λ prepared. IsReady prepared self.new) }
     {
@@ -591,7 +591,7 @@ impl Chains {
 
     /// The same of a shared report, which is not copied: between this and `commit` a caller may keep it elsewhere, too.
     pub fn prepare_shared(&mut self, report: MarkedReport) -> Result<Prepared, No>
-        ensures same { held_of self.new ≡ held_of self.old }
+        ensures unchanged { held_of self.new ≡ held_of self.old }
         ensures answer { Prepares (held_of self.old) report result }
         ensures ready { IfOk result (λ prepared. IsReady prepared self.new) }
     {
@@ -615,17 +615,17 @@ impl Chains {
         let Ready {
             report: MarkedReport { epoch, report },
             process,
-            lasting,
+            stable,
         } = ready;
-        let last_run = self.run_after(process, &report);
+        let same_id_from = self.run_after(process, &report);
         keep(
             &mut self.names,
             &mut self.processes,
             &report,
             process as usize,
             index,
-            last_run,
-            lasting,
+            same_id_from,
+            stable,
         );
         self.reports.push_reserved(report);
         self.epochs.push_reserved(epoch);
@@ -638,7 +638,7 @@ impl Chains {
         requires { IsReady prepared self.old }
         ensures { Commits prepared (held_of self.old) result (held_of self.new) }
     {
-        self.lawful();
+        self.recall_lawful();
         match prepared {
             Prepared::Old(front) => Admitted::Old(front),
             Prepared::Ready(ready) => {
@@ -695,7 +695,7 @@ fn reserve_element(processes: &mut Vec<Process>, number: Option<u32>) -> Result<
         None => Ok(()),
         Some(place) => {
             let kept = &mut processes[place as usize];
-            kept.lasting.reserve(1)
+            kept.stable.reserve(1)
         }
     }
 }
@@ -707,28 +707,34 @@ fn keep(
     report: &PackedReport,
     place: usize,
     index: u32,
-    last_run: u32,
-    lasting: Vec<u32>,
+    same_id_from: u32,
+    stable: Vec<u32>,
 )
     requires fits { MayBeKept names.old.keys processes.old.items report.now place }
     requires names { 0 < spare names.old }
     requires processes { vec_len processes.old < vec_capacity processes.old }
-    requires empty { lasting.items ≡ [] }
-    requires lasting { newborn report.now ≢ None → 0 < vec_capacity lasting }
+    requires empty { stable.items ≡ [] }
+    requires stable { newborn report.now ≢ None → 0 < vec_capacity stable }
     ensures names { names.new.keys ≡ names_after names.old.keys report.now }
-    ensures views { IsKeptBy (map view_of processes.old.items) names.old.keys report.now place index last_run (map view_of processes.new.items) }
+    ensures views { IsKeptBy (map view_of processes.old.items) names.old.keys report.now place index same_id_from (map view_of processes.new.items) }
 {
     match report.view() {
-        ReportView::Begin { process } => add(names, processes, process.copy(), index, lasting),
+        ReportView::Begin { process } => add(names, processes, process.copy(), index, stable),
         ReportView::Numbered(fields) => {
-            note(processes, place, index, last_run, is_check(fields.action));
+            note(
+                processes,
+                place,
+                index,
+                same_id_from,
+                is_check(fields.action),
+            );
             match fields.action {
                 ReportKindView::Fork(forked) => add(
                     names,
                     processes,
                     forked.child.copy(),
                     index,
-                    lasting,
+                    stable,
                 ),
                 ReportKindView::Absorb { retired } => note_absorbed(names, processes, retired),
                 ReportKindView::Check => {}
@@ -752,19 +758,19 @@ fn is_check(action: ReportKindView<'_>) -> bool
     }
 }
 
-/// Notes a report of a process: it is the last one now, and may have made a lasting element.
-fn note(processes: &mut Vec<Process>, place: usize, index: u32, last_run: u32, lasts: bool)
+/// Notes a report of a process: it is the last one now, and may have made a stable element.
+fn note(processes: &mut Vec<Process>, place: usize, index: u32, same_id_from: u32, lasts: bool)
     requires { HasNoteRoom processes.old.items place }
-    ensures views { map view_of processes.new.items ≡ changed_at (noted index last_run lasts) place (map view_of processes.old.items) }
+    ensures views { map view_of processes.new.items ≡ changed_at (noted index same_id_from lasts) place (map view_of processes.old.items) }
     ensures capacity { vec_capacity processes.new ≡ vec_capacity processes.old }
     ensures length { vec_len processes.new ≡ vec_len processes.old }
 {
     let kept = &mut processes[place];
     kept.reports += 1;
     kept.last = Some(index);
-    kept.last_run = last_run;
+    kept.same_id_from = same_id_from;
     if lasts {
-        kept.lasting.push_reserved(index);
+        kept.stable.push_reserved(index);
     }
 }
 
@@ -788,24 +794,24 @@ fn add(
     processes: &mut Vec<Process>,
     name: Name,
     birth: u32,
-    lasting: Vec<u32>,
+    stable: Vec<u32>,
 )
     requires names { 0 < spare names.old }
     requires processes { vec_len processes.old < vec_capacity processes.old }
-    requires empty { lasting.items ≡ [] }
-    requires lasting { 0 < vec_capacity lasting }
+    requires empty { stable.items ≡ [] }
+    requires stable { 0 < vec_capacity stable }
     ensures names { names.new.keys ≡ insert_key (pointwise nat_eq) names.old.keys name }
     ensures views { map view_of processes.new.items ≡ map view_of processes.old.items ++ born birth ∷ [] }
 {
-    let mut lasting = lasting;
-    lasting.push_reserved(birth);
+    let mut stable = stable;
+    stable.push_reserved(birth);
     let _ = names.insert(name);
     processes.push_reserved(Process {
         reports: 0,
         last: None,
         birth,
-        lasting,
-        last_run: 0,
+        stable,
+        same_id_from: 0,
         absorbed: false,
     });
 }
@@ -839,10 +845,10 @@ fn present_count(last: Option<&PackedReport>) -> u32
     }
 }
 
-/// The lasting element that a report makes, where it makes one.
+/// The stable element that a report makes, where it makes one.
 fn element_made<'a>(report: &'a PackedReport, first: &'a Stamp) -> Element<'a>
     requires { first.now ≡ first_stamp }
-    ensures { (p : AnyName) → lasting_made p report.now ≢ None → lasting_made p report.now ≡ Some (stamp_of result) }
+    ensures { (p : AnyName) → stable_made p report.now ≢ None → stable_made p report.now ≡ Some (stamp_of result) }
 {
     match report.view() {
         ReportView::Begin { .. } => Element {

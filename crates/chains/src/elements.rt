@@ -4,7 +4,7 @@ ghost use Rattle.std.specs.Prelude.{◌≡◌, ◌<◌, ◌≤◌, ◌+◌, leng
 ghost use Rattle.std.specs.Option.{option_map};
 ghost use Rattle.chains.specs.Processes.{known};
 ghost use Rattle.chains.specs.Elements.{elements};
-ghost use Rattle.chains.specs.LastRun.{last_run};
+ghost use Rattle.chains.specs.LastRun.{same_id_from};
 ghost use Rattle.chains.specs.Stamps.{stamp_of};
 ghost use Rattle.chains.specs.Admission.{report_limit};
 
@@ -56,17 +56,17 @@ impl<'a> Elements<'a> {
     /// How many they are.
     pub fn len(&self) -> u32
         ensures count { result ≡ length self.now }
-        ensures few { result ≤ report_limit + 1 }
+        ensures at_most { result ≤ report_limit + 1 }
     {
         self.chains.element_count(self.process)
     }
 
     /// From which of them on, counted from 0, all have one id.
-    pub fn last_run(&self) -> u32
-        ensures run { result ≡ last_run self.now }
-        ensures few { result ≤ report_limit }
+    pub fn same_id_from(&self) -> u32
+        ensures run { result ≡ same_id_from self.now }
+        ensures at_most { result ≤ report_limit }
     {
-        self.chains.last_run(self.process)
+        self.chains.same_id_from(self.process)
     }
 
     /// Element k, counted from 0, where there are so many.

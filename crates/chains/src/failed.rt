@@ -61,7 +61,7 @@ impl Failed {
     pub fn all(chains: &Chains) -> Result<Failed, AllocError>
         ensures { IfOk result (λ f. IsFailedSet chains.now.accepted (known chains.now.accepted) f) }
     {
-        chains.lawful();
+        chains.recall_lawful();
         let flags = Vec::from_elem(chains.alloc(), true, chains.count() as usize)?;
         let numbers = marked(chains.alloc(), &flags)?;
         Ok(Failed { numbers })
@@ -88,7 +88,7 @@ impl Failed {
     pub fn known_to(&self, chains: &Chains) -> Result<Failed, AllocError>
         ensures { IfOk result (λ f. (p : ℕ) → (Contains f p ↔ (Contains self.now p × (p < length (known chains.now.accepted))))) }
     {
-        chains.lawful();
+        chains.recall_lawful();
         let flags = flags_below(chains.alloc(), self.numbers(), chains.count() as usize)?;
         let numbers = marked(chains.alloc(), &flags)?;
         Ok(Failed { numbers })
@@ -120,7 +120,7 @@ pub fn first_unknown(chains: &Chains, names: &Names) -> Option<Name>
 pub fn which_are_named(chains: &Chains, names: &Names) -> Result<Vec<bool>, AllocError>
     ensures { IfOk result (λ flags. AreMarked chains.now.accepted names.now flags.items) }
 {
-    chains.lawful();
+    chains.recall_lawful();
     let mut flags = Vec::from_elem(chains.alloc(), false, chains.count() as usize)?;
     let mut left = names.left();
     while let Some(name) = left.next() {
@@ -147,9 +147,9 @@ fn flags_of(chains: &Chains, names: &Names) -> Result<Vec<bool>, FailedFault>
     ensures known { OnOk result (All (IsKnown chains.now.accepted) names.now) }
     ensures marked { IfOk result (λ flags. AreMarked chains.now.accepted names.now flags.items) }
     ensures fault { IfErr result (λ fault. FailsAs (Err fault) chains.now.accepted names.now) }
-    ensures few { IfOk result (λ flags. length flags.items < 2 ^ 32) }
+    ensures at_most { IfOk result (λ flags. length flags.items < 2 ^ 32) }
 {
-    chains.lawful();
+    chains.recall_lawful();
     let Ok(mut flags) = Vec::from_elem(chains.alloc(), false, chains.count() as usize) else {
         return Err(without_memory(chains, names));
     };

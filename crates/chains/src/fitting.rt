@@ -24,8 +24,8 @@ impl Chains {
     /// Puts a report behind those that are folded, with its epoch, where it is fit; the front counts it.
     pub(crate) fn fold(&mut self, report: MarkedReport) -> Result<(), KeepFault>
         requires past { report.epoch ≤ self.old.epoch }
-        requires few { self.old.front < report_limit }
-        requires few_known { length (known (self.old.accepted ++ report.report ∷ [])) ≤ process_limit }
+        requires at_most { self.old.front < report_limit }
+        requires known_at_most { length (known (self.old.accepted ++ report.report ∷ [])) ≤ process_limit }
         ensures ok { OnOk result (IsFit self.old.accepted report.report × (held_of self.new ≡ with_report (held_of self.old) report)) }
         ensures unfit { result ≡ Err KeepFault.Unfit → ¬ IsFit self.old.accepted report.report }
         ensures err { IfErr result (λ _. held_of self.new ≡ held_of self.old) }
@@ -44,8 +44,8 @@ impl Chains {
     pub(crate) fn fold_fit(&mut self, report: MarkedReport) -> Result<(), AllocError>
         requires fit { IsFit self.old.accepted report.report }
         requires past { report.epoch ≤ self.old.epoch }
-        requires few { self.old.front < report_limit }
-        requires few_known { length (known (self.old.accepted ++ report.report ∷ [])) ≤ process_limit }
+        requires at_most { self.old.front < report_limit }
+        requires known_at_most { length (known (self.old.accepted ++ report.report ∷ [])) ≤ process_limit }
         ensures { OnOk result (held_of self.new ≡ with_report (held_of self.old) report) }
     {
         let number = self.number_in(&report.report);
@@ -57,8 +57,8 @@ impl Chains {
         requires number { IsNumberIn self.old.accepted report.report number }
         requires fit { IsFit self.old.accepted report.report }
         requires past { report.epoch ≤ self.old.epoch }
-        requires few { self.old.front < report_limit }
-        requires few_known { length (known (self.old.accepted ++ report.report ∷ [])) ≤ process_limit }
+        requires at_most { self.old.front < report_limit }
+        requires known_at_most { length (known (self.old.accepted ++ report.report ∷ [])) ≤ process_limit }
         ensures ok { OnOk result (held_of self.new ≡ with_report (held_of self.old) report) }
         ensures err { OnErr result (held_of self.new ≡ held_of self.old) }
     {
@@ -87,7 +87,7 @@ impl Chains {
         requires { name_of self.now.accepted place ≡ Some fields.process.now }
         ensures { IsTrue result ↔ IsFitReport self.now.accepted (numbered_of fields.entry) }
     {
-        self.lawful();
+        self.recall_lawful();
         if self.target_of(place).is_some() {
             return false;
         }
@@ -130,7 +130,7 @@ impl Chains {
         requires lives { target_of fields.process.now self.now.accepted ≡ None }
         ensures { IsTrue result ↔ HasFitStamp self.now.accepted (numbered_of fields.entry) (actions.Absorb retired.now) }
     {
-        self.lawful();
+        self.recall_lawful();
         match self.waiting(retired, fields.process) {
             None => false,
             Some(partner) => self.fits_joined(place, partner, fields, retired),

@@ -41,7 +41,7 @@ impl Chains {
         ensures ok { IfOk result (λ kept. CanBeKept self.now.accepted line.now × (held_of kept ≡ kept_at (held_of self.now) (positions_of line.now))) }
         ensures unfit { result ≡ Err KeepFault.Unfit → ¬ CanBeKept self.now.accepted line.now }
     {
-        self.lawful();
+        self.recall_lawful();
         let mut kept = Chains::new(self.alloc());
         kept.count_from(self.epoch(), self.epoch());
         match keep_in(self, line.as_slice(), &mut kept) {
@@ -55,12 +55,12 @@ impl Chains {
         requires { CanBeKept self.now.accepted line.now }
         ensures { IfOk result (λ kept. held_of kept ≡ kept_at (held_of self.now) (positions_of line.now)) }
     {
-        self.lawful();
+        self.recall_lawful();
         let mut kept = Chains::new(self.alloc());
         kept.count_from(self.epoch(), self.epoch());
         let limits = limits(self, line.as_slice())?;
         fold_fit_settled(self, &limits, &mut kept)?;
-        kept.lawful();
+        kept.recall_lawful();
         kept.count_from(self.front(), self.epoch());
         Ok(kept)
     }
@@ -114,9 +114,9 @@ fn keep_within(
     ensures ok { OnOk result (CanBeKept chains.now.accepted line.now × (held_of kept.new ≡ kept_at (held_of chains.now) (positions_of line.now))) }
     ensures unfit { result ≡ Err KeepFault.Unfit → ¬ CanBeKept chains.now.accepted line.now }
 {
-    chains.lawful();
+    chains.recall_lawful();
     fold_settled(chains, limits, kept)?;
-    kept.lawful();
+    kept.recall_lawful();
     if !have_elements(chains, line, kept) {
         return Err(KeepFault::Unfit);
     }
@@ -165,7 +165,7 @@ fn limits(chains: &Chains, line: &[Place]) -> Result<Vec<u32>, AllocError>
     requires { length line.now ≡ length (known chains.now.accepted) }
     ensures { IfOk result (λ limits. AreLimits chains.now.accepted (positions_of line.now) limits.items) }
 {
-    chains.lawful();
+    chains.recall_lawful();
     let mut limits = Vec::with_capacity(chains.alloc(), line.len())?;
     for i in 0..line.len() {
         limits.push(limit(chains, i as u32, line[i].position))?;
@@ -249,7 +249,7 @@ fn fold_if_settled(
     ensures ok { OnOk result (IsKeptTo (held_of chains.now) (limits_in (known chains.now.accepted) limits.now) (i + 1) (held_of kept.new)) }
     ensures unfit { result ≡ Err KeepFault.Unfit → ¬ IsFolded (settled_by (limits_in (known chains.now.accepted) limits.now) chains.now.accepted) }
 {
-    chains.lawful();
+    chains.recall_lawful();
     if !is_settled(chains, limits, i) {
         return Ok(());
     }
@@ -285,7 +285,7 @@ fn fold_fit_if_settled(
     requires folded { IsFolded (settled_by (limits_in (known chains.now.accepted) limits.now) chains.now.accepted) }
     ensures { OnOk result (IsKeptTo (held_of chains.now) (limits_in (known chains.now.accepted) limits.now) (i + 1) (held_of kept.new)) }
 {
-    chains.lawful();
+    chains.recall_lawful();
     if !is_settled(chains, limits, i) {
         return Ok(());
     }
@@ -321,7 +321,7 @@ fn limit_of(chains: &Chains, limits: &[u32], name: &Name) -> u32
     requires { length limits.now ≡ length (known chains.now.accepted) }
     ensures { result ≡ limits_in (known chains.now.accepted) limits.now name.now }
 {
-    chains.lawful();
+    chains.recall_lawful();
     match chains.number_of(name) {
         None => 0,
         Some(process) => limits[process as usize],
@@ -335,7 +335,7 @@ fn have_elements(chains: &Chains, line: &[Place], kept: &Chains) -> bool
     requires { IsCut chains.now.accepted [] (positions_of line.now) }
     ensures { IsTrue result ↔ HaveElements chains.now.accepted (positions_of line.now) kept.now.accepted }
 {
-    chains.lawful();
+    chains.recall_lawful();
     for i in 0..line.len() {
         if !has_elements_to(chains, i as u32, line[i].position, kept) {
             return false;
@@ -350,7 +350,7 @@ fn has_elements_to(chains: &Chains, process: u32, position: Position, kept: &Cha
     requires chosen { IsChosen chains.now.accepted [] process position }
     ensures { IsTrue result ↔ HasElementsTo chains.now.accepted process position kept.now.accepted }
 {
-    kept.lawful();
+    kept.recall_lawful();
     let upto = element_rank(chains, process, position);
     match kept.number_of(chains.name_of(process)) {
         None => upto == 0,
@@ -362,7 +362,7 @@ fn has_elements_to(chains: &Chains, process: u32, position: Position, kept: &Cha
 fn element_rank(chains: &Chains, process: u32, position: Position) -> u32
     requires within { process < length (known chains.now.accepted) }
     requires chosen { IsChosen chains.now.accepted [] process position }
-    ensures few { result ≤ length (elements chains.now.accepted process) }
+    ensures at_most { result ≤ length (elements chains.now.accepted process) }
     ensures rank { take result (elements chains.now.accepted process) ≡ take (rank chains.now.accepted process position) (elements chains.now.accepted process) }
 {
     match position {

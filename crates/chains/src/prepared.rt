@@ -11,7 +11,7 @@ use std::marker::Model;
 pub struct Ready {
     pub(crate) report: MarkedReport,
     pub(crate) process: u32,
-    pub(crate) lasting: Vec<u32>,
+    pub(crate) stable: Vec<u32>,
 }
 
 impl Model for Ready {

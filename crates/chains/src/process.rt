@@ -15,9 +15,9 @@ pub struct Process {
     /// The report by which it is born.
     pub birth: u32,
     /// The reports that made its birth and its checkpoints.
-    pub lasting: Vec<u32>,
+    pub stable: Vec<u32>,
     /// From which of these elements on, counted from 0, all have one id.
-    pub last_run: u32,
+    pub same_id_from: u32,
     /// Whether it retired and the retirement was absorbed.
     pub absorbed: bool,
 }
@@ -27,13 +27,13 @@ impl Process {
     pub fn copy(&self, alloc: Global) -> Result<Process, AllocError>
         ensures { IfOk result (λ copy. view_of copy ≡ view_of self.now) }
     {
-        let lasting = Vec::from_slice(alloc, &self.lasting)?;
+        let stable = Vec::from_slice(alloc, &self.stable)?;
         Ok(Process {
             reports: self.reports,
             last: self.last,
             birth: self.birth,
-            lasting,
-            last_run: self.last_run,
+            stable,
+            same_id_from: self.same_id_from,
             absorbed: self.absorbed,
         })
     }

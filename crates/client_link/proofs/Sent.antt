@@ -4,7 +4,6 @@ use Rattle.std.specs.Io.KnownBytes.{Appends, Keeps}
 use Rattle.std.proofs.lemmas.List.{append-nil, take-append-drop, length-append, drop_more}
 use Rattle.std.proofs.lemmas.List.Concat.{flat_map-append}
 use Rattle.std.specs.List.{flat_map}
-use denote.Ref.{Bor}
 use Rattle.client_link.specs.Links.{LinkState, IsSound, IsFault, Sends, Puts}
 
 pub appends_none : (a : Option (List ℕ)) → Appends a a []
@@ -31,13 +30,12 @@ sends_then a b c (Err e) x y p q = (x ++ q.0, q.1, ap (λ (l : List ℕ). x ++ l
 pub sends_cut : {E : Type 0} (a b : Option (List ℕ)) (e : E) (x y : List ℕ) → Sends a b (Err e) x → Sends a b (Err e) (x ++ y)
 sends_cut a b e x y p = (p.0, p.1 ++ y, ap (λ (l : List ℕ). l ++ y) p.2 ∙ append_assoc p.0 p.1 y, omega (arith, length-append p.1 y, p.3), p.4)
 
--- cut in one of several pieces
-pieces_cut : {E : Type 0} (a b c : Option (List ℕ)) (e : E) (pieces : List (Bor (List ℕ))) (i : ℕ) (d : Bor (List ℕ)) → i < length pieces
-    → Appends a b (flat_map (λ p. p.now) (take i pieces)) → Sends b c (Err e) ((get_or pieces i d).now) → Sends a c (Err e) (flat_map (λ p. p.now) pieces)
-pieces_cut a b c e pieces i d lt before cut =
-    let f : Bor (List ℕ) → List ℕ = λ p. p.now in
+-- cut in one of several pieces, each of which has a text
+pieces_cut : {E X : Type 0} (a b c : Option (List ℕ)) (e : E) (f : X → List ℕ) (pieces : List X) (i : ℕ) (d : X) → i < length pieces
+    → Appends a b (flat_map f (take i pieces)) → Sends b c (Err e) (f (get_or pieces i d)) → Sends a c (Err e) (flat_map f pieces)
+pieces_cut a b c e f pieces i d lt before cut =
     let x = get_or pieces i d in
-    let parts : pieces ≡ take i pieces ++ (x ∷ drop (i + 1) pieces) = sym (take-append-drop i pieces) ∙ ap (λ (l : List (Bor (List ℕ))). take i pieces ++ l) (drop_more pieces i d lt) in
+    let parts : pieces ≡ take i pieces ++ (x ∷ drop (i + 1) pieces) = sym (take-append-drop i pieces) ∙ ap (λ l. take i pieces ++ l) (drop_more pieces i d lt) in
     let whole : flat_map f pieces ≡ flat_map f (take i pieces) ++ (f x ++ flat_map f (drop (i + 1) pieces)) = ap (flat_map f) parts ∙ flat_map-append f (take i pieces) (x ∷ drop (i + 1) pieces) in
     rw whole (sends_then a b c (Err e) (flat_map f (take i pieces)) (f x ++ flat_map f (drop (i + 1) pieces)) before (sends_cut b c e (f x) (flat_map f (drop (i + 1) pieces)) cut))
 
@@ -55,12 +53,12 @@ fault_then r s t p q = record {
   ended = q.ended ∙ p.ended;
 }
 
--- one of several pieces was cut, where those before it were sent
-pub piece_cut : {E F : Type 0} (a b c : LinkState) (e : E) (f : F) (pieces : List (Bor (List ℕ))) (i : ℕ) (d : Bor (List ℕ)) → i < length pieces
-    → Appends a.held b.held (flat_map (λ p. p.now) (take i pieces)) → IsSound a b → b.left ≡ a.left → b.reads ≡ a.reads → Puts b c (Err e) ((get_or pieces i d).now) → Puts a c (Err f) (flat_map (λ p. p.now) pieces)
-piece_cut a b c e f pieces i d lt before sound left reads cut =
+-- one of several pieces was cut, if those before it were sent
+pub piece_cut : {E F X : Type 0} (f : X → List ℕ) (a b c : LinkState) (e : E) (fault : F) (pieces : List X) (i : ℕ) (d : X) → i < length pieces
+    → Appends a.held b.held (flat_map f (take i pieces)) → IsSound a b → b.left ≡ a.left → b.reads ≡ a.reads → Puts b c (Err e) (f (get_or pieces i d)) → Puts a c (Err fault) (flat_map f pieces)
+piece_cut f a b c e fault pieces i d lt before sound left reads cut =
     record {
-      sent = pieces_cut a.held b.held c.held e pieces i d lt before cut.sent;
+      sent = pieces_cut a.held b.held c.held e f pieces i d lt before cut.sent;
       faults = fault_then a b c sound cut.faults;
       left = cut.left ∙ left;
       reads = cut.reads ∙ reads;

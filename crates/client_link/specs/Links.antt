@@ -1,4 +1,4 @@
--- What a link tells of itself, and what reads, writes, hand-ons and its end do to it.
+-- What a link tells of itself, and what reads, writes, flushes and its end do to it.
 use Rattle.std.specs.Prelude.{◌≡◌, ◌⊎◌, ℕ, ◌+◌, ◌-◌, ◌^◌, ◌<◌, ◌==◌, ◌&&◌, not, min, max, if◌then◌else◌, List, [], ◌++◌, length, Option, None, Some, Result, Ok, Err, OnOk}
 use Rattle.std.specs.Io.KnownBytes.{Appends, Keeps, ReadConsumes, WriteAppends}
 
@@ -50,7 +50,7 @@ pub record IsWrite {E : Type 0} (old new : LinkState) (result : Result ℕ E) (b
   pub ended : new.ended ≡ old.ended
 
 -- what was taken was handed on, and nothing more was taken; of a link that was ended it fails
-pub record IsHandOn {E : Type 0} (old new : LinkState) (result : Result (Unit {0}) E) : Type 0 where
+pub record IsFlush {E : Type 0} (old new : LinkState) (result : Result (Unit {0}) E) : Type 0 where
   pub handed : OnOk result (new.waiting ≡ [])
   pub held : Keeps old.held new.held
   pub failures : new.failures ≡ failures_after result old.failures

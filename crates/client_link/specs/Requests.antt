@@ -1,5 +1,5 @@
 -- What tells a browser from a client: its first bytes are those of a request of HTTP (RFC 9110, 9.3), a method and a space.
-use Rattle.std.specs.Prelude.{ℕ, List, [], ◌∷◌, ◌++◌, ◌==◌, if◌then◌else◌, codes}
+use Rattle.std.specs.Prelude.{ℕ, List, [], ◌∷◌, ◌==◌, if◌then◌else◌, codes}
 use Rattle.client_link.specs.declared.request.Look.{Look}
 use Rattle.client_link.specs.declared.request.Look.TheVariants.{Whole, Part, Other}
 

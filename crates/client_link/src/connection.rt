@@ -119,7 +119,7 @@ impl<R: Read + HangUp, W: Write + Drop> Link for Connection<R, W> {
         Err(LinkFault::Device)
     }
 
-    fn hand_on(&mut self) -> Result<(), LinkFault> {
+    fn flush(&mut self) -> Result<(), LinkFault> {
         if let Wire::Open(_, output) = &mut self.wire
             && let Ok(()) = output.flush()
         {

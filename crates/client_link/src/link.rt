@@ -2,11 +2,11 @@
 
 ghost use Rattle.std.specs.Prelude.{◌≡◌, ℕ, IfOk, ◌≤◌, length};
 ghost use Rattle.std.specs.List.{flat_map};
-ghost use Rattle.client_link.specs.Links.{LinkState, IsRead, IsWrite, IsHandOn, IsEnd, Puts};
+ghost use Rattle.client_link.specs.Links.{LinkState, IsRead, IsWrite, IsFlush, IsEnd, Puts};
 
 use thiserror::Error;
 
-/// A read, a write or a hand-on failed, or the link was ended.
+/// A read, a write or a flush failed, or the link was ended.
 #[derive(Clone, Copy, Debug, PartialEq, Eq, Error)]
 pub enum LinkFault {
     #[error("the device failed")]
@@ -29,10 +29,10 @@ pub trait Link {
         ensures write { IsWrite (told self.old) (told self.new) result buf.now };
 
     /// Hands on all that was taken.
-    fn hand_on(&mut self) -> Result<(), LinkFault>
-        ensures { IsHandOn (told self.old) (told self.new) result };
+    fn flush(&mut self) -> Result<(), LinkFault>
+        ensures { IsFlush (told self.old) (told self.new) result };
 
-    /// Ends the link: what waits is not handed on any more, and each later read, write and hand-on fails.
+    /// Ends the link: what waits is not flushed any more, and each later read, write and flush fails.
     fn end(&mut self)
         ensures { IsEnd (told self.old) (told self.new) };
 

@@ -2,7 +2,7 @@
 
 ghost use Rattle.std.specs.Prelude.{◌≡◌, ◌⊎◌, ◌↔◌, ◌<◌, ◌≤◌, [], Some, None, length, drop, IfOk, OnOk, OnErr, IsTrue};
 ghost use Rattle.std.specs.List.{flat_map};
-ghost use Rattle.client_link.specs.Links.{LinkState, IsRead, IsWrite, IsHandOn, IsEnd};
+ghost use Rattle.client_link.specs.Links.{LinkState, IsRead, IsWrite, IsFlush, IsEnd};
 ghost use Rattle.client_link.specs.Memory.{calls_of, failing_of, IsCall, IsOver, Fails};
 
 use crate::link::{Link, LinkFault};
@@ -166,8 +166,8 @@ impl Link for MemoryLink {
         Ok(buf.len())
     }
 
-    fn hand_on(&mut self) -> Result<(), LinkFault>
-        ensures hand_on { IsHandOn (⟦<MemoryLink as Link>⟧.told self.old) (⟦<MemoryLink as Link>⟧.told self.new) result }
+    fn flush(&mut self) -> Result<(), LinkFault>
+        ensures flush { IsFlush (⟦<MemoryLink as Link>⟧.told self.old) (⟦<MemoryLink as Link>⟧.told self.new) result }
         ensures call { IsCall self.old self.new }
         ensures ok { OnOk result (¬ Fails self.old) }
         ensures err { OnErr result (Fails self.old) }

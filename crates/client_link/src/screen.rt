@@ -45,7 +45,7 @@ impl<S> Screened<S> {
     /// Holds one byte more back, and looks at all of them.
     fn hold_back(&mut self, byte: u8)
         requires { self.old.look ≡ looks.Part }
-        ensures same { (later : List ℕ) → given_of self.new.look (held_back self.new) later ≡ given_of looks.Part (held_back self.old) (byte ∷ later) }
+        ensures same_text { (later : List ℕ) → given_of self.new.look (held_back self.new) later ≡ given_of looks.Part (held_back self.old) (byte ∷ later) }
         ensures more { self.new.held ≡ self.old.held + 1 }
         ensures stream { self.new.stream ≡ self.old.stream }
     {

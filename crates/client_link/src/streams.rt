@@ -101,7 +101,7 @@ impl<R: Read, W: Write + Drop> Link for Streams<R, W> {
         }
     }
 
-    fn hand_on(&mut self) -> Result<(), LinkFault> {
+    fn flush(&mut self) -> Result<(), LinkFault> {
         if self.ended.is_some() {
             self.failures = self.failures.saturating_add(1);
             return Err(LinkFault::Device);

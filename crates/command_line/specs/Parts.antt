@@ -17,8 +17,8 @@ abbrev pub IsLocal : Made → Type 0
 IsLocal made = (out-Command made).has_globals ≡ false
 
 -- the command, where there was memory for it, is this one, and no argument of it counts for its subcommands
-abbrev pub IsMade : {E : Type 0} → App → Result Made E → Type 0
-IsMade app made = IfOk made (λ m. (app_of m ≡ app) × IsLocal m)
+abbrev pub IsCommand : {E : Type 0} → App → Result Made E → Type 0
+IsCommand app made = IfOk made (λ m. (app_of m ≡ app) × IsLocal m)
 
 -- the values that were read
 abbrev pub values_of : ArgMatches → List Row

@@ -5,7 +5,7 @@ ghost use Rattle.clap.specs.Words.{App, FailsBy, HasKind, IsUnsignedIn, Rule, ap
 ghost use Rattle.clap.specs.Simple.{on_top};
 ghost use Rattle.clap.specs.declared.error.kind.ErrorKind.TheVariants as kinds;
 ghost use Rattle.command_line.specs.Arguments.{AsksFor, IsFront, IsNumber, MayBeNumber, alone, check, draw, draw_wants, drive, explain, flag_rule, front_rule, garbage, has_front, has_number, is_set, line, may_have_number, option_rule, program, refusals, run, serve, serve_wants, show, wanted_option, wanted_rule, with_why};
-ghost use Rattle.command_line.specs.Parts.{HasWanted, IsAnswer, IsMade, IsWanted, is_command, values_of};
+ghost use Rattle.command_line.specs.Parts.{HasWanted, IsAnswer, IsCommand, IsWanted, is_command, values_of};
 
 use clap::error::ErrorKind;
 use clap::{Arg, ArgAction, ArgMatches, Command as Program, Error};
@@ -139,7 +139,7 @@ fn script_argument<'a>(alloc: Global) -> Arg<'a>
     word_argument(
         alloc,
         "SCRIPT",
-        "A file of steps, one a line, of which the first is 'root NAME'; '-' is standard input",
+        "A file of steps, one on each line, the first of which is 'root NAME'; '-' is standard input",
     )
 }
 
@@ -148,7 +148,7 @@ fn file_argument<'a>(alloc: Global) -> Arg<'a>
     ensures rule { rule_of result ≡ wanted_rule (codes "FILE") }
     ensures local { result.global ≡ false }
 {
-    word_argument(alloc, "FILE", "The file that keeps the accepted reports")
+    word_argument(alloc, "FILE", "A record file, made by recline run or serve")
 }
 
 /// The flag that says that a script has comments.
@@ -159,7 +159,7 @@ fn comments_argument<'a>(alloc: Global) -> Arg<'a>
     flag_argument(
         alloc,
         "comments",
-        "Passes over lines of the script that are empty or begin with '#'",
+        "Skips lines of the script that are empty or begin with '#'",
     )
 }
 
@@ -172,7 +172,7 @@ fn told_command<'a>(
     first: Arg<'a>,
 ) -> Result<Program<'a>, AllocError>
     requires { first.global ≡ false }
-    ensures { (r : Rule) → rule_of first.entry ≡ r → IsMade (with_rule (new_app name.now) r) result }
+    ensures { (r : Rule) → rule_of first.entry ≡ r → IsCommand (with_rule (new_app name.now) r) result }
 {
     Program::new(alloc, name)
         .about(about)
@@ -186,7 +186,7 @@ fn with_argument<'a>(
     argument: Arg<'a>,
 ) -> Result<Program<'a>, AllocError>
     requires { argument.global ≡ false }
-    ensures { (app : App) (r : Rule) → IsMade app command.entry → rule_of argument.entry ≡ r → IsMade (with_rule app r) result }
+    ensures { (app : App) (r : Rule) → IsCommand app command.entry → rule_of argument.entry ≡ r → IsCommand (with_rule app r) result }
 {
     match command {
         Ok(command) => command.arg(argument),
@@ -199,12 +199,12 @@ fn explaining<'a>(
     alloc: Global,
     command: Result<Program<'a>, AllocError>,
 ) -> Result<Program<'a>, AllocError>
-    ensures { (app : App) → IsMade app command.entry → IsMade (with_why app) result }
+    ensures { (app : App) → IsCommand app command.entry → IsCommand (with_why app) result }
 {
     let explain = flag_argument(
         alloc,
         "explain",
-        "Says on standard error why a file or a stream failed, in the system's words",
+        "Also prints on standard error why a file or a stream failed, in the system's words",
     );
     with_argument(command, explain)
 }
@@ -214,7 +214,7 @@ fn with_command<'a>(
     program: Result<Program<'a>, AllocError>,
     command: Result<Program<'a>, AllocError>,
 ) -> Result<Program<'a>, AllocError>
-    ensures { (above app : App) → IfOk program.entry (λ p. app_of p ≡ above) → IsMade app command.entry → IfOk result (λ made. app_of made ≡ with_subcommand above app.top) }
+    ensures { (above app : App) → IfOk program.entry (λ p. app_of p ≡ above) → IsCommand app command.entry → IfOk result (λ made. app_of made ≡ with_subcommand above app.top) }
 {
     let program = program?;
     program.subcommand(command?)
@@ -222,34 +222,34 @@ fn with_command<'a>(
 
 /// The command `run`.
 fn run_command<'a>(alloc: Global) -> Result<Program<'a>, AllocError>
-    ensures { IsMade run result }
+    ensures { IsCommand run result }
 {
     told_command(
         alloc,
         "run",
-        "Answers each line of standard input on standard output",
-        "Status: 0 the input ended; 2 wrong words; 3 a file, a stream or memory failed; 5 too many lines",
+        "Answers each line of standard input, a report or a question, on standard output",
+        "Example: recline run records < reports\nStatus: 0 the input ended; 2 wrong words; 3 a file, a stream or memory failed; 5 too many lines",
         optional_argument(
             alloc,
             "FILE",
-            "The file that keeps the accepted reports; it is made if it is missing",
+            "The record file, which keeps the accepted reports; it is created if it does not exist",
         ),
     )
 }
 
 /// The command `serve`, with the options that are wanted.
 fn serve_wanted<'a>(alloc: Global) -> Result<Program<'a>, AllocError>
-    ensures { IsMade serve_wants result }
+    ensures { IsCommand serve_wants result }
 {
     let command = told_command(
         alloc,
         "serve",
-        "Answers the lines of clients that connect, and ends after the last session",
-        "Status: 0 all sessions ended; 2 wrong words; 3 a file, the port, a stream or memory failed",
+        "Serves clients that connect by TCP, and ends after the last session",
+        "Example: recline serve records --port 0 --sessions 100 --workers 8\nStatus: 0 all sessions ended; 2 wrong words; 3 a file, the port, a stream or memory failed",
         word_argument(
             alloc,
             "FILE",
-            "The file that keeps the accepted reports; it is made if it is missing",
+            "The record file, which keeps the accepted reports; it is created if it does not exist",
         ),
     );
     let command = with_argument(
@@ -267,7 +267,7 @@ fn serve_wanted<'a>(alloc: Global) -> Result<Program<'a>, AllocError>
             alloc,
             "sessions",
             "N",
-            "How many sessions are served, 1 to 4096",
+            "How many sessions to serve, 1 to 4096",
         ),
     );
     with_argument(
@@ -276,20 +276,20 @@ fn serve_wanted<'a>(alloc: Global) -> Result<Program<'a>, AllocError>
             alloc,
             "workers",
             "W",
-            "How many threads serve them, 1 to 64",
+            "How many sessions to serve at once, 1 to 64",
         ),
     )
 }
 
 /// The command `serve`.
 fn serve_command<'a>(alloc: Global) -> Result<Program<'a>, AllocError>
-    ensures { IsMade serve result }
+    ensures { IsCommand serve result }
 {
     let idle = option_argument(
         alloc,
         "idle",
         "SECONDS",
-        "How long a client may be silent, 1 to 4294967295; without it any time",
+        "After how many silent seconds a client is disconnected, 1 to 4294967295; without it never",
     );
     with_argument(serve_wanted(alloc), idle)
 }
@@ -303,19 +303,19 @@ fn front_argument<'a>(alloc: Global) -> Arg<'a>
         alloc,
         "at",
         "FRONT",
-        "How many of the first records count, 0 to 16384; without it all",
+        "Uses only the first FRONT records, 0 to 16384; without it all",
     )
 }
 
 /// The command `check`.
 fn check_command<'a>(alloc: Global) -> Result<Program<'a>, AllocError>
-    ensures { IsMade check result }
+    ensures { IsCommand check result }
 {
     let command = told_command(
         alloc,
         "check",
-        "Checks a certificate over the accepted reports, and prints YES or NO with the cause",
-        "Status: 0 YES; 2 no certificate, or wrong words; 3 a file, a stream or memory failed; 4 NO",
+        "Checks a certificate against a record file, and prints YES, or NO with the cause",
+        "Example: recline check records certificate\nStatus: 0 YES; 2 no certificate, or wrong words; 3 a file, a stream or memory failed; 4 NO",
         file_argument(alloc),
     );
     let command = with_argument(
@@ -323,25 +323,21 @@ fn check_command<'a>(alloc: Global) -> Result<Program<'a>, AllocError>
         word_argument(
             alloc,
             "CERT",
-            "A file with the text that stands behind 'LINE ' in a reply; '-' is standard input",
+            "A file with the text after 'LINE ' in a reply; '-' is standard input",
         ),
     );
     with_argument(command, front_argument(alloc))
 }
 
-/// The statuses of a command that asks one question.
-const QUESTION_STATUSES: &str =
-    "Status: 0 a line was printed; 2 wrong words; 3 a file, a stream or memory failed; 4 refused";
-
 /// The command `line`.
 fn line_command<'a>(alloc: Global) -> Result<Program<'a>, AllocError>
-    ensures { IsMade line result }
+    ensures { IsCommand line result }
 {
     let command = told_command(
         alloc,
         "line",
-        "Prints on standard output what 'LINE NAMES' is answered over the records",
-        QUESTION_STATUSES,
+        "Prints the recovery line for a record file, as the reply to 'LINE NAMES'",
+        "Example: recline line records a,b\nStatus: 0 a line was printed; 2 wrong words; 3 a file, a stream or memory failed; 4 refused",
         file_argument(alloc),
     );
     let command = with_argument(
@@ -349,7 +345,7 @@ fn line_command<'a>(alloc: Global) -> Result<Program<'a>, AllocError>
         word_argument(
             alloc,
             "NAMES",
-            "The processes that failed, parted by commas, or '-' for none",
+            "The processes that failed, separated by commas, or '-' for none",
         ),
     );
     with_argument(command, front_argument(alloc))
@@ -357,13 +353,13 @@ fn line_command<'a>(alloc: Global) -> Result<Program<'a>, AllocError>
 
 /// The command `garbage`.
 fn garbage_command<'a>(alloc: Global) -> Result<Program<'a>, AllocError>
-    ensures { IsMade garbage result }
+    ensures { IsCommand garbage result }
 {
     let command = told_command(
         alloc,
         "garbage",
-        "Prints on standard output what 'GARBAGE' is answered over the records",
-        QUESTION_STATUSES,
+        "Prints the line before which all checkpoints are obsolete, as the reply to 'GARBAGE'",
+        "Example: recline garbage records --at 100\nStatus: 0 a line was printed; 2 wrong words; 3 a file, a stream or memory failed; 4 refused",
         file_argument(alloc),
     );
     with_argument(command, front_argument(alloc))
@@ -371,32 +367,32 @@ fn garbage_command<'a>(alloc: Global) -> Result<Program<'a>, AllocError>
 
 /// The command `show`.
 fn show_command<'a>(alloc: Global) -> Result<Program<'a>, AllocError>
-    ensures { IsMade show result }
+    ensures { IsCommand show result }
 {
     let command = told_command(
         alloc,
         "show",
-        "Tells on standard output what a record file has",
-        "Status: 0 all was told; 2 wrong words; 3 a file, a stream or memory failed",
+        "Prints what a record file contains",
+        "Example: recline show records --reports\nStatus: 0 all was printed; 2 wrong words; 3 a file, a stream or memory failed",
         file_argument(alloc),
     );
     let command = with_argument(command, front_argument(alloc));
     let command = with_argument(
         command,
-        flag_argument(alloc, "reports", "Tells each record, too"),
+        flag_argument(alloc, "reports", "Also prints each record"),
     );
-    with_argument(command, flag_argument(alloc, "json", "Writes JSON"))
+    with_argument(command, flag_argument(alloc, "json", "Prints JSON"))
 }
 
 /// The command `explain`.
 fn explain_command<'a>(alloc: Global) -> Result<Program<'a>, AllocError>
-    ensures { IsMade explain result }
+    ensures { IsCommand explain result }
 {
     told_command(
         alloc,
         "explain",
-        "Says on standard output which call a line is, or why it is none",
-        "Status: 0 each is a call; 2 wrong words; 3 a stream or memory failed; 4 a line is none",
+        "Says which call a line is, or what is wrong with it",
+        "Example: recline explain 'CHECK a 1 1;1'\nStatus: 0 each is a call; 2 wrong words; 3 a stream or memory failed; 4 a line is none",
         optional_argument(
             alloc,
             "LINE",
@@ -407,13 +403,13 @@ fn explain_command<'a>(alloc: Global) -> Result<Program<'a>, AllocError>
 
 /// The command `drive`.
 fn drive_command<'a>(alloc: Global) -> Result<Program<'a>, AllocError>
-    ensures { IsMade drive result }
+    ensures { IsCommand drive result }
 {
     let command = told_command(
         alloc,
         "drive",
         "Stamps the steps of a script and prints the lines that report them",
-        "Status: 0 each step was taken; 2 one was refused, or wrong words; 3 a file, a stream or memory failed",
+        "Example: recline drive steps > reports\nStatus: 0 each step was taken; 2 one was refused, or wrong words; 3 a file, a stream or memory failed",
         script_argument(alloc),
     );
     with_argument(command, comments_argument(alloc))
@@ -421,13 +417,13 @@ fn drive_command<'a>(alloc: Global) -> Result<Program<'a>, AllocError>
 
 /// The command `draw`, with what says what is drawn.
 fn draw_wanted<'a>(alloc: Global) -> Result<Program<'a>, AllocError>
-    ensures { IsMade draw_wants result }
+    ensures { IsCommand draw_wants result }
 {
     let command = told_command(
         alloc,
         "draw",
         "Draws the history of a script with its recovery line as SVG",
-        "Status: 0 all is drawn; 2 a step or a name was refused, or wrong words; 3 a file, a stream or memory failed",
+        "Example: recline draw steps --failed a > picture.svg\nStatus: 0 all is drawn; 2 a step or a name was refused, or wrong words; 3 a file, a stream or memory failed",
         script_argument(alloc),
     );
     let command = with_argument(command, comments_argument(alloc));
@@ -436,14 +432,14 @@ fn draw_wanted<'a>(alloc: Global) -> Result<Program<'a>, AllocError>
         flag_argument(
             alloc,
             "records",
-            "SCRIPT is a file that keeps accepted reports, and these are drawn",
+            "SCRIPT is a record file, and its reports are drawn",
         ),
     )
 }
 
 /// The command `draw`.
 fn draw_command<'a>(alloc: Global) -> Result<Program<'a>, AllocError>
-    ensures { IsMade draw result }
+    ensures { IsCommand draw result }
 {
     let command = with_argument(
         draw_wanted(alloc),
@@ -451,7 +447,7 @@ fn draw_command<'a>(alloc: Global) -> Result<Program<'a>, AllocError>
             alloc,
             "failed",
             "NAMES",
-            "The processes that failed, parted by commas, or '-' for none",
+            "The processes that failed, separated by commas, or '-' for none",
         ),
     );
     let command = with_argument(
@@ -460,7 +456,7 @@ fn draw_command<'a>(alloc: Global) -> Result<Program<'a>, AllocError>
             alloc,
             "why",
             "NAME",
-            "With --records, the process whose reasons to return are drawn",
+            "With --records, draws why this process has to return",
         ),
     );
     with_argument(command, front_argument(alloc))
@@ -478,8 +474,10 @@ fn with_version<'a>(program: Program<'a>) -> Program<'a>
     ensures { app_of result ≡ on_top (λ s. record s { has_version = true; subcommand_required = true }) (app_of program.entry) }
 {
     program
-        .version("0.1.0 (sources of 2026-11-29, record files of versions 1 and 2)")
-        .about("Says where processes that failed have to recover from")
+        .version("0.1.0 (sources of 2026-11-30, record files of versions 1 and 2)")
+        .about(
+            "Computes the recovery line: to which checkpoint each process returns after a failure",
+        )
         .subcommand_required(true)
 }
 

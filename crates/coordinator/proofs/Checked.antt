@@ -1,6 +1,5 @@
 -- Lines that are tested in a replay.
-use Rattle.std.specs.Prelude.{OnOk}
-use Rattle.std.proofs.Common.{◌≡◌, ◌≢◌, ℕ, zero, suc, ◌+◌, ◌-◌, ◌<◌, ◌≤◌, Bool, true, false, List, [], ◌∷◌, ◌++◌, length, take, drop, get_or, refl, sym, ap, ◌∙◌, subst, inl, inr, arith, Result, Ok, Err}
+use Rattle.std.proofs.Common.{◌≡◌, ◌≢◌, ℕ, zero, suc, ◌+◌, ◌-◌, ◌<◌, ◌≤◌, Bool, true, false, List, [], ◌∷◌, ◌++◌, length, take, drop, get_or, refl, sym, ap, ◌∙◌, subst, inl, inr, arith}
 use Rattle.std.proofs.lemmas.Bool.{cases_eq}
 use Rattle.std.proofs.lemmas.List.{take_more}
 use Rattle.std.proofs.lemmas.Option.{get_or_from_slice_get, slice_get_within}
@@ -159,11 +158,6 @@ same_settled k new held after call reply front names e n is says settled same t 
     settlement_with held.stopped t'.0 k new held after front names e n refl settled same t'.1
 
 -- the same where memory may be wanting
-pub settled_again : {F : Type 0} → (k new : Kept) (held after : Held) (call : Call) (reply : Reply) (front : ℕ) (names : List Name) (e n : ℕ) (result : Result (Unit {0}) F) → call ≡ calls.Settle front names → reply ≡ Settled e n
-    → OnOk result (IsSettled (held_of k) names (held_of new)) → HaveSame k held → IsTurn held call reply after → OnOk result (HaveSame new after)
-settled_again k new held after call reply front names e n (Ok unit) is says settled same t = same_settled k new held after call reply front names e n is says settled same t
-settled_again k new held after call reply front names e n (Err fault) is says settled same t = settled
-
 -- ---- the replay
 
 -- after so many turns the chains have what these replay to, and the others replay on

@@ -2,6 +2,7 @@ pub mod Acknowledged
 pub mod Answering
 pub mod Certifying
 pub mod Checked
+pub mod Remembered
 pub mod Made
 pub mod Fitting
 pub mod Marked

@@ -19,7 +19,7 @@ use Rattle.line_answer.specs.Questions.{IsAnswer}
 use Rattle.coordinator.specs.Passes.{PassState, IsAnswered, IsShownOver}
 use Rattle.coordinator.specs.working.Parts.{MayShowLine, with_line}
 use Rattle.coordinator.specs.Calls.{IsOneTurn, IsTakenFor, IsTurnFor}
-use Rattle.coordinator.specs.Standing.{IsAcknowledgement, StandsInEachFile, IsMade, IsMadeWith}
+use Rattle.coordinator.specs.Standing.{IsAcknowledgement, StandsInEachFile, IsStandingTurn, IsMadeWith}
 use Rattle.coordinator.proofs.Acknowledged.{acknowledged}
 use Rattle.coordinator.proofs.Answering.{one_shown, shown_line}
 use Rattle.coordinator.proofs.Telling.{taken_goes}
@@ -40,7 +40,7 @@ module _ {D : Type 0} (keeps : D → Type 0) (view : D → View) where
 
   -- a turn that a desk made for a pass
   pub is_made : (before after : DeskState D) (old : PassState) (call : Call) (new : PassState) → IsLawfulDesk keeps view before → IsLawfulDesk keeps view after → IsTurnFor before after old call new
-      → IsMade keeps view old call new
+      → IsStandingTurn keeps view old call new
   is_made before after old call new was now made = record {
     before = before;
     after = after;
@@ -60,7 +60,7 @@ module _ {D : Type 0} (keeps : D → Type 0) (view : D → View) where
   made_with before after old call snapshot new was now taken = record { made = is_made before after old call new was now taken.made; snapshot_is = taken.snapshot_is }
 
   -- which the pass shows as an answer
-  pub answered : (old : PassState) (call : Call) (new : PassState) → IsMade keeps view old call new → IsAnswered old call new
+  pub answered : (old : PassState) (call : Call) (new : PassState) → IsStandingTurn keeps view old call new → IsAnswered old call new
   answered old call new made = record { entry = made.entry; one = made.one; held = made.after.held; shows = made.shows }
 
   -- the line that was computed over the snapshot is shown over what the desk held
@@ -74,8 +74,8 @@ module _ {D : Type 0} (keeps : D → Type 0) (view : D → View) where
       subst (λ (h : Held). IsShownOver h call made.entry.receipt.reply (Line text)) same
       (subst (λ (r : Reply). IsShownOver (held_of k) call r (Line text)) (sym m.snapshot_is.1) (shown_line (held_of k) call text opened reached fits))
 
-  with_shown : (old : PassState) (call : Call) (k : Kept) (mid new : PassState) → IsMadeWith keeps view old call (Some k) mid → MayShowLine (held_of k) call mid new → IsMade keeps view old call new
-  with_shown old call k mid new m (inl unchanged) = subst (λ (v : PassState). IsMade keeps view old call v) (sym unchanged) m.made
+  with_shown : (old : PassState) (call : Call) (k : Kept) (mid new : PassState) → IsMadeWith keeps view old call (Some k) mid → MayShowLine (held_of k) call mid new → IsStandingTurn keeps view old call new
+  with_shown old call k mid new m (inl unchanged) = subst (λ (v : PassState). IsStandingTurn keeps view old call v) (sym unchanged) m.made
   with_shown old call k mid new m (inr (text, reached, fits, instead)) =
       let was = m.made in
       record {
@@ -92,7 +92,7 @@ module _ {D : Type 0} (keeps : D → Type 0) (view : D → View) where
 
   -- and its line is shown, with the call and the chains as the function has them
   pub made_when : (old : PassState) (asked call : Call) (snapshot : Option Kept) (chains : Kept) (mid new : PassState) → asked ≡ call → snapshot ≡ Some chains → IsMadeWith keeps view old asked snapshot mid
-      → MayShowLine (held_of chains) call mid new → IsMade keeps view old call new
+      → MayShowLine (held_of chains) call mid new → IsStandingTurn keeps view old call new
   made_when old asked call snapshot chains mid new same is m shows =
       with_shown old call chains mid new
       (subst (λ (s : Option Kept). IsMadeWith keeps view old call s mid) is (subst (λ (c : Call). IsMadeWith keeps view old c snapshot mid) same m))

@@ -29,7 +29,7 @@ pub record StandsInEachFile {D : Type 0} (keeps : D → Type 0) (view : D → Vi
 -- A lawful desk made the turn of the call, as its last one, and the pass has one entry more, with the receipt of that turn. What the
 -- entry shows is shown over what this desk held right after the turn. After OK and SETTLED the record of the call stands in each file
 -- that a crash leaves.
-pub record IsMade {D : Type 0} (keeps : D → Type 0) (view : D → View) (old : PassState) (call : Call) (new : PassState) : Type 0 where
+pub record IsStandingTurn {D : Type 0} (keeps : D → Type 0) (view : D → View) (old : PassState) (call : Call) (new : PassState) : Type 0 where
   pub before : DeskState D
   pub after : DeskState D
   pub was_lawful : IsLawfulDesk keeps view before
@@ -42,5 +42,5 @@ pub record IsMade {D : Type 0} (keeps : D → Type 0) (view : D → View) (old :
 
 -- the same, with what that desk held, if a line was taken
 pub record IsMadeWith {D : Type 0} (keeps : D → Type 0) (view : D → View) (old : PassState) (call : Call) (snapshot : Option Kept) (new : PassState) : Type 0 where
-  pub made : IsMade keeps view old call new
+  pub made : IsStandingTurn keeps view old call new
   pub snapshot_is : IfSome snapshot (λ k. (held_of k ≡ unstopped made.after.held) × (made.entry.receipt.reply ≡ Taken k.front))

@@ -45,8 +45,8 @@ fn have_same_reports(a: &Chains, b: &Chains) -> bool
     requires { a.now.front ≡ b.now.front }
     ensures { IsTrue result ↔ ((a.now.accepted ≡ b.now.accepted) × (a.now.epochs ≡ b.now.epochs)) }
 {
-    a.lawful();
-    b.lawful();
+    a.recall_lawful();
+    b.recall_lawful();
     for i in 0..a.front() {
         if !is_same_report(a, b, i) || !is_same_epoch(a, b, i) {
             return false;
@@ -109,8 +109,8 @@ fn audit_marked<L: Ledger>(
     marks: &mut [u64],
     owners: &mut [Owner],
 ) -> Result<(), CloseFault>
-    requires same { held_of chains.old ≡ held_of opening.now }
-    requires few { length turns.now ≤ turn_limit }
+    requires unchanged { held_of chains.old ≡ held_of opening.now }
+    requires at_most { length turns.now ≤ turn_limit }
     requires replays { (end : Held) × Replays (held_of opening.now) turns.now end }
     requires length { length marks.old ≡ length turns.now }
     requires owners_length { length owners.old ≡ length turns.now }
@@ -144,8 +144,8 @@ fn audit_turns<L: Ledger>(
     turns: &[Turn],
     passes: &[Pass<L>],
 ) -> Result<(), CloseFault>
-    requires same { held_of chains.old ≡ held_of opening.now }
-    requires few { length turns.now ≤ turn_limit }
+    requires unchanged { held_of chains.old ≡ held_of opening.now }
+    requires at_most { length turns.now ≤ turn_limit }
     requires replays { (end : Held) × Replays (held_of opening.now) turns.now end }
     ensures ok { OnOk result (IsAudited (held_of opening.now) turns.now passes.now) }
     ensures err { IfErr result (IsCause (held_of opening.now) turns.now passes.now) }
@@ -214,7 +214,7 @@ fn audit_copy<L: Ledger, D: Disk>(
     ensures ok { OnOk result (IsAudited desk.now.opening desk.now.turns passes.now) }
     ensures err { IfErr result (IsCause desk.now.opening desk.now.turns passes.now) }
 {
-    desk.lawful();
+    desk.recall_lawful();
     let Ok(mut chains) = desk.opening() else {
         return Err(CloseFault::Memory);
     };

@@ -1,13 +1,12 @@
 //! The desk under one lock, and what clients call.
 
-ghost use Rattle.std.specs.Prelude.{◌≡◌, ◌<◌, ◌≤◌, [], length, IfOk, IfErr, IfSome, OnOk, OnErr};
+ghost use Rattle.std.specs.Prelude.{◌≡◌, ◌<◌, ◌≤◌, [], length, IfOk, IfErr, IfSome};
 ghost use Rattle.report_line.specs.declared.call.Call.TheVariants as calls;
 ghost use Rattle.chains.specs.Held.{held_of};
 ghost use Rattle.desk.specs.Files.{IsShort};
 ghost use Rattle.desk.specs.Records.{IsReadOff};
-ghost use Rattle.coordinator.specs.Passes.{IsPlain, IsAnswered, IsNewPass, line_call, ledger_parts};
-ghost use Rattle.coordinator.specs.Calls.{IsForeignOnly};
-ghost use Rattle.coordinator.specs.Standing.{IsMade};
+ghost use Rattle.coordinator.specs.Passes.{IsPlain, IsNewPass, line_call, ledger_parts};
+ghost use Rattle.coordinator.specs.PassTurn.{IsPassTurn};
 ghost use Rattle.coordinator.specs.Closing.{IsAuditCause, IsEnded, IsRefused, IsRemainder};
 
 use crate::auditing::audit;
@@ -186,10 +185,7 @@ impl<L: Ledger, D: Disk> Coordinator<L, D> {
     pub fn call<R: Wait>(&self, rt: &R, pass: &mut Pass<L>, call: Call) -> Result<(), CallFault>
         requires plain { IsPlain call }
         requires short { IsShort call }
-        ensures ok { OnOk result (IsAnswered pass.old call pass.new) }
-        ensures stands { OnOk result (IsMade D.keeps D.view pass.old call pass.new) }
-        ensures err { OnErr result (pass.new ≡ pass.old) }
-        ensures foreign { IfErr result (λ fault. IsForeignOnly pass.old fault) }
+        ensures turn { IsPassTurn D.keeps D.view pass.old call pass.new result }
     {
         self.call_by(rt, pass, None, call)
     }
@@ -205,10 +201,7 @@ impl<L: Ledger, D: Disk> Coordinator<L, D> {
         requires plain { IsPlain call }
         requires short { IsShort call }
         requires read { IsReadOff line.now call }
-        ensures ok { OnOk result (IsAnswered pass.old call pass.new) }
-        ensures stands { OnOk result (IsMade D.keeps D.view pass.old call pass.new) }
-        ensures err { OnErr result (pass.new ≡ pass.old) }
-        ensures foreign { IfErr result (λ fault. IsForeignOnly pass.old fault) }
+        ensures turn { IsPassTurn D.keeps D.view pass.old call pass.new result }
     {
         self.call_by(rt, pass, Some(line), call)
     }
@@ -224,10 +217,7 @@ impl<L: Ledger, D: Disk> Coordinator<L, D> {
         requires plain { IsPlain call }
         requires short { IsShort call }
         requires read { IfSome line (λ l. IsReadOff l.now call) }
-        ensures ok { OnOk result (IsAnswered pass.old call pass.new) }
-        ensures stands { OnOk result (IsMade D.keeps D.view pass.old call pass.new) }
-        ensures err { OnErr result (pass.new ≡ pass.old) }
-        ensures foreign { IfErr result (λ fault. IsForeignOnly pass.old fault) }
+        ensures turn { IsPassTurn D.keeps D.view pass.old call pass.new result }
     {
         let Ok(copy) = call.copy(self.alloc) else {
             return Err(CallFault::Memory);
@@ -246,10 +236,7 @@ impl<L: Ledger, D: Disk> Coordinator<L, D> {
         gate: &G,
         names: Names,
     ) -> Result<(), CallFault>
-        ensures ok { OnOk result (IsAnswered pass.old (line_call names) pass.new) }
-        ensures stands { OnOk result (IsMade D.keeps D.view pass.old (line_call names) pass.new) }
-        ensures err { OnErr result (pass.new ≡ pass.old) }
-        ensures foreign { IfErr result (λ fault. IsForeignOnly pass.old fault) }
+        ensures turn { IsPassTurn D.keeps D.view pass.old (line_call names) pass.new result }
     {
         self.ask(rt, pass, gate, gate, Call::Line(names))
     }
@@ -261,10 +248,7 @@ impl<L: Ledger, D: Disk> Coordinator<L, D> {
         pass: &mut Pass<L>,
         gate: &G,
     ) -> Result<(), CallFault>
-        ensures ok { OnOk result (IsAnswered pass.old calls.Garbage pass.new) }
-        ensures stands { OnOk result (IsMade D.keeps D.view pass.old calls.Garbage pass.new) }
-        ensures err { OnErr result (pass.new ≡ pass.old) }
-        ensures foreign { IfErr result (λ fault. IsForeignOnly pass.old fault) }
+        ensures turn { IsPassTurn D.keeps D.view pass.old calls.Garbage pass.new result }
     {
         self.ask(rt, pass, gate, gate, Call::Garbage)
     }
@@ -280,10 +264,7 @@ impl<L: Ledger, D: Disk> Coordinator<L, D> {
         call: Call,
     ) -> Result<(), CallFault>
         requires { IsShort call }
-        ensures ok { OnOk result (IsAnswered pass.old call pass.new) }
-        ensures stands { OnOk result (IsMade D.keeps D.view pass.old call pass.new) }
-        ensures err { OnErr result (pass.new ≡ pass.old) }
-        ensures foreign { IfErr result (λ fault. IsForeignOnly pass.old fault) }
+        ensures turn { IsPassTurn D.keeps D.view pass.old call pass.new result }
     {
         let Ok(asked) = call.copy(self.alloc) else {
             return Err(CallFault::Memory);
@@ -315,7 +296,7 @@ impl<L: Ledger, D: Disk> Coordinator<L, D> {
         match conclude(&opening, locked.into_inner(), passes.as_slice()) {
             Ok(ended) => Ok(ended),
             Err((fault, locked)) => {
-                locked.desk().lawful();
+                locked.desk().recall_lawful();
                 let coordinator = Coordinator {
                     alloc,
                     opening,
@@ -353,7 +334,7 @@ fn end_desk<D: Disk>(desk: Desk<D>) -> Ended<D>
     ensures front { result.front ≡ desk.held.front }
     ensures disk { result.disk ≡ desk.disk }
 {
-    desk.lawful();
+    desk.recall_lawful();
     let turns = desk.turns().len() as u32;
     let front = desk.front();
     let disk = desk.close();
@@ -371,7 +352,7 @@ fn finish_over<L: Ledger, D: Disk>(
 {
     let audited = audit(opening, locked.desk(), passes);
     let desk = locked.into_desk();
-    desk.lawful();
+    desk.recall_lawful();
     let ended = end_desk(desk);
     match audited {
         Ok(()) => Ok(ended),
@@ -386,13 +367,13 @@ fn conclude<L: Ledger, D: Disk>(
     passes: &[Pass<L>],
 ) -> Result<Ended<D>, (CloseFault, Locked<L, D>)>
     ensures ok { IfOk result (λ e. IsEnded D.keeps D.view (held_of opening.now) passes.now e.turns e.front e.disk) }
-    ensures same { IfErr result (λ r. r.1 ≡ locked) }
+    ensures unchanged { IfErr result (λ r. r.1 ≡ locked) }
     ensures cause { IfErr result (λ r. IsAuditCause (held_of opening.now) locked.desk passes.now r.0) }
 {
     if let Err(fault) = audit(opening, locked.desk(), passes) {
         return Err((fault, locked));
     }
     let desk = locked.into_desk();
-    desk.lawful();
+    desk.recall_lawful();
     Ok(end_desk(desk))
 }

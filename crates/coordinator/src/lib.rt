@@ -9,6 +9,7 @@ mod coordinator;
 mod entry;
 mod equal;
 mod fault;
+mod found;
 mod line;
 mod locked;
 mod marking;

@@ -63,7 +63,7 @@ pub(crate) fn show_line<L: Ledger, R: Threads + Sync, G: ChunkGate + Sync>(
     requires taken { (front : ℕ) × LastTaken pass.old.entries front }
     ensures { MayShowLine (held_of chains.now) call.now pass.old pass.new }
 {
-    chains.lawful();
+    chains.recall_lawful();
     if let Some(text) = line_for(rt, chains, call, workers, gate) {
         pass.show(text);
     }

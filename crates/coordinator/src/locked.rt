@@ -1,9 +1,8 @@
 //! What lies under the lock.
 
-ghost use Rattle.std.specs.Prelude.{◌≡◌, ◌+◌, ◌≤◌, ◌∷◌, ◌++◌, [], Err, length, unwrap_or, IfOk, IfErr, IfSome};
-ghost use Rattle.chains.specs.Turns.{IsTurn};
+ghost use Rattle.std.specs.Prelude.{◌≡◌, ◌+◌, ◌≤◌, length, unwrap_or, IfSome};
+ghost use Rattle.desk.specs.DeskTurn.{IsDeskTurn};
 ghost use Rattle.desk.specs.Files.{IsShort};
-ghost use Rattle.desk.specs.Lawful.{turn_limit};
 ghost use Rattle.desk.specs.Records.{IsReadOff};
 ghost use Rattle.coordinator.specs.Passes.{front_of, ledger_parts, pass_limit};
 
@@ -51,7 +50,7 @@ impl<L: Ledger, D: Disk> Locked<L, D> {
     ghost use Rattle.desk.specs.Records.{IsReadOff};
     ghost use Rattle.coordinator.specs.Passes.{new_pass};
     ghost use Rattle.coordinator.specs.Calls.{IsTurnFor, IsDue, IsTakenFor};
-    ghost use Rattle.coordinator.specs.Standing.{IsMade, IsMadeWith};
+    ghost use Rattle.coordinator.specs.Standing.{IsStandingTurn, IsMadeWith};
 
     /// The desk under a new book.
     pub fn new(blank: Blank, desk: Desk<D>) -> Locked<L, D>
@@ -96,7 +95,7 @@ impl<L: Ledger, D: Disk> Locked<L, D> {
         ensures processes { result.processes ≡ length (known self.now.desk.held.accepted) }
         ensures stopped { result.stopped ≡ self.now.desk.held.stopped }
     {
-        self.desk.lawful();
+        self.desk.recall_lawful();
         Progress {
             turns: self.desk.turns().len() as u32,
             front: self.desk.front(),
@@ -137,12 +136,12 @@ impl<L: Ledger, D: Disk> Locked<L, D> {
         requires short { IsShort call }
         requires read { IfSome line (λ l. IsReadOff l.now call) }
         ensures ok { OnOk result (IsTurnFor self.old.desk self.new.desk pass.old call pass.new) }
-        ensures stands { OnOk result (IsMade D.keeps D.view pass.old call pass.new) }
+        ensures stands { OnOk result (IsStandingTurn D.keeps D.view pass.old call pass.new) }
         ensures err { OnErr result ((self.new.desk ≡ self.old.desk) × (pass.new ≡ pass.old)) }
         ensures due { IfErr result (λ f. IsDue self.old.desk pass.old f) }
         ensures passes { self.new.passes ≡ self.old.passes }
     {
-        self.desk.lawful();
+        self.desk.recall_lawful();
         let front = self.desk.front();
         let turns = self.desk.turns().len() as u32;
         let last = pass.last_turn();
@@ -169,7 +168,7 @@ impl<L: Ledger, D: Disk> Locked<L, D> {
             Err(TurnFault::Worn) => return Err(CallFault::Worn),
             Err(TurnFault::Memory) => return Err(CallFault::Memory),
         };
-        desk.lawful();
+        desk.recall_lawful();
         book.add(share, 1);
         *seen = seen_after(*seen, &receipt.reply);
         entries.push_reserved(Entry::new(copy, receipt));
@@ -191,9 +190,9 @@ impl<L: Ledger, D: Disk> Locked<L, D> {
         ensures due { IfErr result (λ f. IsDue self.old.desk pass.old f) }
         ensures passes { self.new.passes ≡ self.old.passes }
     {
-        self.desk.lawful();
+        self.desk.recall_lawful();
         self.turn(pass, None, call, copy)?;
-        self.desk.lawful();
+        self.desk.recall_lawful();
         let Some(_front) = pass.taken() else {
             return Ok(None);
         };
@@ -212,13 +211,7 @@ fn make_turn<D: Disk>(
 ) -> Result<Receipt, TurnFault>
     requires short { IsShort call }
     requires read { IfSome line (λ l. IsReadOff l.now call) }
-    ensures step { IfOk result (λ receipt. IsTurn desk.old.held call receipt.reply desk.new.held) }
-    ensures turns { IfOk result (λ receipt. desk.new.turns ≡ desk.old.turns ++ record { call = call; receipt = receipt } ∷ []) }
-    ensures number { IfOk result (λ receipt. receipt.turn ≡ length desk.old.turns + 1) }
-    ensures opening { desk.new.opening ≡ desk.old.opening }
-    ensures found { desk.new.found ≡ desk.old.found }
-    ensures err { IfErr result (λ _. desk.new ≡ desk.old) }
-    ensures worn { result ≡ Err TurnFault.Worn → length desk.old.turns ≡ turn_limit }
+    ensures turn { IsDeskTurn D.keeps D.view D.failed desk.old call desk.new result }
 {
     match line {
         Some(line) => desk.turn_read(line, call),

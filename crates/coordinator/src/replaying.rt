@@ -1,15 +1,16 @@
 //! One replay of the turns, in which each shown line is tested at its place.
 
-ghost use Rattle.std.specs.Prelude.{◌≡◌, ◌≢◌, ◌≤◌, ◌<◌, length, IfErr, OnOk};
+ghost use Rattle.std.specs.Prelude.{◌≡◌, ◌≢◌, ◌≤◌, ◌<◌, false, length, IfErr, IfOk, OnOk};
 ghost use Rattle.chains.specs.Held.{Held, held_of, with_report};
 ghost use Rattle.report_line.specs.declared.marked.MarkedReport.{MarkedReport as AnyReport};
 ghost use Rattle.report_line.specs.declared.call.Call.TheVariants as calls;
 ghost use Rattle.chains.specs.Settled.{IsSettled};
 ghost use Rattle.chains.specs.Turns.{IsTurn};
 ghost use Rattle.desk.specs.Replays.{Replays};
-ghost use Rattle.coordinator.specs.working.Checks.{HaveSame, IsCheckedOver, IsWrongOver, AreCheckedTo, IsWrongThere};
+ghost use Rattle.coordinator.specs.working.Checks.{AreRight, HaveSame, IsCheckedOver, IsWrongOver, AreCheckedTo, IsWrongThere};
 
 use crate::fault::CloseFault;
+use crate::found::{forget_if, is_found, remember};
 use crate::marking::Owner;
 use crate::pass::Pass;
 use crate::shown_lines::is_right;
@@ -20,30 +21,35 @@ use report_line::{Call, MarkedReport, Names, Reply};
 use std::alloc::AllocError;
 use std::sync::ledger::Ledger;
 
-/// Tests the entry that has this turn, if it is there.
+/// Tests the entry that has this turn, if it is there. Answers whether that had to be done anew.
 fn check_entry<L: Ledger>(
     chains: &Chains,
     passes: &[Pass<L>],
+    found: &[Owner],
     owner: Owner,
     turn: usize,
-) -> Result<(), CloseFault>
+) -> Result<bool, CloseFault>
+    requires { AreRight passes.now (held_of chains.now) found.now }
     ensures ok { OnOk result (IsCheckedOver (held_of chains.now) passes.now owner turn) }
     ensures err { IfErr result (IsWrongOver (held_of chains.now) passes.now owner turn) }
 {
     if owner.pass >= passes.len() {
-        return Ok(());
+        return Ok(false);
     }
     let pass = &passes[owner.pass];
     let entries = pass.entries();
     if owner.entry >= entries.len() {
-        return Ok(());
+        return Ok(false);
     }
     let entry = &entries[owner.entry];
     if entry.receipt().turn as usize != turn {
-        return Ok(());
+        return Ok(false);
+    }
+    if is_found(passes, found, entry) {
+        return Ok(false);
     }
     match is_right(chains, entry) {
-        Ok(true) => Ok(()),
+        Ok(true) => Ok(true),
         Ok(false) => Err(CloseFault::Stranger(pass.number())),
         Err(_) => Err(CloseFault::Memory),
     }
@@ -70,31 +76,35 @@ fn settle_again(chains: &mut Chains, names: &Names) -> Result<(), AllocError>
     Ok(())
 }
 
-/// Replays one turn of another call than a report.
-fn replay_other(chains: &mut Chains, turn: &Turn) -> Result<(), AllocError>
+/// Replays one turn of another call than a report, and answers whether that changed anything.
+fn replay_other(chains: &mut Chains, turn: &Turn) -> Result<bool, AllocError>
     requires { (m : AnyReport) → turn.now.call ≢ calls.Report m }
-    ensures { (held after : Held) → HaveSame chains.old held → IsTurn held turn.now.call turn.now.receipt.reply after → OnOk result (HaveSame chains.new after) }
+    ensures unchanged { IfOk result (λ changed. changed ≡ false → chains.new ≡ chains.old) }
+    ensures replayed { (held after : Held) → HaveSame chains.old held → IsTurn held turn.now.call turn.now.receipt.reply after → OnOk result (HaveSame chains.new after) }
 {
     let Call::Settle { names, .. } = &turn.call else {
-        return Ok(());
+        return Ok(false);
     };
     let Reply::Settled { .. } = &turn.receipt.reply else {
-        return Ok(());
+        return Ok(false);
     };
-    settle_again(chains, names)
+    settle_again(chains, names)?;
+    Ok(true)
 }
 
-/// Replays one turn.
-fn replay(chains: &mut Chains, turn: &Turn) -> Result<(), AllocError>
-    ensures { (held after : Held) → HaveSame chains.old held → IsTurn held turn.now.call turn.now.receipt.reply after → OnOk result (HaveSame chains.new after) }
+/// Replays one turn, and answers whether that changed anything.
+fn replay(chains: &mut Chains, turn: &Turn) -> Result<bool, AllocError>
+    ensures unchanged { IfOk result (λ changed. changed ≡ false → chains.new ≡ chains.old) }
+    ensures replayed { (held after : Held) → HaveSame chains.old held → IsTurn held turn.now.call turn.now.receipt.reply after → OnOk result (HaveSame chains.new after) }
 {
     let Call::Report(report) = &turn.call else {
         return replay_other(chains, turn);
     };
     let Reply::Accepted(_) = &turn.receipt.reply else {
-        return Ok(());
+        return Ok(false);
     };
-    accept_again(chains, report)
+    accept_again(chains, report)?;
+    Ok(true)
 }
 
 /// Replays the turns over what was held at the opening, and tests at each the entry that has it.
@@ -105,23 +115,25 @@ pub(crate) fn check_lines<L: Ledger>(
     passes: &[Pass<L>],
     owners: &[Owner],
 ) -> Result<(), CloseFault>
-    requires same { held_of chains.old ≡ held_of opening.now }
+    requires unchanged { held_of chains.old ≡ held_of opening.now }
     requires length { length owners.now ≡ length turns.now }
     requires replays { (end : Held) × Replays (held_of opening.now) turns.now end }
     ensures ok { OnOk result (AreCheckedTo (held_of opening.now) turns.now passes.now owners.now (length turns.now)) }
     ensures err { IfErr result (IsWrongThere (held_of opening.now) turns.now passes.now) }
 {
-    let _opening = opening;
+    let mut found = Vec::new(opening.alloc());
     for i in 0..turns.len() {
         let owner = owners[i];
-        match check_entry(chains, passes, owner, i + 1) {
-            Ok(()) => {}
+        let is_new = match check_entry(chains, passes, &found, owner, i + 1) {
+            Ok(is_new) => is_new,
             Err(fault) => return Err(fault),
-        }
+        };
+        remember(passes, &mut found, owner, i + 1, is_new);
         let turn = &turns[i];
-        let Ok(()) = replay(chains, turn) else {
+        let Ok(changed) = replay(chains, turn) else {
             return Err(CloseFault::Memory);
         };
+        forget_if(&mut found, changed);
     }
     Ok(())
 }

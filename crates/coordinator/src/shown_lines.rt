@@ -14,6 +14,7 @@ ghost use Rattle.coordinator.specs.working.Checks.{RightOver, WrongOver};
 
 use crate::entry::Entry;
 use chains::{Chains, which_are_named};
+use line_answer::answer_for;
 use reason_check::{Verdict, check};
 use reasons::{Certificate, CertificateFault, from_json, to_json, written_certificates_are_read};
 use report_line::{Call, Names, Reply};
@@ -52,7 +53,7 @@ fn not_read(fault: CertificateFault) -> Result<Option<Certificate>, AllocError>
 fn read_in(chains: &Chains, text: &[u8]) -> Result<Option<Certificate>, AllocError>
     ensures { IfOk result (λ found. (c : AnyCertificate) → Certifies (held_of chains.now) c → text.now ≡ certificate_text chains.now.accepted c → found ≡ Some c) }
 {
-    chains.lawful();
+    chains.recall_lawful();
     written_certificates_are_read(chains);
     match from_json(chains, text) {
         Ok(certificate) => Ok(Some(certificate)),
@@ -149,8 +150,8 @@ fn is_garbage_line(chains: &Chains, text: &[u8]) -> Result<bool, AllocError>
     }
 }
 
-/// Whether the text is that of the line that the call asks for.
-fn is_line_for(chains: &Chains, call: &Call, text: &[u8]) -> Result<bool, AllocError>
+/// Whether the text is that of the line that the call asks for, by its certificate.
+fn is_certified_for(chains: &Chains, call: &Call, text: &[u8]) -> Result<bool, AllocError>
     ensures { IfOk result (λ b. IsTrue b ↔ IsLineFor (held_of chains.now) call.now text.now) }
 {
     match call {
@@ -163,6 +164,30 @@ fn is_line_for(chains: &Chains, call: &Call, text: &[u8]) -> Result<bool, AllocE
         | Call::Bad(_)
         | Call::Unread => Ok(false),
     }
+}
+
+/// Whether the call, asked again over these chains, is answered by this text.
+fn is_answered_so(chains: &Chains, call: &Call, text: &[u8]) -> bool
+    ensures { IsTrue result → IsLineFor (held_of chains.now) call.now text.now }
+{
+    match answer_for(chains, None, call) {
+        None => false,
+        Some(answer) => answer.as_bytes() == text,
+    }
+}
+
+/// A text of more bytes has long chains of reasons, so many rounds found it: to check it costs less than to answer again.
+const LONG_TEXT: usize = 65_536;
+
+/// Whether the text is that of the line that the call asks for. To answer again costs less than to check a certificate, if its chains are short;
+/// which text is right besides is for the check to say, since other reasons may certify the same line.
+fn is_line_for(chains: &Chains, call: &Call, text: &[u8]) -> Result<bool, AllocError>
+    ensures { IfOk result (λ b. IsTrue b ↔ IsLineFor (held_of chains.now) call.now text.now) }
+{
+    if text.len() <= LONG_TEXT && is_answered_so(chains, call, text) {
+        return Ok(true);
+    }
+    is_certified_for(chains, call, text)
 }
 
 /// Whether the entry shows no line, or the one that its call asked for.

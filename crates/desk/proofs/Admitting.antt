@@ -23,7 +23,7 @@ use Rattle.chains.proofs.Certain.{sure_number}
 use Rattle.chains.specs.Held.{Held}
 use Rattle.desk.specs.Records.{marked, IsBegin, IsRecorded, IsLineOf, Admits, Opens, one_more}
 use Rattle.desk.specs.Openings.{Reaches, IsReportRefusedBy, IsSettlementRefusedBy, IsRefusedWithEpoch, IsCallRefusedBy, RefusesRecords, RefusesFile}
-use Rattle.desk.specs.working.Reading.{IsUnread, RefusesCall, RefusesRecord, IsFaultOf}
+use Rattle.desk.specs.working.Reading.{IsUnread, RefusesCall, RefusesRecord, IsFaultOfRefusal}
 use Rattle.desk.specs.declared.fault.DeskFault.{DeskFault}
 use Rattle.desk.specs.declared.fault.DeskFault.TheVariants.{Foreign, Damaged, Line, Refused, Device, Memory}
 
@@ -58,7 +58,7 @@ unread_record held k epoch line Device unread = unread
 
 -- ---- refusals
 
-fault_is : (held : Held) (k epoch : ℕ) (call : Call) (refusal : No) (fault : DeskFault) → IsRecorded call → ((refusal.code ≢ OutOfMemory) → IsCallRefusedBy held epoch call (code_number refusal.code)) → IsFaultOf k refusal fault → RefusesCall held k epoch call fault
+fault_is : (held : Held) (k epoch : ℕ) (call : Call) (refusal : No) (fault : DeskFault) → IsRecorded call → ((refusal.code ≢ OutOfMemory) → IsCallRefusedBy held epoch call (code_number refusal.code)) → IsFaultOfRefusal k refusal fault → RefusesCall held k epoch call fault
 fault_is held k epoch call refusal fault recorded refused (inl wanting) = subst (λ (f : DeskFault). RefusesCall held k epoch call f) (sym wanting.1) tt
 fault_is held k epoch call refusal fault recorded refused (inr (other, is)) = subst (λ (f : DeskFault). RefusesCall held k epoch call f) (sym is) (refl, recorded, refused other)
 
@@ -78,7 +78,7 @@ with_epoch held epoch (Numbered r) code not refused = refused
 
 -- a report that admission refuses
 pub refuses_report : (held : Held) (k epoch : ℕ) (m : MarkedReport) (refusal : No) (fault : DeskFault) (after : Held) → m.epoch ≡ 0 → ¬ (IsBegin m.report × (epoch ≢ held.epoch))
-    → ((fate : Fate) × IsDeviceFree fate × IsReportTurn fate held (marked epoch m.report) (replies.No refusal.code refusal.name refusal.value) after) → IsFaultOf k refusal fault → RefusesCall held k epoch (calls.Report m) fault
+    → ((fate : Fate) × IsDeviceFree fate × IsReportTurn fate held (marked epoch m.report) (replies.No refusal.code refusal.name refusal.value) after) → IsFaultOfRefusal k refusal fault → RefusesCall held k epoch (calls.Report m) fault
 refuses_report held k epoch m refusal fault after unmarked not (fate, free, t) is =
     fault_is held k epoch (calls.Report m) refusal fault unmarked (λ other. with_epoch held epoch m.report (code_number refusal.code) not (report_refused held (marked epoch m.report) refusal fate after free t other)) is
 
@@ -87,7 +87,7 @@ settlement_refused held front names refusal (inl settling) other = (refusal.code
 settlement_refused held front names refusal (inr (answer, settling, takes, code, name, value)) other = absurd (other code)
 
 -- a settlement that its tests refuse
-pub refuses_settlement : (held : Held) (k epoch front : ℕ) (names others : List Name) (refusal : No) (fault : DeskFault) → epoch ≡ held.epoch → others ≡ names → IsSettleRefusal held front others refusal → IsFaultOf k refusal fault
+pub refuses_settlement : (held : Held) (k epoch front : ℕ) (names others : List Name) (refusal : No) (fault : DeskFault) → epoch ≡ held.epoch → others ≡ names → IsSettleRefusal held front others refusal → IsFaultOfRefusal k refusal fault
     → RefusesCall held k epoch (calls.Settle front names) fault
 refuses_settlement held k epoch front names others refusal fault now same refused is =
     fault_is held k epoch (calls.Settle front names) refusal fault tt

@@ -7,5 +7,6 @@ pub mod Lawful
 pub mod Openings
 pub mod OneOpening
 pub mod OfHistories
+pub mod DeskTurn
 pub mod Inside
 pub mod working

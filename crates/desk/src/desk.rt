@@ -1,11 +1,9 @@
 //! The desk.
 
-ghost use Rattle.std.specs.Prelude.{◌≡◌, ◌↔◌, ◌+◌, ◌≤◌, ◌++◌, [], ◌∷◌, ℕ, List, true, false, length, IfOk, IfErr, IfSome, MatchResult, vec_capacity};
-ghost use Rattle.line_disk.specs.Disk.{Leaves, LeavesAlways};
+ghost use Rattle.std.specs.Prelude.{◌≡◌, ◌↔◌, ◌≤◌, [], ℕ, List, false, IfOk, IfErr, IfSome, MatchResult, vec_capacity};
+ghost use Rattle.line_disk.specs.Disk.{Leaves};
 ghost use Rattle.record_file.specs.File.{Stands};
 ghost use Rattle.record_file.specs.Kept.{said_in};
-ghost use Rattle.report_line.specs.declared.reply.Outcome.TheVariants as outcomes;
-ghost use Rattle.report_line.specs.declared.reply.Reply.TheVariants.{Fail};
 ghost use Rattle.chains.specs.Held.{held_of};
 ghost use Rattle.desk.specs.working.Faults.{from_store};
 ghost use Rattle.desk.specs.Records.{Opens};
@@ -100,12 +98,11 @@ fn chains_of(alloc: Global, records: &[(u32, Vec<u8>)]) -> Result<(Chains, Chain
 impl<D: Disk> Desk<D> {
     ghost use Rattle.record_file.specs.Opening.{KeepsFile, IsSynced};
     ghost use Rattle.chains.specs.Folded.{IsReached};
-    ghost use Rattle.chains.specs.Turns.{IsTurn};
-    ghost use Rattle.desk.specs.Files.{MayStandFor, StandsWhile, IsShort, MayWantMemory, UsesDevice, CountsReply};
+    ghost use Rattle.desk.specs.DeskTurn.{IsDeskTurn};
+    ghost use Rattle.desk.specs.Files.{MayStandFor, IsShort};
     ghost use Rattle.desk.specs.Lawful.{IsLawfulDesk, unstopped};
     ghost use Rattle.desk.specs.Records.{IsReadOff};
-    ghost use Rattle.desk.specs.OfHistories.{IsTurnOfHistories, AreTurnsOfHistories};
-    ghost use Rattle.desk.specs.Placed.{IsPlacedBy};
+    ghost use Rattle.desk.specs.OfHistories.{AreTurnsOfHistories};
     ghost use Rattle.desk.specs.Openings.{RefusesFile, CountsDeskFault, LeavesFile, IsNotOfTheFile, IsReopened};
 
     /// Opens the record file on a disk, and admits its records in order. It takes the memory for all turns. A fault hands the
@@ -144,15 +141,15 @@ impl<D: Disk> Desk<D> {
     }
 
     /// Tells a proof what holds of each desk.
-    pub fn lawful(&self)
+    pub fn recall_lawful(&self)
         ensures lawful { IsLawfulDesk D.keeps D.view self.now }
         ensures reached { IsReached self.now.held }
         ensures opening { IsReached self.now.opening }
         // The reports of a lawful history, handed over in order, are accepted up to the first refusal; those of other epochs are set aside.
         ensures of_histories { AreTurnsOfHistories self.now.opening self.now.turns self.now.held }
     {
-        self.chains.lawful();
-        self.opening.lawful();
+        self.chains.recall_lawful();
+        self.opening.recall_lawful();
     }
 
     /// The accepted reports, as chains.
@@ -214,7 +211,7 @@ impl<D: Disk> Desk<D> {
         // What a crash leaves from now on.
         ensures left { D.keeps result → (c : List ℕ) → Leaves (D.view result) c → MayStandFor (records_of self) self.held.epoch self.turns c }
     {
-        self.lawful();
+        self.recall_lawful();
         let Desk {
             chains: _,
             opening: _,
@@ -235,11 +232,11 @@ impl<D: Disk> Desk<D> {
         ensures cause { MatchResult result (λ desk. D.failed desk.disk ≡ D.failed self.disk) (λ e. CountsDeskFault e.0 (D.failed self.disk) (D.failed e.1)) }
         ensures premise { MatchResult result (λ desk. D.keeps desk.disk ↔ D.keeps self.disk) (λ e. D.keeps e.1 ↔ D.keeps self.disk) }
     {
-        self.lawful();
+        self.recall_lawful();
         let alloc = self.chains.alloc();
         match Desk::open(alloc, self.close()) {
             Ok(desk) => {
-                desk.lawful();
+                desk.recall_lawful();
                 Ok(desk)
             }
             Err(refused) => Err(refused),
@@ -249,31 +246,7 @@ impl<D: Disk> Desk<D> {
     /// Makes the turn of a call.
     pub fn turn(&mut self, call: Call) -> Result<Receipt, TurnFault>
         requires { IsShort call }
-        ensures step { IfOk result (λ receipt. IsTurn self.old.held call receipt.reply self.new.held) }
-        ensures turns { IfOk result (λ receipt. self.new.turns ≡ self.old.turns ++ record { call = call; receipt = receipt } ∷ []) }
-        ensures number { IfOk result (λ receipt. receipt.turn ≡ length self.old.turns + 1) }
-        ensures opening { self.new.opening ≡ self.old.opening }
-        ensures found { self.new.found ≡ self.old.found }
-        ensures worn { length self.old.turns ≡ turn_limit → result ≡ Err TurnFault.Worn }
-        ensures err { IfErr result (λ fault. self.new ≡ self.old) }
-        ensures cause_err { result ≡ Err TurnFault.Worn → length self.old.turns ≡ turn_limit }
-        ensures memory { result ≡ Err TurnFault.Memory → MayWantMemory self.old.held call }
-        // The report that comes next of a lawful history is refused for want of room or of memory alone, where no device fails.
-        ensures of_histories { IfOk result (λ receipt. IsTurnOfHistories self.old.held call receipt.reply self.new.held) }
-
-        // What a crash may leave at any moment of the call; what it leaves behind it says `lawful`.
-        ensures any_moment { D.keeps self.old.disk → LeavesAlways (StandsWhile (records_of self.old) self.old.held.epoch self.old.turns call) (D.view self.old.disk) (D.view self.new.disk) }
-        ensures before { IfOk result (λ receipt. receipt.reply ≡ Fail outcomes.Before → D.keeps self.old.disk
-            → (c : List ℕ) → Leaves (D.view self.new.disk) c → Stands (records_of self.old) c) }
-        // That the record of just this call was written, and how far it came where the device failed.
-        ensures placed { D.keeps self.old.disk → IfOk result (λ receipt. IsPlacedBy receipt.reply (records_of self.old) self.old.held.epoch call (D.view self.old.disk) (D.view self.new.disk)) }
-
-        // No other reply comes of a call of the device, and a stopped store makes none.
-        ensures unmoved { IfOk result (λ receipt. ¬ UsesDevice receipt.reply → self.new.disk ≡ self.old.disk) }
-        ensures stopped_only { IfOk result (λ receipt. receipt.reply ≡ Fail outcomes.Stopped → self.old.held.stopped ≡ true) }
-        ensures stopped { self.old.held.stopped ≡ true → (self.new.disk ≡ self.old.disk) × (self.new.held ≡ self.old.held) }
-        ensures cause { IfOk result (λ receipt. CountsReply receipt.reply (D.failed self.old.disk) (D.failed self.new.disk)) }
-        ensures premise { D.keeps self.new.disk ↔ D.keeps self.old.disk }
+        ensures turn { IsDeskTurn D.keeps D.view D.failed self.old call self.new result }
     {
         self.turn_by(call, None)
     }
@@ -282,25 +255,7 @@ impl<D: Disk> Desk<D> {
     pub fn turn_read(&mut self, line: &[u8], call: Call) -> Result<Receipt, TurnFault>
         requires short { IsShort call }
         requires read { IsReadOff line.now call }
-        ensures step { IfOk result (λ receipt. IsTurn self.old.held call receipt.reply self.new.held) }
-        ensures turns { IfOk result (λ receipt. self.new.turns ≡ self.old.turns ++ record { call = call; receipt = receipt } ∷ []) }
-        ensures number { IfOk result (λ receipt. receipt.turn ≡ length self.old.turns + 1) }
-        ensures opening { self.new.opening ≡ self.old.opening }
-        ensures found { self.new.found ≡ self.old.found }
-        ensures worn { length self.old.turns ≡ turn_limit → result ≡ Err TurnFault.Worn }
-        ensures err { IfErr result (λ fault. self.new ≡ self.old) }
-        ensures cause_err { result ≡ Err TurnFault.Worn → length self.old.turns ≡ turn_limit }
-        ensures memory { result ≡ Err TurnFault.Memory → MayWantMemory self.old.held call }
-        ensures of_histories { IfOk result (λ receipt. IsTurnOfHistories self.old.held call receipt.reply self.new.held) }
-        ensures any_moment { D.keeps self.old.disk → LeavesAlways (StandsWhile (records_of self.old) self.old.held.epoch self.old.turns call) (D.view self.old.disk) (D.view self.new.disk) }
-        ensures before { IfOk result (λ receipt. receipt.reply ≡ Fail outcomes.Before → D.keeps self.old.disk
-            → (c : List ℕ) → Leaves (D.view self.new.disk) c → Stands (records_of self.old) c) }
-        ensures placed { D.keeps self.old.disk → IfOk result (λ receipt. IsPlacedBy receipt.reply (records_of self.old) self.old.held.epoch call (D.view self.old.disk) (D.view self.new.disk)) }
-        ensures unmoved { IfOk result (λ receipt. ¬ UsesDevice receipt.reply → self.new.disk ≡ self.old.disk) }
-        ensures stopped_only { IfOk result (λ receipt. receipt.reply ≡ Fail outcomes.Stopped → self.old.held.stopped ≡ true) }
-        ensures stopped { self.old.held.stopped ≡ true → (self.new.disk ≡ self.old.disk) × (self.new.held ≡ self.old.held) }
-        ensures cause { IfOk result (λ receipt. CountsReply receipt.reply (D.failed self.old.disk) (D.failed self.new.disk)) }
-        ensures premise { D.keeps self.new.disk ↔ D.keeps self.old.disk }
+        ensures turn { IsDeskTurn D.keeps D.view D.failed self.old call self.new result }
     {
         self.turn_by(call, Some(line))
     }
@@ -309,30 +264,12 @@ impl<D: Disk> Desk<D> {
     fn turn_by(&mut self, call: Call, line: Option<&[u8]>) -> Result<Receipt, TurnFault>
         requires short { IsShort call }
         requires read { IfSome line (λ l. IsReadOff l.now call) }
-        ensures step { IfOk result (λ receipt. IsTurn self.old.held call receipt.reply self.new.held) }
-        ensures turns { IfOk result (λ receipt. self.new.turns ≡ self.old.turns ++ record { call = call; receipt = receipt } ∷ []) }
-        ensures number { IfOk result (λ receipt. receipt.turn ≡ length self.old.turns + 1) }
-        ensures opening { self.new.opening ≡ self.old.opening }
-        ensures found { self.new.found ≡ self.old.found }
-        ensures worn { length self.old.turns ≡ turn_limit → result ≡ Err TurnFault.Worn }
-        ensures err { IfErr result (λ fault. self.new ≡ self.old) }
-        ensures cause_err { result ≡ Err TurnFault.Worn → length self.old.turns ≡ turn_limit }
-        ensures memory { result ≡ Err TurnFault.Memory → MayWantMemory self.old.held call }
-        ensures of_histories { IfOk result (λ receipt. IsTurnOfHistories self.old.held call receipt.reply self.new.held) }
-        ensures any_moment { D.keeps self.old.disk → LeavesAlways (StandsWhile (records_of self.old) self.old.held.epoch self.old.turns call) (D.view self.old.disk) (D.view self.new.disk) }
-        ensures before { IfOk result (λ receipt. receipt.reply ≡ Fail outcomes.Before → D.keeps self.old.disk
-            → (c : List ℕ) → Leaves (D.view self.new.disk) c → Stands (records_of self.old) c) }
-        ensures placed { D.keeps self.old.disk → IfOk result (λ receipt. IsPlacedBy receipt.reply (records_of self.old) self.old.held.epoch call (D.view self.old.disk) (D.view self.new.disk)) }
-        ensures unmoved { IfOk result (λ receipt. ¬ UsesDevice receipt.reply → self.new.disk ≡ self.old.disk) }
-        ensures stopped_only { IfOk result (λ receipt. receipt.reply ≡ Fail outcomes.Stopped → self.old.held.stopped ≡ true) }
-        ensures stopped { self.old.held.stopped ≡ true → (self.new.disk ≡ self.old.disk) × (self.new.held ≡ self.old.held) }
-        ensures cause { IfOk result (λ receipt. CountsReply receipt.reply (D.failed self.old.disk) (D.failed self.new.disk)) }
-        ensures premise { D.keeps self.new.disk ↔ D.keeps self.old.disk }
+        ensures turn { IsDeskTurn D.keeps D.view D.failed self.old call self.new result }
     {
         if self.turns.len() >= TURN_LIMIT {
             return Err(TurnFault::Worn);
         }
-        self.chains.lawful();
+        self.chains.recall_lawful();
         let (given, kept) = answered(&mut self.chains, &mut self.store, &call, line)?.into_parts();
         let turn = self.turns.len() as u32 + 1;
         self.turns.push_reserved(Turn {

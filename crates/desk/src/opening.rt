@@ -8,7 +8,7 @@ ghost use Rattle.report_line.specs.Replies.{code_number};
 ghost use Rattle.chains.specs.Held.{held_of};
 ghost use Rattle.desk.specs.Records.{AdmitsCall, Admits, IsRecorded, IsBegin, Opens};
 ghost use Rattle.desk.specs.Openings.{RefusesRecords};
-ghost use Rattle.desk.specs.working.Reading.{IsUnread, RefusesCall, RefusesRecord, IsFaultOf};
+ghost use Rattle.desk.specs.working.Reading.{IsUnread, RefusesCall, RefusesRecord, IsFaultOfRefusal};
 
 use crate::fault::DeskFault;
 use chains::{Admitted, Chains, No};
@@ -40,7 +40,7 @@ fn begins_in_other_epoch(chains: &Chains, epoch: u32, report: &PackedReport) -> 
 
 /// The fault of a record that is refused.
 fn fault_of(number: usize, refusal: No) -> DeskFault
-    ensures { IsFaultOf number refusal result }
+    ensures { IsFaultOfRefusal number refusal result }
 {
     if refusal.code == Code::OutOfMemory {
         return DeskFault::Memory;

@@ -34,7 +34,7 @@ fn append<D: Disk>(
     ensures spelled { UsesDevice result → HasSpelling (calls.Report (unmarked ready.report.report)) }
     ensures writes { Writes D.keeps D.view D.failed store.old store.new (said_of ready.report) (report_recorded ready.report result) result }
 {
-    ready.report().known();
+    ready.report().recall_facts();
     match store.append(ready.epoch(), line) {
         Appended::Done => {
             let _ = chains.commit(Prepared::Ready(ready));
@@ -97,7 +97,7 @@ fn place<D: Disk>(
 
 /// Prepares a report. Where its block cannot be shared, the report is copied.
 fn prepare(chains: &mut Chains, report: &MarkedReport) -> Result<Prepared, No>
-    ensures same { held_of chains.new ≡ held_of chains.old }
+    ensures unchanged { held_of chains.new ≡ held_of chains.old }
     ensures answer { Prepares (held_of chains.old) report.now result }
     ensures ready { IfOk result (λ prepared. IsReady prepared chains.new) }
 {

@@ -34,8 +34,8 @@ fn return_all<D: Disk>(
     ensures followed { IsFollowed (held_of chains.old) (said_settled chains.old.epoch front names.now) result }
     ensures writes { Writes D.keeps D.view D.failed store.old store.new (said_settled chains.old.epoch front names.now) (settlement_recorded front names.now result) result }
 {
-    chains.lawful();
-    names.known();
+    chains.recall_lawful();
+    names.recall_facts();
     let Ok(returned) = settle_named(chains, names) else {
         return refused(Code::OutOfMemory);
     };

@@ -18,7 +18,7 @@ use Rattle.std.proofs.lemmas.List.Elements.{filter_map-append}
 use Rattle.law_lines.proofs.Listed.{first_in, in_cases, none_in}
 use Rattle.driver.proofs.ElementEvents.{list_of, reported_of}
 
--- who is born by a deed
+-- who is born by a kind of step
 child_by : StepKind → List Name
 child_by (Fork c i) = c ∷ []
 child_by _ = []
@@ -34,10 +34,10 @@ known_by root h s (Fork c i) = refl
 known_by root h s (Retire q) = refl
 known_by root h s (Absorb r) = refl
 
-known_next : (root : Name) (h : History) (s : Step) → known (reported_of root (s ∷ h)) ≡ known (reported_of root h) ++ child_by s.deed
+known_next : (root : Name) (h : History) (s : Step) → known (reported_of root (s ∷ h)) ≡ known (reported_of root h) ++ child_by s.step_kind
 known_next root h s =
-    filter_map-append newborn (reported_of root h) (list_of (report_by root h s s.deed))
-    ∙ ap (λ (l : List Name). known (reported_of root h) ++ l) (known_by root h s s.deed)
+    filter_map-append newborn (reported_of root h) (list_of (report_by root h s s.step_kind))
+    ∙ ap (λ (l : List Name). known (reported_of root h) ++ l) (known_by root h s s.step_kind)
 
 forked_by : (d : StepKind) (p : Name) → Contains (child_by d) p → (i : IdTree) × (d ≡ Fork p i)
 unfolding child_by
@@ -66,18 +66,18 @@ known_is_born root [] p at unborn =
     ]
 known_is_born root (s ∷ h) p at unborn =
     let before = unborn_after root h s p unborn in
-    elim (Contains-append_cases (known (reported_of root h)) (child_by s.deed) p (subst (λ (l : List Name). Contains l p) (known_next root h s) at)) [
+    elim (Contains-append_cases (known (reported_of root h)) (child_by s.step_kind) p (subst (λ (l : List Name). Contains l p) (known_next root h s) at)) [
       | inl old ↦ known_is_born root h p old before.before
-      | inr new ↦ (let w = forked_by s.deed p new in before.not_child w.0 w.1)
+      | inr new ↦ (let w = forked_by s.step_kind p new in before.not_child w.0 w.1)
     ]
 
 -- by whether the process is born before the step
 module _ (root : Name) (h : History) (b : Event) (s : Step) (living : status root h s.process ≡ Living b) where
   still_known : (p : Name) → IsKnown (reported_of root h) p → IsKnown (reported_of root (s ∷ h)) p
-  still_known p at = subst (λ (l : List Name). Contains l p) (sym (known_next root h s)) (Contains-append_left (known (reported_of root h)) (child_by s.deed) p at)
+  still_known p at = subst (λ (l : List Name). Contains l p) (sym (known_next root h s)) (Contains-append_left (known (reported_of root h)) (child_by s.step_kind) p at)
 
-  new_known : (p : Name) (i : IdTree) → s.deed ≡ Fork p i → IsKnown (reported_of root (s ∷ h)) p
-  new_known p i is = subst (λ (l : List Name). Contains l p) (sym (known_next root h s)) (Contains-append_right (known (reported_of root h)) (child_by s.deed) p (forks_it s.deed p i is))
+  new_known : (p : Name) (i : IdTree) → s.step_kind ≡ Fork p i → IsKnown (reported_of root (s ∷ h)) p
+  new_known p i is = subst (λ (l : List Name). Contains l p) (sym (known_next root h s)) (Contains-append_right (known (reported_of root h)) (child_by s.step_kind) p (forks_it s.step_kind p i is))
 
 living_not_unborn : (e : Event) → Living e ≢ Unborn
 living_not_unborn e is = cc
@@ -96,7 +96,7 @@ stays_unborn h s p (Send m) no_fork no_absorb = refl
 stays_unborn h s p (Receive m) no_fork no_absorb = refl
 stays_unborn h s p (Retire q) no_fork no_absorb = refl
 
-pub absorption_of : (root : Name) (h : History) (b : Event) (s : Step) (r : Name) → IsAllowed root h b s s.deed → s.deed ≡ Absorb r → IsLawfulAbsorption root h b s r
+pub absorption_of : (root : Name) (h : History) (b : Event) (s : Step) (r : Name) → IsAllowed root h b s s.step_kind → s.step_kind ≡ Absorb r → IsLawfulAbsorption root h b s r
 absorption_of root h b s r w is = subst (λ (a : StepKind). IsAllowed root h b s a) is w
 
 pub born_is_known : {root : Name} {h : History} → IsLawful root h → (p : Name) → (¬ IsKnown (reported_of root h) p) → status root h p ≡ Unborn
@@ -109,5 +109,5 @@ born_is_known {root} start p unknown =
 born_is_known {root} (next {h = h} {s = s} {before = b} lawful living allowed) p unknown =
     let before : status root h p ≡ Unborn = born_is_known lawful p (λ at. unknown (still_known root h b s living p at)) in
     let differs : p ≢ s.process = λ same. living_not_unborn b (sym living ∙ (ap (status root h) (sym same) ∙ before)) in
-    status_others root h s p differs ∙ (ap (status_of_other h s s.deed p) before ∙ stays_unborn h s p s.deed (λ i forks. unknown (new_known root h b s living p i forks))
+    status_others root h s p differs ∙ (ap (status_of_other h s s.step_kind p) before ∙ stays_unborn h s p s.step_kind (λ i forks. unknown (new_known root h b s living p i forks))
     (λ absorbs. (let w = absorption_of root h b s p allowed absorbs in unborn_retired w.retirement s.process (sym before ∙ w.into_this))))

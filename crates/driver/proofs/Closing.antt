@@ -24,15 +24,15 @@ IsInOrder cut = (a b : Event) → a.process ≡ b.process → a.number ≤ b.num
 
 -- Of the edges to the step and from its fork, those that no order of events closes.
 pub record IsClosedAt (root : Name) (h : History) (cut : Cut) (s : Step) : Type 0 where
-  pub birth : (c : Name) (i : IdTree) → s.deed ≡ Fork c i → cut (birth_by h s c i) ≡ true → cut (event_of h s) ≡ true
-  pub sent : (m : Message) (x : Event) → s.deed ≡ Receive m → sending h m ≡ Some x → cut (event_of h s) ≡ true → cut x ≡ true
-  pub retired : (r : Name) (x : Event) → s.deed ≡ Absorb r → status root h r ≡ Retired x s.process → cut (event_of h s) ≡ true → cut x ≡ true
+  pub birth : (c : Name) (i : IdTree) → s.step_kind ≡ Fork c i → cut (birth_by h s c i) ≡ true → cut (event_of h s) ≡ true
+  pub sent : (m : Message) (x : Event) → s.step_kind ≡ Receive m → sending h m ≡ Some x → cut (event_of h s) ≡ true → cut x ≡ true
+  pub retired : (r : Name) (x : Event) → s.step_kind ≡ Absorb r → status root h r ≡ Retired x s.process → cut (event_of h s) ≡ true → cut x ≡ true
 
 data Arrow (root : Name) (h : History) (s : Step) (a b : Event) : Type 0 where
   is_next : status root h s.process ≡ Living a → b ≡ event_of h s → Arrow root h s a b
-  is_birth : (c : Name) (i : IdTree) → s.deed ≡ Fork c i → a ≡ event_of h s → b ≡ birth_by h s c i → Arrow root h s a b
-  is_receive : (m : Message) → s.deed ≡ Receive m → sending h m ≡ Some a → b ≡ event_of h s → Arrow root h s a b
-  is_absorption : (r : Name) → s.deed ≡ Absorb r → status root h r ≡ Retired a s.process → b ≡ event_of h s → Arrow root h s a b
+  is_birth : (c : Name) (i : IdTree) → s.step_kind ≡ Fork c i → a ≡ event_of h s → b ≡ birth_by h s c i → Arrow root h s a b
+  is_receive : (m : Message) → s.step_kind ≡ Receive m → sending h m ≡ Some a → b ≡ event_of h s → Arrow root h s a b
+  is_absorption : (r : Name) → s.step_kind ≡ Absorb r → status root h r ≡ Retired a s.process → b ≡ event_of h s → Arrow root h s a b
   is_earlier : Edge root h a b → Arrow root h s a b
 
 arrow : {root : Name} {h : History} {s : Step} {a b : Event} → Edge root (s ∷ h) a b → Arrow root h s a b
@@ -73,15 +73,15 @@ unfolding sending kept
 left_unsent start cut m x closed is out = refl
 left_unsent {root} (next {h = h} {s = s} {before = b} lawful living allowed) cut m x closed is out =
     let before = closed_before root cut h s closed in
-    elim (cases_Bool (sends s.deed m)) [
+    elim (cases_Bool (sends s.step_kind m)) [
       | inl this ↦
-          (let same : Some (event_of h s) ≡ Some x = sym (cond-true (sends s.deed m) _ _ this) ∙ is in
+          (let same : Some (event_of h s) ≡ Some x = sym (cond-true (sends s.step_kind m) _ _ this) ∙ is in
           let event : event_of h s ≡ x = cc in
-          ap (λ (g : History). sending g m) (kept_left cut h s (ap cut event ∙ out)) ∙ (follows root cut h before).unsent m (first_sent root h b s m s.deed allowed this))
+          ap (λ (g : History). sending g m) (kept_left cut h s (ap cut event ∙ out)) ∙ (follows root cut h before).unsent m (first_sent root h b s m s.step_kind allowed this))
       | inr other ↦
-          (let there = left_unsent lawful cut m x before (sym (cond-false (sends s.deed m) _ _ other) ∙ is) out in
+          (let there = left_unsent lawful cut m x before (sym (cond-false (sends s.step_kind m) _ _ other) ∙ is) out in
           elim (cases_Bool (cut (event_of h s))) [
-            | inl reached ↦ ap (λ (g : History). sending g m) (kept_taken cut h s reached) ∙ (cond-false (sends s.deed m) _ _ other ∙ there)
+            | inl reached ↦ ap (λ (g : History). sending g m) (kept_taken cut h s reached) ∙ (cond-false (sends s.step_kind m) _ _ other ∙ there)
             | inr beyond ↦ ap (λ (g : History). sending g m) (kept_left cut h s beyond) ∙ there
           ])
     ]
@@ -125,22 +125,22 @@ other_stands h s r (Absorb q) now not_born =
     ]
 other_stands h s r _ now not_born = inl refl
 
-was_retired_next : (root : Name) (h : History) (b : Event) (cut : Cut) (s : Step) (r q : Name) → status root h s.process ≡ Living b → IsAllowed root h b s s.deed → WasRetired root h cut r q → WasRetired root (s ∷ h) cut r q
+was_retired_next : (root : Name) (h : History) (b : Event) (cut : Cut) (s : Step) (r q : Name) → status root h s.process ≡ Living b → IsAllowed root h b s s.step_kind → WasRetired root h cut r q → WasRetired root (s ∷ h) cut r q
 was_retired_next root h b cut s r q living allowed was =
     elim was [
       | inl w ↦
           (let differs : r ≢ s.process = λ same. living_retired b w.0 q (sym living ∙ (ap (status root h) (sym same) ∙ w.1)) in
-          let not_born : (i : IdTree) → s.deed ≢ Fork r i = λ i forks. unborn_retired w.0 q (sym (fork_of root h b s r i allowed forks).new_name ∙ w.1) in
+          let not_born : (i : IdTree) → s.step_kind ≢ Fork r i = λ i forks. unborn_retired w.0 q (sym (fork_of root h b s r i allowed forks).new_name ∙ w.1) in
           let there = status_others root h s r differs in
-          elim (other_stands h s r s.deed (status root h r) not_born) [
+          elim (other_stands h s r s.step_kind (status root h r) not_born) [
             | inl same ↦ inl (w.0, there ∙ (same ∙ w.1), w.2)
             | inr gone ↦ inr (there ∙ gone)
           ])
       | inr absorbed ↦
           (let differs : r ≢ s.process = λ same. living_absorbed b (sym living ∙ (ap (status root h) (sym same) ∙ absorbed)) in
-          let not_born : (i : IdTree) → s.deed ≢ Fork r i = λ i forks. unborn_absorbed (sym (fork_of root h b s r i allowed forks).new_name ∙ absorbed) in
+          let not_born : (i : IdTree) → s.step_kind ≢ Fork r i = λ i forks. unborn_absorbed (sym (fork_of root h b s r i allowed forks).new_name ∙ absorbed) in
           let there = status_others root h s r differs in
-          elim (other_stands h s r s.deed (status root h r) not_born) [
+          elim (other_stands h s r s.step_kind (status root h r) not_born) [
             | inl same ↦ inr (there ∙ (same ∙ absorbed))
             | inr gone ↦ inr (there ∙ gone)
           ])
@@ -164,10 +164,10 @@ was_retired {root} (next {h = h} {s = s} {before = b} lawful living allowed) cut
           (let now : status root (s ∷ kept cut h) r ≡ Retired y q = ap (λ (g : History). status root g r) (sym (kept_taken cut h s reached)) ∙ is in
           elim (cases_name r s.process) [
             | inl same ↦
-                (let acts = actor_retires (kept cut h) h s s.deed y q (sym (status_acts root (kept cut h) s r same) ∙ now) in
-                inl (event_of h s, status_acts root h s r same ∙ acts.1, reached))
+                (let report_kinds = actor_retires (kept cut h) h s s.step_kind y q (sym (status_acts root (kept cut h) s r same) ∙ now) in
+                inl (event_of h s, status_acts root h s r same ∙ report_kinds.1, reached))
             | inr differs ↦
-                (let other = other_retired (kept cut h) h s r s.deed (status root (kept cut h) r) y q (sym (status_others root (kept cut h) s r differs) ∙ now) in
+                (let other = other_retired (kept cut h) h s r s.step_kind (status root (kept cut h) r) y q (sym (status_others root (kept cut h) s r differs) ∙ now) in
                 elim (was_retired lawful cut r q y before other.0) [
                   | inl w ↦ inl (w.0, status_others root h s r differs ∙ (other.1 (status root h r) ∙ w.1), w.2)
                   | inr absorbed ↦ inr (status_others root h s r differs ∙ (other.1 (status root h r) ∙ absorbed))

@@ -15,7 +15,7 @@ use Rattle.report_line.specs.declared.step.Step.{Step}
 use Rattle.report_line.specs.histories.History.{Name, History, Event, birth_of_root, event_of, birth_by}
 use Rattle.report_line.specs.histories.StepReports.{report_by, reports}
 use Rattle.chains.specs.Processes.{is_numbered_of, last_report, target_after, target_of}
-use Rattle.chains.specs.Elements.{only_if, lasting_made, lasting_of, present_in, elements_of}
+use Rattle.chains.specs.Elements.{only_if, stable_made, stable_of, present_in, elements_of}
 use Rattle.chains.proofs.Stepping.{passing, failing}
 use Rattle.driver.specs.Stamping.{stamp_of}
 
@@ -28,36 +28,36 @@ list_of o = cons_option o []
 
 -- ---- the elements that last
 
-abbrev pub lasting_by : History → Step → Name → StepKind → List Event
-lasting_by h s p Check = if bytes_eq p s.process then event_of h s ∷ [] else []
-lasting_by h s p (Fork c i) = if bytes_eq p c then birth_by h s c i ∷ [] else []
-lasting_by h s p _ = []
+abbrev pub stable_by : History → Step → Name → StepKind → List Event
+stable_by h s p Check = if bytes_eq p s.process then event_of h s ∷ [] else []
+stable_by h s p (Fork c i) = if bytes_eq p c then birth_by h s c i ∷ [] else []
+stable_by h s p _ = []
 
-abbrev pub lasting_events : Name → History → Name → List Event
-lasting_events root [] p = if bytes_eq p root then birth_of_root root ∷ [] else []
-lasting_events root (s ∷ h) p = lasting_events root h p ++ lasting_by h s p s.deed
+abbrev pub stable_events : Name → History → Name → List Event
+stable_events root [] p = if bytes_eq p root then birth_of_root root ∷ [] else []
+stable_events root (s ∷ h) p = stable_events root h p ++ stable_by h s p s.step_kind
 
 one_if : (b : Bool) (e : Event) → list_of (only_if b (stamp_of e)) ≡ map stamp_of (if b then e ∷ [] else [])
 one_if true e = refl
 one_if false e = refl
 
-lasting_here : (root : Name) (h : History) (s : Step) (p : Name) (d : StepKind) → filter_map (lasting_made p) (list_of (report_by root h s d)) ≡ map stamp_of (lasting_by h s p d)
-lasting_here root h s p Work = refl
-lasting_here root h s p Check = one_if (bytes_eq p s.process) (event_of h s)
-lasting_here root h s p Present = refl
-lasting_here root h s p (Send m) = refl
-lasting_here root h s p (Receive m) = refl
-lasting_here root h s p (Fork c i) = one_if (bytes_eq p c) (birth_by h s c i)
-lasting_here root h s p (Retire q) = refl
-lasting_here root h s p (Absorb r) = refl
+stable_here : (root : Name) (h : History) (s : Step) (p : Name) (d : StepKind) → filter_map (stable_made p) (list_of (report_by root h s d)) ≡ map stamp_of (stable_by h s p d)
+stable_here root h s p Work = refl
+stable_here root h s p Check = one_if (bytes_eq p s.process) (event_of h s)
+stable_here root h s p Present = refl
+stable_here root h s p (Send m) = refl
+stable_here root h s p (Receive m) = refl
+stable_here root h s p (Fork c i) = one_if (bytes_eq p c) (birth_by h s c i)
+stable_here root h s p (Retire q) = refl
+stable_here root h s p (Absorb r) = refl
 
-pub lasting_is : (root : Name) (h : History) (p : Name) → lasting_of p (reported_of root h) ≡ map stamp_of (lasting_events root h p)
-lasting_is root [] p = one_if (bytes_eq p root) (birth_of_root root)
-lasting_is root (s ∷ h) p =
-    filter_map-append (lasting_made p) (reported_of root h) (list_of (report_by root h s s.deed))
-    ∙ (ap (λ l. l ++ filter_map (lasting_made p) (list_of (report_by root h s s.deed))) (lasting_is root h p)
-    ∙ (ap (λ l. map stamp_of (lasting_events root h p) ++ l) (lasting_here root h s p s.deed)
-    ∙ sym (map-append stamp_of (lasting_events root h p) (lasting_by h s p s.deed))))
+pub stable_is : (root : Name) (h : History) (p : Name) → stable_of p (reported_of root h) ≡ map stamp_of (stable_events root h p)
+stable_is root [] p = one_if (bytes_eq p root) (birth_of_root root)
+stable_is root (s ∷ h) p =
+    filter_map-append (stable_made p) (reported_of root h) (list_of (report_by root h s s.step_kind))
+    ∙ (ap (λ l. l ++ filter_map (stable_made p) (list_of (report_by root h s s.step_kind))) (stable_is root h p)
+    ∙ (ap (λ l. map stamp_of (stable_events root h p) ++ l) (stable_here root h s p s.step_kind)
+    ∙ sym (map-append stamp_of (stable_events root h p) (stable_by h s p s.step_kind))))
 
 -- ---- the last report: a present state, or a retirement
 
@@ -73,7 +73,7 @@ present_by (Absorb r) e before = None
 
 abbrev pub present_event : History → Name → Option Event
 present_event [] p = None
-present_event (s ∷ h) p = if bytes_eq p s.process then present_by s.deed (event_of h s) (present_event h p) else present_event h p
+present_event (s ∷ h) p = if bytes_eq p s.process then present_by s.step_kind (event_of h s) (present_event h p) else present_event h p
 
 abbrev pub retired_by : StepKind → Bool → Bool
 retired_by Work before = before
@@ -87,7 +87,7 @@ retired_by (Absorb r) before = false
 
 abbrev pub retired_in : History → Name → Bool
 retired_in [] p = false
-retired_in (s ∷ h) p = if bytes_eq p s.process then retired_by s.deed (retired_in h p) else retired_in h p
+retired_in (s ∷ h) p = if bytes_eq p s.process then retired_by s.step_kind (retired_in h p) else retired_in h p
 
 -- what the last report of a process tells
 record Tells (o : Option Report) (e : Option Event) (b : Bool) : Type 0 where
@@ -125,11 +125,11 @@ tells root (s ∷ h) p =
     let before = tells root h p in
     elim (cases_Bool (bytes_eq p s.process)) [
       | inl same ↦
-          subst (λ b. Tells (with_step p root h s s.deed) (if b then present_by s.deed (event_of h s) (present_event h p) else present_event h p) (if b then retired_by s.deed (retired_in h p) else retired_in h p))
-          (sym same) (told_by root h s p s.deed (present_event h p) (retired_in h p) before same)
+          subst (λ b. Tells (with_step p root h s s.step_kind) (if b then present_by s.step_kind (event_of h s) (present_event h p) else present_event h p) (if b then retired_by s.step_kind (retired_in h p) else retired_in h p))
+          (sym same) (told_by root h s p s.step_kind (present_event h p) (retired_in h p) before same)
       | inr other ↦
-          subst (λ b. Tells (with_step p root h s s.deed) (if b then present_by s.deed (event_of h s) (present_event h p) else present_event h p) (if b then retired_by s.deed (retired_in h p) else retired_in h p))
-          (sym other) (subst (λ o. Tells o (present_event h p) (retired_in h p)) (sym (not_told_by root h s p s.deed other)) before)
+          subst (λ b. Tells (with_step p root h s s.step_kind) (if b then present_by s.step_kind (event_of h s) (present_event h p) else present_event h p) (if b then retired_by s.step_kind (retired_in h p) else retired_in h p))
+          (sym other) (subst (λ o. Tells o (present_event h p) (retired_in h p)) (sym (not_told_by root h s p s.step_kind other)) before)
     ]
 
 pub retired_is : (root : Name) (h : History) (p : Name) → is_some (target_of p (reported_of root h)) ≡ retired_in h p
@@ -138,10 +138,10 @@ retired_is root h p = (tells root h p).retired
 -- ---- all elements
 
 abbrev pub element_events : Name → History → Name → List Event
-element_events root h p = lasting_events root h p ++ list_of (present_event h p)
+element_events root h p = stable_events root h p ++ list_of (present_event h p)
 
 pub elements_are : (root : Name) (h : History) (p : Name) → elements_of p (reported_of root h) ≡ map stamp_of (element_events root h p)
 elements_are root h p =
-    ap (λ l. l ++ present_in (last_report p (reported_of root h))) (lasting_is root h p)
-    ∙ (ap (λ l. map stamp_of (lasting_events root h p) ++ l) (tells root h p).present
-    ∙ sym (map-append stamp_of (lasting_events root h p) (list_of (present_event h p))))
+    ap (λ l. l ++ present_in (last_report p (reported_of root h))) (stable_is root h p)
+    ∙ (ap (λ l. map stamp_of (stable_events root h p) ++ l) (tells root h p).present
+    ∙ sym (map-append stamp_of (stable_events root h p) (list_of (present_event h p))))

@@ -13,7 +13,7 @@ use Rattle.event_tree.specs.EventTree.{EventTree}
 use Rattle.event_tree.specs.Join.{IsJoin}
 use Rattle.event_tree.specs.Values.{value_at, IsAtOrBelow}
 use Rattle.report_line.specs.declared.report.ReportKind.{ReportKind}
-use Rattle.report_line.specs.declared.report.ReportKind.TheVariants as acts
+use Rattle.report_line.specs.declared.report.ReportKind.TheVariants as report_kinds
 use Rattle.report_line.specs.declared.report.NumberedReport.{NumberedReport}
 use Rattle.report_line.specs.declared.report.Report.{Report}
 use Rattle.report_line.specs.declared.report.Report.TheVariants.{Begin, Numbered}
@@ -49,7 +49,7 @@ right_below e f g join p = (let is = join p in omega arith)
 -- ---- the report of a step is fit behind those of the steps before it
 
 module _ (accepted : List Report) (root : Name) (h : History) (b : Event) (s : Step) (tied : AreTied accepted root h)
-    (lives : status root h s.process ≡ Living b) (allowed : IsAllowed root h b s s.deed) where
+    (lives : status root h s.process ≡ Living b) (allowed : IsAllowed root h b s s.step_kind) where
   own : IsHeld accepted s.process b
   own = tied.held s.process b (ap last_of lives)
 
@@ -59,10 +59,10 @@ module _ (accepted : List Report) (root : Name) (h : History) (b : Event) (s : S
 
   grown : AreGrown (last_events s.process accepted) (registered_id s.process accepted) s.stamp.events
   grown =
-      let up = rises_by root h b s s.deed allowed in
+      let up = rises_by root h b s s.step_kind allowed in
       let low : value_at (last_events s.process accepted) up.0 ≤ value_at b.values up.0 = own.below up.0 in
       let less : value_at b.values up.0 < value_at s.stamp.events up.0 = up.2 in
-      (then_below (last_events s.process accepted) b.values s.stamp.events own.below (never_falls_by root h b s s.deed allowed), (up.0, sym (own.same up.0) ∙ up.1, omega arith))
+      (then_below (last_events s.process accepted) b.values s.stamp.events own.below (never_falls_by root h b s s.step_kind allowed), (up.0, sym (own.same up.0) ∙ up.1, omega arith))
 
   absorbed_id : (q : Name) (e : Event) → status root h q ≡ Retired e s.process → IsNormal s.stamp.id → AreTogether b.id e.id s.stamp.id
       → s.stamp.id ≡ sum_of (registered_id s.process accepted) (registered_id q accepted)
@@ -95,11 +95,11 @@ module _ (accepted : List Report) (root : Name) (h : History) (b : Event) (s : S
   fit_by (Send m) r is w = absurd (none_report r is)
   fit_by (Receive m) r is w = absurd (none_report r is)
   fit_by Check r is w = subst (λ (x : Report). HasLine x → IsFit accepted x) (same_Some _ r is)
-      (λ line. fit_with s.stamp.id acts.Check (is_registered s.stamp.id line.1.stamped.id.normal w.same_id) tt)
+      (λ line. fit_with s.stamp.id report_kinds.Check (is_registered s.stamp.id line.1.stamped.id.normal w.same_id) tt)
   fit_by Present r is w = subst (λ (x : Report). HasLine x → IsFit accepted x) (same_Some _ r is)
-      (λ line. fit_with s.stamp.id acts.Present (is_registered s.stamp.id line.1.stamped.id.normal w.same_id) tt)
+      (λ line. fit_with s.stamp.id report_kinds.Present (is_registered s.stamp.id line.1.stamped.id.normal w.same_id) tt)
   fit_by (Retire q) r is w = subst (λ (x : Report). HasLine x → IsFit accepted x) (same_Some _ r is)
-      (λ line. fit_with s.stamp.id (acts.Retire q) (is_registered s.stamp.id line.1.stamped.id.normal w.0.same_id) tt)
+      (λ line. fit_with s.stamp.id (report_kinds.Retire q) (is_registered s.stamp.id line.1.stamped.id.normal w.0.same_id) tt)
   fit_by (Fork c i) r is w = subst (λ (x : Report). HasLine x → IsFit accepted x) (same_Some _ r is)
       (λ line. fit_with (id_of (status root h s.process)) (fork_of s c i)
       (is_registered (id_of (status root h s.process)) line.1.stamped.id.normal (λ point. ap (λ (k : IdTree). owns k point) (ap id_of lives))) (
@@ -109,7 +109,7 @@ module _ (accepted : List Report) (root : Name) (h : History) (b : Event) (s : S
   fit_by (Absorb q) r is w = subst (λ (x : Report). HasLine x → IsFit accepted x) (same_Some _ r is)
       (λ line.
       (let other = tied.held q w.retirement (ap last_of w.into_this) in
-      fit_with s.stamp.id (acts.Absorb q) (absorbed_id q w.retirement w.into_this line.1.stamped.id.normal w.together) (
+      fit_with s.stamp.id (report_kinds.Absorb q) (absorbed_id q w.retirement w.into_this line.1.stamped.id.normal w.together) (
         tied.retired q w.retirement s.process w.into_this,
         then_below (last_events q accepted) w.retirement.values s.stamp.events other.below (right_below w.between w.retirement.values s.stamp.events w.joined),
       )))
@@ -125,7 +125,7 @@ folds root [] w = one_folded [] (Begin root) nothing_folded refl
 folds root (s ∷ h) w =
     let e = ends root h s w in
     folds_with (handed_over root h) (report_of root h s) (folds root h e.before)
-    (λ r is. fit_by (handed_over root h) root h e.last s (tied_all root h e.before) e.lives e.allowed s.deed r is e.allowed (e.line r is))
+    (λ r is. fit_by (handed_over root h) root h e.last s (tied_all root h e.before) e.lives e.allowed s.step_kind r is e.allowed (e.line r is))
 
 -- ---- and it agrees with the history
 

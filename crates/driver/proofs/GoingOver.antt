@@ -21,8 +21,8 @@ use Rattle.law_histories.proofs.Follows.{kept_taken, kept_left, follows, closed_
 use Rattle.law_histories.proofs.Keeping.{kept_is_lawful}
 use Rattle.law_lines.proofs.Folding.{within, is_within}
 use Rattle.driver.specs.declared.fault.StepFault.{StepFault}
-use Rattle.driver.specs.declared.known.Known.{Known}
-use Rattle.driver.specs.declared.known.Known.TheVariants.{Born, Lives, Waits, Gone as Away}
+use Rattle.driver.specs.declared.process_status.ProcessStatus.{ProcessStatus}
+use Rattle.driver.specs.declared.process_status.ProcessStatus.TheVariants.{Born, Lives, Waits, Gone as Away}
 use Rattle.driver.specs.declared.mark.Mark.{Mark}
 use Rattle.driver.specs.declared.tables.Tables.{Tables}
 use Rattle.driver.specs.working.Made.{Made}
@@ -60,7 +60,7 @@ pub record IsNext (root : Name) (h : History) (s : Taken) : Type 0 where
   pub lawful : IsLawful root h
   pub before : Event
   pub living : status root h s.process ≡ Living before
-  pub allowed : IsAllowed root h before s s.deed
+  pub allowed : IsAllowed root h before s s.step_kind
 
 head_of : {root : Name} {whole : History} → IsLawful root whole → (s : Taken) (h : History) → whole ≡ s ∷ h → IsNext root h s
 head_of start s h is = absurd (filled s h is)
@@ -93,10 +93,10 @@ is_ready root h s n made lawful count remade line =
     record {
       before = w.before;
       living = ap (λ (x : Taken). status root h x.process) remade.step ∙ w.living;
-      allowed = subst (λ (x : Taken). IsAllowed root h w.before x x.deed) (sym remade.step) w.allowed;
+      allowed = subst (λ (x : Taken). IsAllowed root h w.before x x.step_kind) (sym remade.step) w.allowed;
       changes = record {
-        reports = remade.reports ∙ (ap (reports_after s.deed) count ∙ ap (λ (x : Taken). reports_after x.deed (reporting_steps x.process h)) (sym remade.step));
-        other = remade.other ∙ ap (λ (x : Taken). kept_of_other x.deed x.stamp) (sym remade.step);
+        reports = remade.reports ∙ (ap (reports_after s.step_kind) count ∙ ap (λ (x : Taken). reports_after x.step_kind (reporting_steps x.process h)) (sym remade.step));
+        other = remade.other ∙ ap (λ (x : Taken). kept_of_other x.step_kind x.stamp) (sym remade.step);
       };
       line = subst (HasLineOf root h) (sym remade.step) line;
     }
@@ -121,7 +121,7 @@ abbrev shown_waiting : Option (Option Standing) → Bool
 shown_waiting (Some (Some (WaitsWith s q))) = true
 shown_waiting _ = false
 
-waits_as_shown : (steps : List Taken) (o : Option Known) (now : Status) (n : ℕ) → option_map (standing steps) o ≡ shown now n → is_waiting o ≡ shown_waiting (shown now n)
+waits_as_shown : (steps : List Taken) (o : Option ProcessStatus) (now : Status) (n : ℕ) → option_map (standing steps) o ≡ shown now n → is_waiting o ≡ shown_waiting (shown now n)
 waits_as_shown steps None now n is = ap shown_waiting is
 waits_as_shown steps (Some (Born s)) now n is = ap shown_waiting is
 waits_as_shown steps (Some (Lives i m)) now n is = sym (by_step (slice_get steps i)) ∙ ap shown_waiting is
@@ -149,7 +149,7 @@ same_retirement d e p q is = cc
 retired_absorbed : (d : Event) (p : Name) → Retired d p ≡ Absorbed → ⊥
 retired_absorbed d p is = cc
 
-receive_of : (root : Name) (h : History) (b : Event) (s : Taken) (m : Message) → IsAllowed root h b s s.deed → s.deed ≡ Receive m → IsLawfulReceive h b s m
+receive_of : (root : Name) (h : History) (b : Event) (s : Taken) (m : Message) → IsAllowed root h b s s.step_kind → s.step_kind ≡ Receive m → IsLawfulReceive h b s m
 receive_of root h b s m w is = subst (λ (a : StepKind). IsAllowed root h b s a) is w
 
 module _ (root : Name) (epoch : ℕ) (marks : Marks) (h : History) (s : Taken) (t : Tables) (so_far : AreKept root epoch (cut_by marks) h t) (lawful : IsLawful root (s ∷ h)) where
@@ -190,14 +190,14 @@ module _ (root : Name) (epoch : ℕ) (marks : Marks) (h : History) (s : Taken) (
 
   -- the step is not in the cut
 
-  left_closed : (d : StepKind) → s.deed ≡ d → bears marks d (length (s ∷ h)) ≡ false → cut_by marks (event_of h s) ≡ false → IsClosedAt root h (cut_by marks) s
+  left_closed : (d : StepKind) → s.step_kind ≡ d → bears marks d (length (s ∷ h)) ≡ false → cut_by marks (event_of h s) ≡ false → IsClosedAt root h (cut_by marks) s
   left_closed d is no_birth out = record {
     birth = λ c i forks inside. absurd (true≢false (sym inside ∙ (sym (ap (λ (a : StepKind). bears marks a (length (s ∷ h))) (sym is ∙ forks)) ∙ no_birth)));
     sent = λ m x receives sent inside. absurd (true≢false (sym inside ∙ out));
     retired = λ r x absorbs retired inside. absurd (true≢false (sym inside ∙ out));
   }
 
-  left_open : (d : StepKind) → s.deed ≡ d → bears marks d (length (s ∷ h)) ≡ true → cut_by marks (event_of h s) ≡ false → ¬ IsClosed root (s ∷ h) (cut_by marks)
+  left_open : (d : StepKind) → s.step_kind ≡ d → bears marks d (length (s ∷ h)) ≡ true → cut_by marks (event_of h s) ≡ false → ¬ IsClosed root (s ∷ h) (cut_by marks)
   left_open (Fork c i) is bearing out closed = true≢false (sym ((closed_at root h (cut_by marks) s closed).birth c i is bearing) ∙ out)
   left_open Work is bearing out closed = true≢false (sym bearing)
   left_open Check is bearing out closed = true≢false (sym bearing)
@@ -209,14 +209,14 @@ module _ (root : Name) (epoch : ℕ) (marks : Marks) (h : History) (s : Taken) (
 
   -- the step is in the cut
 
-  taken_closed : (d : StepKind) → s.deed ≡ d → is_due t d ≡ true → cut_by marks (event_of h s) ≡ true → IsClosedAt root h (cut_by marks) s
+  taken_closed : (d : StepKind) → s.step_kind ≡ d → is_due t d ≡ true → cut_by marks (event_of h s) ≡ true → IsClosedAt root h (cut_by marks) s
   taken_closed d is due reached = record {
     birth = λ c i forks inside. reached;
     sent = λ m x receives sent inside. sym (sent_by_tables m x sent) ∙ (ap (is_due t) (sym receives ∙ is) ∙ due);
     retired = λ r x absorbs retired inside. sym (waits_by_tables r x s.process retired) ∙ (ap (is_due t) (sym absorbs ∙ is) ∙ due);
   }
 
-  taken_open : (d : StepKind) → s.deed ≡ d → is_due t d ≡ false → cut_by marks (event_of h s) ≡ true → ¬ IsClosed root (s ∷ h) (cut_by marks)
+  taken_open : (d : StepKind) → s.step_kind ≡ d → is_due t d ≡ false → cut_by marks (event_of h s) ≡ true → ¬ IsClosed root (s ∷ h) (cut_by marks)
   taken_open (Receive m) is due reached closed =
       (let w = receive_of root h before.before s m before.allowed is in
       true≢false (sym ((closed_at root h (cut_by marks) s closed).sent m w.sent is w.is_sent reached) ∙ (sym (sent_by_tables m w.sent w.is_sent) ∙ due)))
@@ -232,31 +232,31 @@ module _ (root : Name) (epoch : ℕ) (marks : Marks) (h : History) (s : Taken) (
 
   -- what the tables are then
 
-  pub left : bears marks s.deed (length (s ∷ h)) ≡ false → cut_by marks (event_of h s) ≡ false → AreKept root epoch (cut_by marks) (s ∷ h) t
+  pub left : bears marks s.step_kind (length (s ∷ h)) ≡ false → cut_by marks (event_of h s) ≡ false → AreKept root epoch (cut_by marks) (s ∷ h) t
   left no_birth out = record {
     same_root = so_far.same_root;
     in_epoch = so_far.in_epoch;
     sound = so_far.sound;
     history = so_far.history ∙ sym (kept_left (cut_by marks) h s out);
-    closed = closed_next root h (cut_by marks) s (in_order marks) so_far.closed (left_closed s.deed refl no_birth out);
+    closed = closed_next root h (cut_by marks) s (in_order marks) so_far.closed (left_closed s.step_kind refl no_birth out);
   }
 
-  pub left_is_open : bears marks s.deed (length (s ∷ h)) ≡ true → cut_by marks (event_of h s) ≡ false → ¬ IsClosed root (s ∷ h) (cut_by marks)
-  left_is_open bearing out = left_open s.deed refl bearing out
+  pub left_is_open : bears marks s.step_kind (length (s ∷ h)) ≡ true → cut_by marks (event_of h s) ≡ false → ¬ IsClosed root (s ∷ h) (cut_by marks)
+  left_is_open bearing out = left_open s.step_kind refl bearing out
 
-  still_closed : is_due t s.deed ≡ true → cut_by marks (event_of h s) ≡ true → IsClosed root (s ∷ h) (cut_by marks)
-  still_closed due reached = closed_next root h (cut_by marks) s (in_order marks) so_far.closed (taken_closed s.deed refl due reached)
+  still_closed : is_due t s.step_kind ≡ true → cut_by marks (event_of h s) ≡ true → IsClosed root (s ∷ h) (cut_by marks)
+  still_closed due reached = closed_next root h (cut_by marks) s (in_order marks) so_far.closed (taken_closed s.step_kind refl due reached)
 
-  pub taken_is_open : is_due t s.deed ≡ false → cut_by marks (event_of h s) ≡ true → ¬ IsClosed root (s ∷ h) (cut_by marks)
-  taken_is_open due reached = taken_open s.deed refl due reached
+  pub taken_is_open : is_due t s.step_kind ≡ false → cut_by marks (event_of h s) ≡ true → ¬ IsClosed root (s ∷ h) (cut_by marks)
+  taken_is_open due reached = taken_open s.step_kind refl due reached
 
-  pub taken_is_lawful : is_due t s.deed ≡ true → cut_by marks (event_of h s) ≡ true → IsLawful t.root (s ∷ history_in t)
+  pub taken_is_lawful : is_due t s.step_kind ≡ true → cut_by marks (event_of h s) ≡ true → IsLawful t.root (s ∷ history_in t)
   taken_is_lawful due reached =
       subst (λ (r : Name). IsLawful r (s ∷ history_in t)) (sym so_far.same_root)
       (subst (λ (g : History). IsLawful root g) (kept_taken (cut_by marks) h s reached ∙ ap (λ (g : History). s ∷ g) (sym so_far.history))
       (kept_is_lawful root (s ∷ h) (cut_by marks) lawful (still_closed due reached)))
 
-  pub taken : (new : Tables) → is_due t s.deed ≡ true → cut_by marks (event_of h s) ≡ true → Adds t s new → AreKept root epoch (cut_by marks) (s ∷ h) new
+  pub taken : (new : Tables) → is_due t s.step_kind ≡ true → cut_by marks (event_of h s) ≡ true → Adds t s new → AreKept root epoch (cut_by marks) (s ∷ h) new
   taken new due reached added = record {
     same_root = added.root ∙ so_far.same_root;
     in_epoch = added.epoch ∙ so_far.in_epoch;
@@ -275,28 +275,28 @@ module _ (root : Name) (epoch : ℕ) (marks : Marks) (steps : List Taken) (i : �
   out_here : {b : Bool} → reached marks s.process (i + 1) ≡ b → cut_by marks (event_of (reverse (take i steps)) s) ≡ b
   out_here is_so = ap (λ (n : ℕ). reached marks s.process n) (behind_count steps i s lt is) ∙ is_so
 
-  born_here : {b : Bool} → bears marks s.deed (i + 1) ≡ b → bears marks s.deed (length (s ∷ reverse (take i steps))) ≡ b
-  born_here is_so = ap (λ (n : ℕ). bears marks s.deed n) (behind_count steps i s lt is) ∙ is_so
+  born_here : {b : Bool} → bears marks s.step_kind (i + 1) ≡ b → bears marks s.step_kind (length (s ∷ reverse (take i steps))) ≡ b
+  born_here is_so = ap (λ (n : ℕ). bears marks s.step_kind n) (behind_count steps i s lt is) ∙ is_so
 
-  pub step_left : reached marks s.process (i + 1) ≡ false → bears marks s.deed (i + 1) ≡ false → AreKept root epoch (cut_by marks) (reverse (take (i + 1) steps)) t
+  pub step_left : reached marks s.process (i + 1) ≡ false → bears marks s.step_kind (i + 1) ≡ false → AreKept root epoch (cut_by marks) (reverse (take (i + 1) steps)) t
   step_left out no_birth =
       subst (λ (g : History). AreKept root epoch (cut_by marks) g t) (sym (behind_more steps i s lt is))
       (left root epoch marks (reverse (take i steps)) s t so_far here (born_here no_birth) (out_here out))
 
-  pub step_left_is_open : reached marks s.process (i + 1) ≡ false → bears marks s.deed (i + 1) ≡ true → ¬ IsClosed root (reverse (take (i + 1) steps)) (cut_by marks)
+  pub step_left_is_open : reached marks s.process (i + 1) ≡ false → bears marks s.step_kind (i + 1) ≡ true → ¬ IsClosed root (reverse (take (i + 1) steps)) (cut_by marks)
   step_left_is_open out bearing =
       subst (λ (g : History). ¬ IsClosed root g (cut_by marks)) (sym (behind_more steps i s lt is))
       (left_is_open root epoch marks (reverse (take i steps)) s t so_far here (born_here bearing) (out_here out))
 
-  pub step_taken_is_open : reached marks s.process (i + 1) ≡ true → is_due t s.deed ≡ false → ¬ IsClosed root (reverse (take (i + 1) steps)) (cut_by marks)
+  pub step_taken_is_open : reached marks s.process (i + 1) ≡ true → is_due t s.step_kind ≡ false → ¬ IsClosed root (reverse (take (i + 1) steps)) (cut_by marks)
   step_taken_is_open inside due =
       subst (λ (g : History). ¬ IsClosed root g (cut_by marks)) (sym (behind_more steps i s lt is))
       (taken_is_open root epoch marks (reverse (take i steps)) s t so_far here due (out_here inside))
 
-  pub step_is_lawful : reached marks s.process (i + 1) ≡ true → is_due t s.deed ≡ true → IsLawful t.root (s ∷ history_in t)
+  pub step_is_lawful : reached marks s.process (i + 1) ≡ true → is_due t s.step_kind ≡ true → IsLawful t.root (s ∷ history_in t)
   step_is_lawful inside due = taken_is_lawful root epoch marks (reverse (take i steps)) s t so_far here due (out_here inside)
 
-  pub step_taken : (new : Tables) → reached marks s.process (i + 1) ≡ true → is_due t s.deed ≡ true → Adds t s new → AreKept root epoch (cut_by marks) (reverse (take (i + 1) steps)) new
+  pub step_taken : (new : Tables) → reached marks s.process (i + 1) ≡ true → is_due t s.step_kind ≡ true → Adds t s new → AreKept root epoch (cut_by marks) (reverse (take (i + 1) steps)) new
   step_taken new inside due added =
       subst (λ (g : History). AreKept root epoch (cut_by marks) g new) (sym (behind_more steps i s lt is))
       (taken root epoch marks (reverse (take i steps)) s t so_far here new due (out_here inside) added)

@@ -5,19 +5,19 @@ use Rattle.id_tree.specs.Points.{owns}
 use Rattle.stamp.specs.declared.stamp.Stamp.{Stamp}
 use Rattle.event_tree.specs.EventTree.{EventTree}
 use Rattle.stamp.specs.Operations.{IsFork, IsNormalJoin}
-use Rattle.report_line.specs.declared.report.ReportKind.TheVariants as acts
+use Rattle.report_line.specs.declared.report.ReportKind.TheVariants as report_kinds
 use Rattle.report_line.specs.declared.step.StepKind.{StepKind}
-use Rattle.report_line.specs.declared.step.StepKind.TheVariants as deeds
+use Rattle.report_line.specs.declared.step.StepKind.TheVariants as step_kinds
 use Rattle.report_line.specs.histories.History.{Name, History, Event, Unborn, Retired, status, sending}
 use Rattle.report_line.specs.histories.Lawful.{IsOwnWork}
 use Rattle.report_line.specs.histories.StepReports.{reporting_steps, id_of}
 use Rattle.law_histories.proofs.Status.{root_born}
 use Rattle.driver.specs.declared.step.StepRequest.TheVariants.{Work, Check, Present, Send, Receive, Fork, Retire, Absorb}
-use Rattle.driver.specs.declared.known.Known.TheVariants.{Born, Gone}
+use Rattle.driver.specs.declared.process_status.ProcessStatus.TheVariants.{Born, Gone}
 use Rattle.driver.specs.working.Made.{Made, step_of, silently, openly}
-use Rattle.driver.specs.declared.making.Alive.{Alive}
-use Rattle.driver.specs.declared.making.NextReport.{NextReport}
-use Rattle.driver.specs.declared.making.ForkParts.{ForkParts}
+use Rattle.driver.specs.declared.steps.Alive.{Alive}
+use Rattle.driver.specs.declared.steps.NextReport.{NextReport}
+use Rattle.driver.specs.declared.steps.ForkParts.{ForkParts}
 use Rattle.driver.specs.Stamping.{stamp_of}
 use Rattle.driver.specs.working.Making.{IsAlive, IsEventMade, IsForkMade, IsReceiveMade, IsAbsorbMade, report_after, parts_after, Makes}
 use Rattle.driver.proofs.Verdicts.{passed}
@@ -34,65 +34,65 @@ counts : (root : Name) (h : History) (p : Name) (a : Alive) (t : Stamp) (r : Nex
 counts root h p a t r alive is = is ∙ ap (λ (n : ℕ). report_after n t) alive.reports
 
 pub makes_work : (root : Name) (h : History) (p : Name) (a : Alive) (t : Stamp) (made : Made) → IsAlive root h p a → IsEventMade a.stamp.now t
-    → made ≡ silently p deeds.Work t a.reports → Makes root h p Work made
+    → made ≡ silently p step_kinds.Work t a.reports → Makes root h p Work made
 makes_work root h p a t made alive event is = subst (λ (m : Made). Makes root h p Work m) (sym is)
     (let w = from_last a.stamp.now t alive.last alive.stamp event in record {
       process = refl;
       before = alive.last;
       living = alive.lives;
       stamped = (refl, w.event);
-      allowed = own_work alive.last p deeds.Work t w;
+      allowed = own_work alive.last p step_kinds.Work t w;
       verdict = passed root h p Work alive.last alive.lives (λ no. no) (λ no. no) (λ no. no) (λ no. no) (λ no. no) w.fits (λ no. no);
       changes = record { reports = alive.reports; other = refl; report = refl };
     })
 
 pub makes_check : (root : Name) (h : History) (p : Name) (a : Alive) (t : Stamp) (c : NextReport) (made : Made) → IsAlive root h p a → IsEventMade a.stamp.now t
-    → c ≡ report_after a.reports t → made ≡ openly p deeds.Check t None c.number c.reported acts.Check → Makes root h p Check made
+    → c ≡ report_after a.reports t → made ≡ openly p step_kinds.Check t None c.number c.reported report_kinds.Check → Makes root h p Check made
 makes_check root h p a t c made alive event count is = subst (λ (m : Made). Makes root h p Check m)
-    (sym (is ∙ ap (λ (x : NextReport). openly p deeds.Check t None x.number x.reported acts.Check) (counts root h p a t c alive count)))
+    (sym (is ∙ ap (λ (x : NextReport). openly p step_kinds.Check t None x.number x.reported report_kinds.Check) (counts root h p a t c alive count)))
     (let w = from_last a.stamp.now t alive.last alive.stamp event in record {
       process = refl;
       before = alive.last;
       living = alive.lives;
       stamped = (refl, w.event);
-      allowed = own_work alive.last p deeds.Check t w;
+      allowed = own_work alive.last p step_kinds.Check t w;
       verdict = passed root h p Check alive.last alive.lives (λ no. no) (λ no. no) (λ no. no) (λ no. no) (λ no. no) w.fits (λ no. no);
       changes = record { reports = refl; other = refl; report = refl };
     })
 
 pub makes_present : (root : Name) (h : History) (p : Name) (a : Alive) (t : Stamp) (c : NextReport) (made : Made) → IsAlive root h p a → IsEventMade a.stamp.now t
-    → c ≡ report_after a.reports t → made ≡ openly p deeds.Present t None c.number c.reported acts.Present → Makes root h p Present made
+    → c ≡ report_after a.reports t → made ≡ openly p step_kinds.Present t None c.number c.reported report_kinds.Present → Makes root h p Present made
 makes_present root h p a t c made alive event count is = subst (λ (m : Made). Makes root h p Present m)
-    (sym (is ∙ ap (λ (x : NextReport). openly p deeds.Present t None x.number x.reported acts.Present) (counts root h p a t c alive count)))
+    (sym (is ∙ ap (λ (x : NextReport). openly p step_kinds.Present t None x.number x.reported report_kinds.Present) (counts root h p a t c alive count)))
     (let w = from_last a.stamp.now t alive.last alive.stamp event in record {
       process = refl;
       before = alive.last;
       living = alive.lives;
       stamped = (refl, w.event);
-      allowed = own_work alive.last p deeds.Present t w;
+      allowed = own_work alive.last p step_kinds.Present t w;
       verdict = passed root h p Present alive.last alive.lives (λ no. no) (λ no. no) (λ no. no) (λ no. no) (λ no. no) w.fits (λ no. no);
       changes = record { reports = refl; other = refl; report = refl };
     })
 
 pub makes_send : (root : Name) (h : History) (p m y : Name) (a : Alive) (t : Stamp) (made : Made) → IsAlive root h p a → IsEventMade a.stamp.now t
-    → sending h m ≡ None → y ≡ m → made ≡ silently p (deeds.Send y) t a.reports → Makes root h p (Send m) made
+    → sending h m ≡ None → y ≡ m → made ≡ silently p (step_kinds.Send y) t a.reports → Makes root h p (Send m) made
 makes_send root h p m y a t made alive event free is_y is = subst (λ (made' : Made). Makes root h p (Send m) made')
-    (sym (is ∙ ap (λ (z : Name). silently p (deeds.Send z) t a.reports) is_y))
+    (sym (is ∙ ap (λ (z : Name). silently p (step_kinds.Send z) t a.reports) is_y))
     (let w = from_last a.stamp.now t alive.last alive.stamp event in record {
       process = refl;
       before = alive.last;
       living = alive.lives;
       stamped = (refl, w.event);
-      allowed = (own_work alive.last p (deeds.Send m) t w, free);
+      allowed = (own_work alive.last p (step_kinds.Send m) t w, free);
       verdict = passed root h p (Send m) alive.last alive.lives (λ no. no) (λ no. no) (λ taken. taken free) (λ no. no) (λ no. no) w.fits (λ no. no);
       changes = record { reports = alive.reports; other = refl; report = refl };
     })
 
 pub makes_receive : (root : Name) (h : History) (p m y : Name) (a : Alive) (t : Stamp) (came : EventTree) (sent : Event) (made : Made) → IsAlive root h p a
     → sending h m ≡ Some sent → came ≡ sent.values → IsReceiveMade a.stamp.now came t → y ≡ m
-    → made ≡ silently p (deeds.Receive y) t a.reports → Makes root h p (Receive m) made
+    → made ≡ silently p (step_kinds.Receive y) t a.reports → Makes root h p (Receive m) made
 makes_receive root h p m y a t came sent made alive is_sent is_came receive is_y is = subst (λ (made' : Made). Makes root h p (Receive m) made')
-    (sym (is ∙ ap (λ (z : Name). silently p (deeds.Receive z) t a.reports) is_y))
+    (sym (is ∙ ap (λ (z : Name). silently p (step_kinds.Receive z) t a.reports) is_y))
     (let w : IsReceiveMade (stamp_of alive.last) sent.values t =
     subst (λ (s : Stamp). IsReceiveMade s sent.values t) alive.stamp (subst (λ (e : EventTree). IsReceiveMade a.stamp.now e t) is_came receive) in record {
       process = refl;
@@ -119,13 +119,13 @@ makes_receive root h p m y a t came sent made alive is_sent is_came receive is_y
 
 -- the step of a fork, of a retirement and of an absorption, of the parts that are made for it
 abbrev pub forking : Name → Stamp → ForkParts → Name → Name → Stamp → Made
-forking p t v y x b = openly p (deeds.Fork y v.given) t (Some (record { name = x; known = Born b })) v.number v.reported v.action
+forking p t v y x b = openly p (step_kinds.Fork y v.given) t (Some (record { name = x; known = Born b })) v.number v.reported v.action
 
 abbrev pub retiring : Name → Stamp → NextReport → Name → Name → Made
-retiring p t v x z = openly p (deeds.Retire x) t None v.number v.reported (acts.Retire z)
+retiring p t v x z = openly p (step_kinds.Retire x) t None v.number v.reported (report_kinds.Retire z)
 
 abbrev pub absorbing : Name → Stamp → NextReport → Name → Name → Name → Made
-absorbing p t v x y z = openly p (deeds.Absorb x) t (Some (record { name = y; known = Gone })) v.number v.reported (acts.Absorb z)
+absorbing p t v x y z = openly p (step_kinds.Absorb x) t (Some (record { name = y; known = Gone })) v.number v.reported (report_kinds.Absorb z)
 
 pub makes_fork : (root : Name) (h : History) (p c x y : Name) (a : Alive) (t begun : Stamp) (parts : ForkParts) (made : Made)
     → IsAlive root h p a → status root h c ≡ Unborn → IsForkMade a.stamp.now t begun → parts ≡ parts_after a.reports a.stamp.now.id t c begun.id → x ≡ c → y ≡ c
@@ -175,7 +175,7 @@ makes_retire root h p q x z a t c made alive event born other count is_x is_z is
       before = alive.last;
       living = alive.lives;
       stamped = (refl, w.event);
-      allowed = (own_work alive.last p (deeds.Retire q) t w, other);
+      allowed = (own_work alive.last p (step_kinds.Retire q) t w, other);
       verdict = passed root h p (Retire q) alive.last alive.lives born other (λ no. no) (λ no. no) (λ no. no) w.fits (λ no. no);
       changes = record { reports = refl; other = refl; report = refl };
     })

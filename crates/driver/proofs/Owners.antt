@@ -7,7 +7,7 @@ use Rattle.report_line.specs.histories.History.{Name, Event, Living, Retired, la
 use Rattle.law_histories.proofs.Owners.{holder_owns}
 use Rattle.law_histories.proofs.Chain.{one_holder}
 use Rattle.driver.specs.declared.tables.Tables.{Tables}
-use Rattle.driver.specs.declared.making.Alive.{Alive}
+use Rattle.driver.specs.declared.steps.Alive.{Alive}
 use Rattle.driver.specs.working.Tables.{AreSound, history_in}
 use Rattle.driver.specs.Stamping.{stamp_of}
 use Rattle.driver.specs.working.Making.{IsAlive}

@@ -6,8 +6,8 @@ use Rattle.std.proofs.lemmas.Option.{none-some, same_Some}
 use Rattle.event_tree.specs.EventTree.{EventTree}
 use Rattle.report_line.specs.declared.step.Step.{Step as Taken}
 use Rattle.report_line.specs.histories.History.{Event, Status, Unborn, Living, Retired, Absorbed}
-use Rattle.driver.specs.declared.known.Known.{Known}
-use Rattle.driver.specs.declared.known.Known.TheVariants.{Born, Lives, Waits, Gone}
+use Rattle.driver.specs.declared.process_status.ProcessStatus.{ProcessStatus}
+use Rattle.driver.specs.declared.process_status.ProcessStatus.TheVariants.{Born, Lives, Waits, Gone}
 use Rattle.driver.specs.Stamping.{stamp_of}
 use Rattle.driver.specs.working.Tables.{Standing, LivesWith, WaitsWith, IsGone, standing, shown, events_at, carried}
 
@@ -40,13 +40,13 @@ not_shown (Living e) n is = cc
 not_shown (Retired e q) n is = cc
 not_shown Absorbed n is = cc
 
-stands_on : (steps : List Taken) (s : Taken) (k : Known) (w : Standing) → standing steps k ≡ Some w → standing (steps ++ s ∷ []) k ≡ Some w
+stands_on : (steps : List Taken) (s : Taken) (k : ProcessStatus) (w : Standing) → standing steps k ≡ Some w → standing (steps ++ s ∷ []) k ≡ Some w
 stands_on steps s (Born t) w is = is
 stands_on steps s (Lives i n) w is = stays Standing (λ x. LivesWith x.stamp n) steps s i w is
 stands_on steps s (Waits i q) w is = stays Standing (λ x. WaitsWith x.stamp q) steps s i w is
 stands_on steps s Gone w is = is
 
-pub standing_stays : (steps : List Taken) (s : Taken) (kept : Option Known) (now : Status) (n : ℕ) → option_map (standing steps) kept ≡ shown now n
+pub standing_stays : (steps : List Taken) (s : Taken) (kept : Option ProcessStatus) (now : Status) (n : ℕ) → option_map (standing steps) kept ≡ shown now n
     → option_map (standing (steps ++ s ∷ [])) kept ≡ shown now n
 standing_stays steps s None now n is = is
 standing_stays steps s (Some k) now n is = by_status now is

@@ -10,15 +10,15 @@ use Rattle.report_line.specs.declared.step.Step.{Step as Taken}
 use Rattle.report_line.specs.histories.History.{Name, Event, Status, Unborn, Living, Retired, Absorbed, status}
 use Rattle.report_line.specs.histories.StepReports.{reporting_steps}
 use Rattle.law_histories.proofs.Bytes.{bytes_are}
-use Rattle.driver.specs.declared.known.Known.{Known}
-use Rattle.driver.specs.declared.known.Known.TheVariants.{Waits}
+use Rattle.driver.specs.declared.process_status.ProcessStatus.{ProcessStatus}
+use Rattle.driver.specs.declared.process_status.ProcessStatus.TheVariants.{Waits}
 use Rattle.driver.specs.declared.tables.Tables.{Tables}
 use Rattle.driver.specs.Stamping.{stamp_of}
 use Rattle.driver.specs.working.Tables.{AreSound, history_in, Standing, WaitsWith, standing, shown}
 use Rattle.driver.proofs.Places.{not_shown}
 
 -- what is kept, as it is shown
-told : (t : Tables) (p : Name) (k : Known) → AreSound t → get bytes_eq t.known p ≡ Some k
+told : (t : Tables) (p : Name) (k : ProcessStatus) → AreSound t → get bytes_eq t.known p ≡ Some k
     → Some (standing t.steps.items k) ≡ shown (status t.root (history_in t) p) (reporting_steps p (history_in t))
 told t p k sound is = sym (ap (option_map (standing t.steps.items)) is) ∙ sound.known p
 
@@ -58,7 +58,7 @@ waiting_at t p i q sound is =
     (w.0, w.1, waiting_with w.0.stamp q now count w.2)
 
 -- the step at the place of a retirement into this process
-pub retired_into : (t : Tables) (r p : Name) (k : Known) (i : ℕ) (q x y : Name) (s : Taken) → AreSound t → Some k ≡ get bytes_eq t.known r → k ≡ Waits i q
+pub retired_into : (t : Tables) (r p : Name) (k : ProcessStatus) (i : ℕ) (q x y : Name) (s : Taken) → AreSound t → Some k ≡ get bytes_eq t.known r → k ≡ Waits i q
     → x ≡ q → y ≡ p → bytes_eq x y ≡ true → s ≡ get_or t.steps.items i s → (e : Event) × (status t.root (history_in t) r ≡ Retired e p) × (s.stamp ≡ stamp_of e)
 retired_into t r p k i q x y s sound is_kept is_waiting is_x is_y same there =
     let w = waiting_at t r i q sound (sym is_kept ∙ ap Some is_waiting) in

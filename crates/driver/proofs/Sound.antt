@@ -26,8 +26,8 @@ use Rattle.law_histories.proofs.Status.{status_acts, status_others}
 use Rattle.law_histories.proofs.Reported.{unborn_reports}
 use Rattle.law_histories.proofs.Steps.{fork_of}
 use Rattle.driver.proofs.Places.{here, events_stay, events_here, standing_stays}
-use Rattle.driver.specs.declared.known.Known.{Known}
-use Rattle.driver.specs.declared.known.Known.TheVariants.{Born, Gone}
+use Rattle.driver.specs.declared.process_status.ProcessStatus.{ProcessStatus}
+use Rattle.driver.specs.declared.process_status.ProcessStatus.TheVariants.{Born, Gone}
 use Rattle.driver.specs.declared.tables.Tables.{Tables}
 use Rattle.driver.specs.declared.tables.Other.{Other}
 use Rattle.driver.specs.working.Made.{Made}
@@ -52,20 +52,20 @@ more d n = (let up : n + 1 ≡ suc n = omega arith in ap (λ (k : ℕ). if is_re
 
 actor_shown : (steps : List Taken) (place : ℕ) (h : History) (s : Taken) (a : StepKind) (n : ℕ) → slice_get steps place ≡ Some s
     → Some (standing steps (kept_of_actor a place n)) ≡ shown (status_of_actor a (event_of h s)) n
-actor_shown steps place h s a n at = by_deed a
+actor_shown steps place h s a n at = by_step_kind a
   where
     lives : Some (option_map (λ x. LivesWith x.stamp n) (slice_get steps place)) ≡ Some (Some (LivesWith s.stamp n))
     lives = ap (λ (o : Option Taken). Some (option_map (λ x. LivesWith x.stamp n) o)) at
 
-    by_deed : (d : StepKind) → Some (standing steps (kept_of_actor d place n)) ≡ shown (status_of_actor d (event_of h s)) n
-    by_deed Work = lives
-    by_deed Check = lives
-    by_deed Present = lives
-    by_deed (Send m) = lives
-    by_deed (Receive m) = lives
-    by_deed (Fork c i) = lives
-    by_deed (Retire q) = ap (λ (o : Option Taken). Some (option_map (λ x. WaitsWith x.stamp q) o)) at
-    by_deed (Absorb r) = lives
+    by_step_kind : (d : StepKind) → Some (standing steps (kept_of_actor d place n)) ≡ shown (status_of_actor d (event_of h s)) n
+    by_step_kind Work = lives
+    by_step_kind Check = lives
+    by_step_kind Present = lives
+    by_step_kind (Send m) = lives
+    by_step_kind (Receive m) = lives
+    by_step_kind (Fork c i) = lives
+    by_step_kind (Retire q) = ap (λ (o : Option Taken). Some (option_map (λ x. WaitsWith x.stamp q) o)) at
+    by_step_kind (Absorb r) = lives
 
 counted : (a b : Bool) (n : ℕ) → a ≡ true → (if a && b then suc n else n) ≡ (if b then suc n else n)
 counted true b n is = refl
@@ -76,7 +76,7 @@ uncounted true b n is = absurd (cc)
 uncounted false b n is = refl
 
 -- another process: a child begins without reports
-other_shown : (steps : List Taken) (root : Name) (h : History) (s : Taken) (p : Name) (kept : Option Known) (a : StepKind)
+other_shown : (steps : List Taken) (root : Name) (h : History) (s : Taken) (p : Name) (kept : Option ProcessStatus) (a : StepKind)
     → ((c : Name) (i : IdTree) → a ≡ Fork c i → status root h c ≡ Unborn) → option_map (standing steps) kept ≡ shown (status root h p) (reporting_steps p h)
     → option_map (standing steps) (noted_other (kept_of_other a s.stamp) p kept) ≡ shown (status_of_other h s a p (status root h p)) (reporting_steps p h)
 other_shown steps root h s p kept Work child is_kept = is_kept
@@ -105,27 +105,27 @@ other_shown steps root h s p kept (Absorb r) child is_kept =
     absorbed_shown true now n is = refl
     absorbed_shown false now n is = is
 
-pub known_next : (steps : List Taken) (root : Name) (h : History) (s : Taken) (p : Name) (kept : Option Known) (n : ℕ)
-    → ((c : Name) (i : IdTree) → s.deed ≡ Fork c i → status root h c ≡ Unborn) → n ≡ reports_after s.deed (reporting_steps s.process h)
+pub known_next : (steps : List Taken) (root : Name) (h : History) (s : Taken) (p : Name) (kept : Option ProcessStatus) (n : ℕ)
+    → ((c : Name) (i : IdTree) → s.step_kind ≡ Fork c i → status root h c ≡ Unborn) → n ≡ reports_after s.step_kind (reporting_steps s.process h)
     → option_map (standing steps) kept ≡ shown (status root h p) (reporting_steps p h)
-    → option_map (standing (steps ++ s ∷ [])) (if bytes_eq s.process p then Some (kept_of_actor s.deed (length steps) n) else noted_other (kept_of_other s.deed s.stamp) p kept)
+    → option_map (standing (steps ++ s ∷ [])) (if bytes_eq s.process p then Some (kept_of_actor s.step_kind (length steps) n) else noted_other (kept_of_other s.step_kind s.stamp) p kept)
     ≡ shown (status root (s ∷ h) p) (reporting_steps p (s ∷ h))
 known_next steps root h s p kept n child count is_kept =
     elim (cases_Bool (bytes_eq s.process p)) [
       | inl is ↦
           (let same = bytes_are s.process p is in
           let counts : n ≡ reporting_steps p (s ∷ h) =
-          count ∙ (ap (λ (q : Name). reports_after s.deed (reporting_steps q h)) same ∙ (more s.deed (reporting_steps p h)
-          ∙ sym (counted (bytes_eq p s.process) (is_reported s.deed) (reporting_steps p h) (flipped p s.process ∙ is)))) in
-          ap (option_map (standing (steps ++ s ∷ []))) (cond-true (bytes_eq s.process p) (Some (kept_of_actor s.deed (length steps) n)) (noted_other (kept_of_other s.deed s.stamp) p kept) is)
-          ∙ (actor_shown (steps ++ s ∷ []) (length steps) h s s.deed n (here steps s)
-          ∙ (ap (shown (status_of_actor s.deed (event_of h s))) counts
+          count ∙ (ap (λ (q : Name). reports_after s.step_kind (reporting_steps q h)) same ∙ (more s.step_kind (reporting_steps p h)
+          ∙ sym (counted (bytes_eq p s.process) (is_reported s.step_kind) (reporting_steps p h) (flipped p s.process ∙ is)))) in
+          ap (option_map (standing (steps ++ s ∷ []))) (cond-true (bytes_eq s.process p) (Some (kept_of_actor s.step_kind (length steps) n)) (noted_other (kept_of_other s.step_kind s.stamp) p kept) is)
+          ∙ (actor_shown (steps ++ s ∷ []) (length steps) h s s.step_kind n (here steps s)
+          ∙ (ap (shown (status_of_actor s.step_kind (event_of h s))) counts
           ∙ ap (λ (now : Status). shown now (reporting_steps p (s ∷ h))) (sym (status_acts root h s p (sym same))))))
       | inr differs ↦
           (let other : p ≢ s.process = λ e. true≢false (sym (bytes_same s.process p (sym e)) ∙ differs) in
-          ap (option_map (standing (steps ++ s ∷ []))) (cond-false (bytes_eq s.process p) (Some (kept_of_actor s.deed (length steps) n)) (noted_other (kept_of_other s.deed s.stamp) p kept) differs)
-          ∙ (other_shown (steps ++ s ∷ []) root h s p kept s.deed child (standing_stays steps s kept (status root h p) (reporting_steps p h) is_kept)
-          ∙ (ap (shown (status_of_other h s s.deed p (status root h p))) (sym (uncounted (bytes_eq p s.process) (is_reported s.deed) (reporting_steps p h) (flipped p s.process ∙ differs)))
+          ap (option_map (standing (steps ++ s ∷ []))) (cond-false (bytes_eq s.process p) (Some (kept_of_actor s.step_kind (length steps) n)) (noted_other (kept_of_other s.step_kind s.stamp) p kept) differs)
+          ∙ (other_shown (steps ++ s ∷ []) root h s p kept s.step_kind child (standing_stays steps s kept (status root h p) (reporting_steps p h) is_kept)
+          ∙ (ap (shown (status_of_other h s s.step_kind p (status root h p))) (sym (uncounted (bytes_eq p s.process) (is_reported s.step_kind) (reporting_steps p h) (flipped p s.process ∙ differs)))
           ∙ ap (λ (now : Status). shown now (reporting_steps p (s ∷ h))) (sym (status_others root h s p other)))))
     ]
 
@@ -148,13 +148,13 @@ message_shown stands h s m place kept before (Retire q) here is_kept = is_kept
 message_shown stands h s m place kept before (Absorb r) here is_kept = is_kept
 
 pub messages_next : (steps : List Taken) (h : History) (s : Taken) (m : Name) (kept : Option ℕ) → option_map (events_at steps) kept ≡ carried (sending h m)
-    → option_map (events_at (steps ++ s ∷ [])) (noted_message s.deed (length steps) m kept) ≡ carried (sending (s ∷ h) m)
+    → option_map (events_at (steps ++ s ∷ [])) (noted_message s.step_kind (length steps) m kept) ≡ carried (sending (s ∷ h) m)
 unfolding sending
 messages_next steps h s m kept is_kept =
-    message_shown (events_at (steps ++ s ∷ [])) h s m (length steps) kept (sending h m) s.deed (events_here steps s) (events_stay steps s kept (sending h m) is_kept)
+    message_shown (events_at (steps ++ s ∷ [])) h s m (length steps) kept (sending h m) s.step_kind (events_here steps s) (events_stay steps s kept (sending h m) is_kept)
 
 -- the child of an allowed fork is new
-pub child_is_new : (root : Name) (h : History) (b : Event) (s : Taken) → IsAllowed root h b s s.deed → (c : Name) (i : IdTree) → s.deed ≡ Fork c i → status root h c ≡ Unborn
+pub child_is_new : (root : Name) (h : History) (b : Event) (s : Taken) → IsAllowed root h b s s.step_kind → (c : Name) (i : IdTree) → s.step_kind ≡ Fork c i → status root h c ≡ Unborn
 child_is_new root h b s allowed c i is = (fork_of root h b s c i allowed is).new_name
 
 -- ---- the lines of reports
@@ -185,11 +185,11 @@ sound_of t root h is_root is_history w =
     let there = subst (λ (r : Name). Holds t r (history_in t)) (sym is_root) (subst (λ (g : History). Holds t root g) (sym is_history) w) in
     record { lawful = there.lawful; known = there.known; messages = there.messages; lines = there.lines }
 
-pub adds : (old new : Tables) (made : Made) (name : Name) (place : ℕ) (after : Known) (between : Name → Option Known) → AreSound old → IsReady old.root (history_in old) made
+pub adds : (old new : Tables) (made : Made) (name : Name) (place : ℕ) (after : ProcessStatus) (between : Name → Option ProcessStatus) → AreSound old → IsReady old.root (history_in old) made
     → ((q : Name) → between q ≡ noted_other made.other q (get bytes_eq old.known q))
     → name ≡ made.step.process
-    → ((q : Name) → get bytes_eq new.known q ≡ (if bytes_eq name q then Some after else between q)) → after ≡ kept_of_actor made.step.deed place made.reports
-    → place ≡ length old.steps.items → ((m : Name) → get bytes_eq new.messages m ≡ noted_message made.step.deed place m (get bytes_eq old.messages m))
+    → ((q : Name) → get bytes_eq new.known q ≡ (if bytes_eq name q then Some after else between q)) → after ≡ kept_of_actor made.step.step_kind place made.reports
+    → place ≡ length old.steps.items → ((m : Name) → get bytes_eq new.messages m ≡ noted_message made.step.step_kind place m (get bytes_eq old.messages m))
     → new.steps.items ≡ old.steps.items ++ made.step ∷ [] → new.root ≡ old.root → new.epoch ≡ old.epoch → Adds old made.step new
 adds old new made name place after between sound ready other is_name actor is_after is_place message items root epoch =
     record { root = root; epoch = epoch; history = history; sound = sound_of new old.root (s ∷ h) root history holds }
@@ -208,18 +208,18 @@ adds old new made name place after between sound ready other is_name actor is_af
         ap (option_map (standing new.steps.items))
         (actor p
         ∙ (ap (λ (n : Name). if bytes_eq n p then Some after else between p) is_name
-        ∙ (ap (λ (k : Known). if bytes_eq s.process p then Some k else between p) (is_after ∙ ap (λ (n : ℕ). kept_of_actor s.deed n made.reports) is_place)
-        ∙ ap (λ (o : Option Known). if bytes_eq s.process p then Some (kept_of_actor s.deed (length old.steps.items) made.reports) else o)
+        ∙ (ap (λ (k : ProcessStatus). if bytes_eq s.process p then Some k else between p) (is_after ∙ ap (λ (n : ℕ). kept_of_actor s.step_kind n made.reports) is_place)
+        ∙ ap (λ (o : Option ProcessStatus). if bytes_eq s.process p then Some (kept_of_actor s.step_kind (length old.steps.items) made.reports) else o)
         (other p ∙ ap (λ (o : Option Other). noted_other o p (get bytes_eq old.known p)) ready.changes.other))))
-        ∙ (ap (λ (l : List Taken). option_map (standing l) (if bytes_eq s.process p then Some (kept_of_actor s.deed (length old.steps.items) made.reports) else noted_other (kept_of_other s.deed s.stamp) p (get bytes_eq old.known p)))
+        ∙ (ap (λ (l : List Taken). option_map (standing l) (if bytes_eq s.process p then Some (kept_of_actor s.step_kind (length old.steps.items) made.reports) else noted_other (kept_of_other s.step_kind s.stamp) p (get bytes_eq old.known p)))
         items
         ∙ known_next old.steps.items old.root h s p (get bytes_eq old.known p) made.reports (child_is_new old.root h ready.before s ready.allowed) ready.changes.reports (sound.known p))
 
     messages : (m : Name) → option_map (events_at new.steps.items) (get bytes_eq new.messages m) ≡ carried (sending (s ∷ h) m)
     messages m =
         ap (option_map (events_at new.steps.items)) (message m)
-        ∙ (ap (λ (n : ℕ). option_map (events_at new.steps.items) (noted_message s.deed n m (get bytes_eq old.messages m))) is_place
-        ∙ (ap (λ (l : List Taken). option_map (events_at l) (noted_message s.deed (length old.steps.items) m (get bytes_eq old.messages m))) items
+        ∙ (ap (λ (n : ℕ). option_map (events_at new.steps.items) (noted_message s.step_kind n m (get bytes_eq old.messages m))) is_place
+        ∙ (ap (λ (l : List Taken). option_map (events_at l) (noted_message s.step_kind (length old.steps.items) m (get bytes_eq old.messages m))) items
         ∙ messages_next old.steps.items h s m (get bytes_eq old.messages m) (sound.messages m)))
 
     holds : Holds new old.root (s ∷ h)
@@ -242,7 +242,7 @@ none_sent : (m : Name) → carried (sending [] m) ≡ None
 unfolding sending
 none_sent m = refl
 
-pub begins : (t : Tables) (first : Stamp) (name : Name) (before : Name → Option Known) → IsTrue (is_name t.root) → t.steps.items ≡ [] → first ≡ first_stamp → name ≡ t.root
+pub begins : (t : Tables) (first : Stamp) (name : Name) (before : Name → Option ProcessStatus) → IsTrue (is_name t.root) → t.steps.items ≡ [] → first ≡ first_stamp → name ≡ t.root
     → ((q : Name) → before q ≡ None)
     → ((q : Name) → get bytes_eq t.known q ≡ (if bytes_eq name q then Some (Born first) else before q))
     → ((q : Name) → get bytes_eq t.messages q ≡ None) → AreSound t
@@ -252,7 +252,7 @@ begins t first name before is_named items is_first is_name none known messages =
       known = λ p.
           ap (option_map (standing t.steps.items))
           (known p
-          ∙ (ap (λ (o : Option Known). if bytes_eq name p then Some (Born first) else o) (none p)
+          ∙ (ap (λ (o : Option ProcessStatus). if bytes_eq name p then Some (Born first) else o) (none p)
           ∙ ap (λ (n : Name). if bytes_eq n p then Some (Born first) else None) is_name))
           ∙ root_shown t.steps.items t.root p first is_first;
       messages = λ m. ap (option_map (events_at t.steps.items)) (messages m) ∙ sym (none_sent m);

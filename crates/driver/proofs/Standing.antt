@@ -19,7 +19,7 @@ use Rattle.law_histories.proofs.Bytes.{bytes_are}
 use Rattle.chains.specs.declared.position.Position.{Position}
 use Rattle.chains.specs.declared.position.Position.TheVariants.{At, Retired}
 use Rattle.chains.specs.Processes.{target_of}
-use Rattle.chains.specs.Elements.{name_of, elements, lasting, lasting_of}
+use Rattle.chains.specs.Elements.{name_of, elements, stable, stable_of}
 use Rattle.chains.specs.Positions.{is_retired, IsChosen}
 use Rattle.chains.proofs.Counting.{elements_is}
 use Rattle.law_lines.specs.Places.{IsEventAt, place, IsUpTo}
@@ -29,7 +29,7 @@ use Rattle.law_lines.proofs.Folding.{within, is_within}
 use Rattle.driver.specs.declared.mark.Mark.{Mark}
 use Rattle.driver.specs.Stamping.{stamp_of}
 use Rattle.driver.specs.working.Marks.{wanted, last_kept, stands_at, reaches_at}
-use Rattle.driver.proofs.ElementEvents.{list_of, reported_of, lasting_by, lasting_events, lasting_is, present_by, present_event, retired_in, retired_is, element_events, elements_are}
+use Rattle.driver.proofs.ElementEvents.{list_of, reported_of, stable_by, stable_events, stable_is, present_by, present_event, retired_in, retired_is, element_events, elements_are}
 use Rattle.driver.proofs.Walked.{Noted, IsNoted, one_at}
 
 -- ---- the events of elements occur
@@ -49,22 +49,22 @@ if_there false e x k is = absurd (none_at k x is)
 event_if : (root : Name) (h : History) (p : Name) (b : Bool) (e x : Event) (k : ℕ) → (b ≡ true → IsOf root h p e) → slice_get (if b then e ∷ [] else []) k ≡ Some x → IsOf root h p x
 event_if root h p b e x k of is = (let w = if_there b e x k is in subst (IsOf root h p) w.1 (of w.0))
 
-lasting_by_occurs : (root : Name) (h : History) (s : Step) (p : Name) (d : StepKind) (k : ℕ) (x : Event) → s.deed ≡ d → slice_get (lasting_by h s p d) k ≡ Some x → IsOf root (s ∷ h) p x
-lasting_by_occurs root h s p Check k x is at = event_if root (s ∷ h) p (bytes_eq p s.process) (event_of h s) x k (λ same. (step, sym (bytes_are p s.process same))) at
-lasting_by_occurs root h s p (Fork c i) k x is at = event_if root (s ∷ h) p (bytes_eq p c) (birth_by h s c i) x k (λ same. (birth is, sym (bytes_are p c same))) at
-lasting_by_occurs root h s p Work k x is at = absurd (none_at k x at)
-lasting_by_occurs root h s p Present k x is at = absurd (none_at k x at)
-lasting_by_occurs root h s p (Send m) k x is at = absurd (none_at k x at)
-lasting_by_occurs root h s p (Receive m) k x is at = absurd (none_at k x at)
-lasting_by_occurs root h s p (Retire q) k x is at = absurd (none_at k x at)
-lasting_by_occurs root h s p (Absorb r) k x is at = absurd (none_at k x at)
+stable_by_occurs : (root : Name) (h : History) (s : Step) (p : Name) (d : StepKind) (k : ℕ) (x : Event) → s.step_kind ≡ d → slice_get (stable_by h s p d) k ≡ Some x → IsOf root (s ∷ h) p x
+stable_by_occurs root h s p Check k x is at = event_if root (s ∷ h) p (bytes_eq p s.process) (event_of h s) x k (λ same. (step, sym (bytes_are p s.process same))) at
+stable_by_occurs root h s p (Fork c i) k x is at = event_if root (s ∷ h) p (bytes_eq p c) (birth_by h s c i) x k (λ same. (birth is, sym (bytes_are p c same))) at
+stable_by_occurs root h s p Work k x is at = absurd (none_at k x at)
+stable_by_occurs root h s p Present k x is at = absurd (none_at k x at)
+stable_by_occurs root h s p (Send m) k x is at = absurd (none_at k x at)
+stable_by_occurs root h s p (Receive m) k x is at = absurd (none_at k x at)
+stable_by_occurs root h s p (Retire q) k x is at = absurd (none_at k x at)
+stable_by_occurs root h s p (Absorb r) k x is at = absurd (none_at k x at)
 
-lasting_occurs : (root : Name) (h : History) (p : Name) (k : ℕ) (x : Event) → slice_get (lasting_events root h p) k ≡ Some x → IsOf root h p x
-lasting_occurs root [] p k x at = event_if root [] p (bytes_eq p root) (birth_of_root root) x k (λ same. (root_birth, sym (bytes_are p root same))) at
-lasting_occurs root (s ∷ h) p k x at =
-    elim (at_append (lasting_events root h p) (lasting_by h s p s.deed) k x at) [
-      | inl old ↦ (let w = lasting_occurs root h p k x old in (earlier w.0, w.1))
-      | inr new ↦ lasting_by_occurs root h s p s.deed new.0 x refl new.2
+stable_occurs : (root : Name) (h : History) (p : Name) (k : ℕ) (x : Event) → slice_get (stable_events root h p) k ≡ Some x → IsOf root h p x
+stable_occurs root [] p k x at = event_if root [] p (bytes_eq p root) (birth_of_root root) x k (λ same. (root_birth, sym (bytes_are p root same))) at
+stable_occurs root (s ∷ h) p k x at =
+    elim (at_append (stable_events root h p) (stable_by h s p s.step_kind) k x at) [
+      | inl old ↦ (let w = stable_occurs root h p k x old in (earlier w.0, w.1))
+      | inr new ↦ stable_by_occurs root h s p s.step_kind new.0 x refl new.2
     ]
 
 present_by_occurs : (root : Name) (h : History) (s : Step) (p : Name) (d : StepKind) (o : Option Event) (x : Event) → p ≡ s.process → (o ≡ Some x → IsOf root (s ∷ h) p x) → present_by d (event_of h s) o ≡ Some x → IsOf root (s ∷ h) p x
@@ -83,9 +83,9 @@ present_occurs root (s ∷ h) p x is =
     let before : present_event h p ≡ Some x → IsOf root (s ∷ h) p x = λ there. (let w = present_occurs root h p x there in (earlier w.0, w.1)) in
     elim (cases_Bool (bytes_eq p s.process)) [
       | inl same ↦
-          present_by_occurs root h s p s.deed (present_event h p) x (bytes_are p s.process same) before
-          (sym (cond-true (bytes_eq p s.process) (present_by s.deed (event_of h s) (present_event h p)) (present_event h p) same) ∙ is)
-      | inr other ↦ before (sym (cond-false (bytes_eq p s.process) (present_by s.deed (event_of h s) (present_event h p)) (present_event h p) other) ∙ is)
+          present_by_occurs root h s p s.step_kind (present_event h p) x (bytes_are p s.process same) before
+          (sym (cond-true (bytes_eq p s.process) (present_by s.step_kind (event_of h s) (present_event h p)) (present_event h p) same) ∙ is)
+      | inr other ↦ before (sym (cond-false (bytes_eq p s.process) (present_by s.step_kind (event_of h s) (present_event h p)) (present_event h p) other) ∙ is)
     ]
 
 in_list : (o : Option Event) (k : ℕ) (x : Event) → slice_get (list_of o) k ≡ Some x → o ≡ Some x
@@ -94,8 +94,8 @@ in_list (Some y) k x is = ap Some (one_at y x k is).1
 
 element_occurs : (root : Name) (h : History) (p : Name) (k : ℕ) (x : Event) → slice_get (element_events root h p) k ≡ Some x → IsOf root h p x
 element_occurs root h p k x at =
-    elim (at_append (lasting_events root h p) (list_of (present_event h p)) k x at) [
-      | inl lasts ↦ lasting_occurs root h p k x lasts
+    elim (at_append (stable_events root h p) (list_of (present_event h p)) k x at) [
+      | inl lasts ↦ stable_occurs root h p k x lasts
       | inr shown ↦ present_occurs root h p x (in_list (present_event h p) shown.0 x shown.2)
     ]
 
@@ -226,10 +226,10 @@ module _ (root : Name) (h : History) (i : ℕ) (p : Name) (named : name_of (repo
   element_count : length (elements (reported_of root h) i) ≡ length (element_events root h p)
   element_count = ap (λ l. length l) (elements_is (reported_of root h) i p named ∙ elements_are root h p) ∙ length-map (element_events root h p) stamp_of
 
-  lasting_count : length (lasting (reported_of root h) i) ≡ length (lasting_events root h p)
-  lasting_count =
-      ap (λ (o : Option Name). length (option_map_or (λ name. lasting_of name (reported_of root h)) o [])) named
-      ∙ (ap (λ l. length l) (lasting_is root h p) ∙ length-map (lasting_events root h p) stamp_of)
+  stable_count : length (stable (reported_of root h) i) ≡ length (stable_events root h p)
+  stable_count =
+      ap (λ (o : Option Name). length (option_map_or (λ name. stable_of name (reported_of root h)) o [])) named
+      ∙ (ap (λ l. length l) (stable_is root h p) ∙ length-map (stable_events root h p) stamp_of)
 
   retired_as : is_retired (reported_of root h) i ≡ retired_in h p
   retired_as = ap (λ (o : Option Name). option_map_or (λ name. is_some (target_of name (reported_of root h))) o false) named ∙ retired_is root h p
@@ -249,31 +249,31 @@ module _ (root : Name) (h : History) (i : ℕ) (p : Name) (named : name_of (repo
     pub chosen_by : (k : Position) → IsMarkOf root h p numbers i k m → stands_at k m ≡ true → IsChosen (reported_of root h) numbers i k
     chosen_by (At zero) w is = inl refl
     chosen_by (At (suc j)) w is =
-        let L = lasting_events root h p in
+        let L = stable_events root h p in
         let P = present_event h p in
         let survives = stood_by w.began L P (retired_in h p) m j w.noted w.missing is in
         let all : length (elements (reported_of root h) i) ≡ length (element_events root h p) = element_count in
-        let some : length (lasting (reported_of root h) i) ≡ length L = lasting_count in
+        let some : length (stable (reported_of root h) i) ≡ length L = stable_count in
         let le : suc j ≤ length (element_events root h p) = survives.0 in
         inr (omega arith, omega arith, λ contains. (let lasts : suc j ≤ length L = survives.1 (w.failed.1 contains) in omega arith))
     chosen_by Retired w is = inr (retired_as ∙ (sym w.noted.retired ∙ is))
 
     pub chosen_stands : (k : Position) → IsMarkOf root h p numbers i k m → IsChosen (reported_of root h) numbers i k → stands_at k m ≡ true
     chosen_stands (At zero) w chosen =
-        (let missing : m.missing ≡ w.began.missing - length (lasting_events root h p) = w.noted.missing in
+        (let missing : m.missing ≡ w.began.missing - length (stable_events root h p) = w.noted.missing in
         let want : w.began.missing ≡ 0 = w.missing in
         or_left (nat_eq m.missing 0) _ (eq-eqb m.missing 0 (omega arith)))
     chosen_stands (At (suc j)) w chosen =
-        let L = lasting_events root h p in
+        let L = stable_events root h p in
         let P = present_event h p in
         let all : length (elements (reported_of root h) i) ≡ length (element_events root h p) = element_count in
-        let some : length (lasting (reported_of root h) i) ≡ length L = lasting_count in
+        let some : length (stable (reported_of root h) i) ≡ length L = stable_count in
         elim chosen [
           | inl first ↦ absurd (not_first j first)
           | inr there ↦
               (let le : suc j ≤ length (elements (reported_of root h) i) = there.1 in
               stands_by w.began L P (retired_in h p) m j w.noted w.missing
-              (omega arith, λ failed. (let lasts : suc j ≤ length (lasting (reported_of root h) i) = there.2 (w.failed.0 failed) in omega arith)))
+              (omega arith, λ failed. (let lasts : suc j ≤ length (stable (reported_of root h) i) = there.2 (w.failed.0 failed) in omega arith)))
         ]
       where
         not_first : (n : ℕ) → At (suc n) ≢ At 0
@@ -292,7 +292,7 @@ module _ (root : Name) (h : History) (i : ℕ) (p : Name) (named : name_of (repo
       reached_up_to (At zero) e w chosen = (λ is. true≢false (sym is), λ never. absurd never)
       reached_up_to Retired e w chosen = (λ is. tt, λ any. refl)
       reached_up_to (At (suc j)) e w chosen =
-          let L = lasting_events root h p in
+          let L = stable_events root h p in
           let P = present_event h p in
           let all : length (elements (reported_of root h) i) ≡ length (element_events root h p) = element_count in
           let there : suc j ≤ length (element_events root h p) = up_there j chosen all in

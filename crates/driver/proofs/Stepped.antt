@@ -10,7 +10,7 @@ use Rattle.driver.specs.declared.step.Step.{Step}
 use Rattle.driver.specs.declared.step.StepRequest.{StepRequest}
 use Rattle.driver.specs.declared.tables.Tables.{Tables}
 use Rattle.driver.specs.declared.tables.Other.{Other}
-use Rattle.driver.specs.working.Made.{Made, step_of, numbered, silently, openly}
+use Rattle.driver.specs.working.Made.{Made, step_of, numbered_report, silently, openly}
 use Rattle.driver.specs.working.Tables.{AreSound, history_in}
 use Rattle.driver.specs.Verdicts.{IsVerdict}
 use Rattle.driver.specs.declared.fault.StepFault.{StepFault}
@@ -34,25 +34,25 @@ unreported root h made ready = record {
   line = ready.line;
 }
 
-pub silently_ready : (old middle : Tables) (p x : Name) (act : StepRequest) (d : StepKind) (t : Stamp) (n : ℕ) → Makes old.root (history_in old) p act (silently p d t n)
+pub silently_ready : (old middle : Tables) (p x : Name) (request : StepRequest) (d : StepKind) (t : Stamp) (n : ℕ) → Makes old.root (history_in old) p request (silently p d t n)
     → IsSame old middle → x ≡ p
     → IsReady middle.root (history_in middle) (record { step = step_of x d t; reports = n; other = None; report = None })
-silently_ready old middle p x act d t n makes same is_x =
-    rw is_x (ready_still old middle (silently p d t n) same (ready_made old.root (history_in old) p act (silently p d t n) makes (λ r none. absurd cc)))
+silently_ready old middle p x request d t n makes same is_x =
+    rw is_x (ready_still old middle (silently p d t n) same (ready_made old.root (history_in old) p request (silently p d t n) makes (λ r none. absurd cc)))
 
-pub openly_ready : (old middle : Tables) (p x y : Name) (act : StepRequest) (d : StepKind) (t : Stamp) (other : Option Other) (n : ℕ) (reported : Stamp) (a : ReportKind)
-    → Makes old.root (history_in old) p act (openly p d t other n reported a) → HasLineIfCounted (numbered y n reported a) → IsSame old middle → x ≡ p → y ≡ p
+pub openly_ready : (old middle : Tables) (p x y : Name) (request : StepRequest) (d : StepKind) (t : Stamp) (other : Option Other) (n : ℕ) (reported : Stamp) (a : ReportKind)
+    → Makes old.root (history_in old) p request (openly p d t other n reported a) → HasLineIfCounted (numbered_report y n reported a) → IsSame old middle → x ≡ p → y ≡ p
     → IsReady middle.root (history_in middle) (record { step = step_of x d t; reports = n; other = other; report = None })
-openly_ready old middle p x y act d t other n reported a makes line same is_x is_y =
+openly_ready old middle p x y request d t other n reported a makes line same is_x is_y =
     rw is_x (unreported middle.root (history_in middle) (openly p d t other n reported a)
     (ready_still old middle (openly p d t other n reported a) same
-    (ready_made old.root (history_in old) p act (openly p d t other n reported a) makes
-    (λ r is. subst HasLineIfCounted (ap (λ (z : Name). numbered z n reported a) is_y ∙ some_report r is) line))))
+    (ready_made old.root (history_in old) p request (openly p d t other n reported a) makes
+    (λ r is. subst HasLineIfCounted (ap (λ (z : Name). numbered_report z n reported a) is_y ∙ some_report r is) line))))
   where
-    some_report : (r : Report) → Some (numbered p n reported a) ≡ Some r → numbered p n reported a ≡ r
+    some_report : (r : Report) → Some (numbered_report p n reported a) ≡ Some r → numbered_report p n reported a ≡ r
     some_report r is = cc
 
-step_taken : (old middle new : Tables) (asked : Step) (made : Made) (given : Option Report) → Makes old.root (history_in old) asked.process asked.act made → IsSame old middle
+step_taken : (old middle new : Tables) (asked : Step) (made : Made) (given : Option Report) → Makes old.root (history_in old) asked.process asked.request made → IsSame old middle
     → Adds middle made.step new → given ≡ made.report → IsStepTaken old asked new (Ok given)
 step_taken old middle new asked made given makes same added is =
     let root : new.root ≡ old.root = added.root ∙ same.root in
@@ -81,22 +81,22 @@ step_taken old middle new asked made given makes same added is =
     }
 
 pub silently_taken : (old middle new : Tables) (asked : Step) (x : Name) (d : StepKind) (t : Stamp) (n : ℕ)
-    → Makes old.root (history_in old) asked.process asked.act (silently asked.process d t n) → IsSame old middle → x ≡ asked.process → Adds middle (step_of x d t) new
+    → Makes old.root (history_in old) asked.process asked.request (silently asked.process d t n) → IsSame old middle → x ≡ asked.process → Adds middle (step_of x d t) new
     → IsStepTaken old asked new (Ok None)
 silently_taken old middle new asked x d t n makes same is_x added =
     step_taken old middle new asked (silently asked.process d t n) None makes same (subst (λ (z : Name). Adds middle (step_of z d t) new) is_x added) refl
 
 pub openly_taken : (old middle new : Tables) (asked : Step) (x y : Name) (d : StepKind) (t : Stamp) (other : Option Other) (n : ℕ) (reported : Stamp) (a : ReportKind)
-    → Makes old.root (history_in old) asked.process asked.act (openly asked.process d t other n reported a) → IsSame old middle → x ≡ asked.process → y ≡ asked.process
-    → Adds middle (step_of x d t) new → IsStepTaken old asked new (Ok (Some (numbered y n reported a)))
+    → Makes old.root (history_in old) asked.process asked.request (openly asked.process d t other n reported a) → IsSame old middle → x ≡ asked.process → y ≡ asked.process
+    → Adds middle (step_of x d t) new → IsStepTaken old asked new (Ok (Some (numbered_report y n reported a)))
 openly_taken old middle new asked x y d t other n reported a makes same is_x is_y added =
-    step_taken old middle new asked (openly asked.process d t other n reported a) (Some (numbered y n reported a)) makes same
-    (subst (λ (z : Name). Adds middle (step_of z d t) new) is_x added) (ap (λ (z : Name). Some (numbered z n reported a)) is_y)
+    step_taken old middle new asked (openly asked.process d t other n reported a) (Some (numbered_report y n reported a)) makes same
+    (subst (λ (z : Name). Adds middle (step_of z d t) new) is_x added) (ap (λ (z : Name). Some (numbered_report z n reported a)) is_y)
 
 -- a step that is refused leaves all as it was
-pub step_refused : (old : Tables) (asked : Step) (act : StepRequest) (fault : StepFault) → AreSound old → asked.act ≡ act → (fault ≢ faults.Memory → IsVerdict old.root (history_in old) asked.process act (Some fault))
+pub step_refused : (old : Tables) (asked : Step) (request : StepRequest) (fault : StepFault) → AreSound old → asked.request ≡ request → (fault ≢ faults.Memory → IsVerdict old.root (history_in old) asked.process request (Some fault))
     → IsStepTaken old asked old (Err fault)
-step_refused old asked act fault sound is refused = record {
+step_refused old asked request fault sound is refused = record {
   sound = sound;
   step = tt;
   reports = tt;

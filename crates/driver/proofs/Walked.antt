@@ -15,7 +15,7 @@ use Rattle.report_line.specs.histories.History.{Name, History, Event, event_of, 
 use Rattle.law_lines.proofs.Listed.{at_append}
 use Rattle.driver.specs.declared.mark.Mark.{Mark}
 use Rattle.driver.specs.working.Marks.{lasts, reports as reporting, own, born, walked, rooted}
-use Rattle.driver.proofs.ElementEvents.{lasting_by, lasting_events, present_by, present_event, retired_by, retired_in}
+use Rattle.driver.proofs.ElementEvents.{stable_by, stable_events, present_by, present_event, retired_by, retired_in}
 use Rattle.driver.proofs.Sound.{flipped}
 
 -- a mark that began as f, where these elements last, this is the present state, and the last report is a retirement or not
@@ -82,7 +82,7 @@ lasts_noted f L P b m e w =
 -- ---- a step
 
 module _ (f : Mark) (h : History) (s : Step) (p : Name) (L : List Event) (P : Option Event) (b : Bool) (m : Mark) (w : Noted f L P b m) where
-  fork_noted : (c : Name) (i : IdTree) → Noted f (L ++ lasting_by h s p (Fork c i)) P b (born (Fork c i) (length (s ∷ h)) p m)
+  fork_noted : (c : Name) (i : IdTree) → Noted f (L ++ stable_by h s p (Fork c i)) P b (born (Fork c i) (length (s ∷ h)) p m)
   fork_noted c i =
       elim (cases_Bool (bytes_eq p c)) [
         | inl is ↦
@@ -93,7 +93,7 @@ module _ (f : Mark) (h : History) (s : Step) (p : Name) (L : List Event) (P : Op
             (subst (Noted f (L ++ []) P b) (sym (cond-false (bytes_eq c p) (lasts (length (s ∷ h)) m) m (flipped c p ∙ is))) (same_list f L P b m w))
       ]
 
-  own_noted : (d : StepKind) → bytes_eq p s.process ≡ true → Noted f (L ++ lasting_by h s p d) (present_by d (event_of h s) P) (retired_by d b) (own d (length (s ∷ h)) (born d (length (s ∷ h)) p m))
+  own_noted : (d : StepKind) → bytes_eq p s.process ≡ true → Noted f (L ++ stable_by h s p d) (present_by d (event_of h s) P) (retired_by d b) (own d (length (s ∷ h)) (born d (length (s ∷ h)) p m))
   own_noted Work is = same_list f L P b m w
   own_noted Check is =
       subst (λ l. Noted f (L ++ l) None false (own Check (length (s ∷ h)) m)) (sym (cond-true (bytes_eq p s.process) (event_of h s ∷ []) [] is))
@@ -101,11 +101,11 @@ module _ (f : Mark) (h : History) (s : Step) (p : Name) (L : List Event) (P : Op
   own_noted Present is = same_list f L (Some (event_of h s)) false (reporting (Some (length (s ∷ h))) false m) (reports_noted f L P (Some (event_of h s)) b false m w)
   own_noted (Send t) is = same_list f L P b m w
   own_noted (Receive t) is = same_list f L P b m w
-  own_noted (Fork c i) is = reports_noted f (L ++ lasting_by h s p (Fork c i)) P None b false (born (Fork c i) (length (s ∷ h)) p m) (fork_noted c i)
+  own_noted (Fork c i) is = reports_noted f (L ++ stable_by h s p (Fork c i)) P None b false (born (Fork c i) (length (s ∷ h)) p m) (fork_noted c i)
   own_noted (Retire q) is = same_list f L None true (reporting None true m) (reports_noted f L P None b true m w)
   own_noted (Absorb r) is = same_list f L None false (reporting None false m) (reports_noted f L P None b false m w)
 
-  other_noted : (d : StepKind) → bytes_eq p s.process ≡ false → Noted f (L ++ lasting_by h s p d) P b (born d (length (s ∷ h)) p m)
+  other_noted : (d : StepKind) → bytes_eq p s.process ≡ false → Noted f (L ++ stable_by h s p d) P b (born d (length (s ∷ h)) p m)
   other_noted Work is = same_list f L P b m w
   other_noted Check is = subst (λ l. Noted f (L ++ l) P b m) (sym (cond-false (bytes_eq p s.process) (event_of h s ∷ []) [] is)) (same_list f L P b m w)
   other_noted Present is = same_list f L P b m w
@@ -115,26 +115,26 @@ module _ (f : Mark) (h : History) (s : Step) (p : Name) (L : List Event) (P : Op
   other_noted (Retire q) is = same_list f L P b m w
   other_noted (Absorb r) is = same_list f L P b m w
 
-  seen_noted : Noted f (L ++ lasting_by h s p s.deed) (if bytes_eq p s.process then present_by s.deed (event_of h s) P else P) (if bytes_eq p s.process then retired_by s.deed b else b)
-      (if bytes_eq s.process p then own s.deed (length (s ∷ h)) (born s.deed (length (s ∷ h)) p m) else born s.deed (length (s ∷ h)) p m)
+  seen_noted : Noted f (L ++ stable_by h s p s.step_kind) (if bytes_eq p s.process then present_by s.step_kind (event_of h s) P else P) (if bytes_eq p s.process then retired_by s.step_kind b else b)
+      (if bytes_eq s.process p then own s.step_kind (length (s ∷ h)) (born s.step_kind (length (s ∷ h)) p m) else born s.step_kind (length (s ∷ h)) p m)
   seen_noted =
-      subst (λ o. Noted f (L ++ lasting_by h s p s.deed) (if bytes_eq p s.process then present_by s.deed (event_of h s) P else P) (if bytes_eq p s.process then retired_by s.deed b else b)
-      (if o then own s.deed (length (s ∷ h)) (born s.deed (length (s ∷ h)) p m) else born s.deed (length (s ∷ h)) p m)) (flipped p s.process)
+      subst (λ o. Noted f (L ++ stable_by h s p s.step_kind) (if bytes_eq p s.process then present_by s.step_kind (event_of h s) P else P) (if bytes_eq p s.process then retired_by s.step_kind b else b)
+      (if o then own s.step_kind (length (s ∷ h)) (born s.step_kind (length (s ∷ h)) p m) else born s.step_kind (length (s ∷ h)) p m)) (flipped p s.process)
       (elim (cases_Bool (bytes_eq p s.process)) [
         | inl is ↦
-            subst (λ o. Noted f (L ++ lasting_by h s p s.deed) (if o then present_by s.deed (event_of h s) P else P) (if o then retired_by s.deed b else b)
-            (if o then own s.deed (length (s ∷ h)) (born s.deed (length (s ∷ h)) p m) else born s.deed (length (s ∷ h)) p m)) (sym is)
-            (own_noted s.deed is)
+            subst (λ o. Noted f (L ++ stable_by h s p s.step_kind) (if o then present_by s.step_kind (event_of h s) P else P) (if o then retired_by s.step_kind b else b)
+            (if o then own s.step_kind (length (s ∷ h)) (born s.step_kind (length (s ∷ h)) p m) else born s.step_kind (length (s ∷ h)) p m)) (sym is)
+            (own_noted s.step_kind is)
         | inr is ↦
-            subst (λ o. Noted f (L ++ lasting_by h s p s.deed) (if o then present_by s.deed (event_of h s) P else P) (if o then retired_by s.deed b else b)
-            (if o then own s.deed (length (s ∷ h)) (born s.deed (length (s ∷ h)) p m) else born s.deed (length (s ∷ h)) p m)) (sym is)
-            (other_noted s.deed is)
+            subst (λ o. Noted f (L ++ stable_by h s p s.step_kind) (if o then present_by s.step_kind (event_of h s) P else P) (if o then retired_by s.step_kind b else b)
+            (if o then own s.step_kind (length (s ∷ h)) (born s.step_kind (length (s ∷ h)) p m) else born s.step_kind (length (s ∷ h)) p m)) (sym is)
+            (other_noted s.step_kind is)
       ])
 
 -- ---- all steps
 
 abbrev pub IsNoted : Name → History → Name → Mark → Mark → Type 0
-IsNoted root h p f m = Noted f (lasting_events root h p) (present_event h p) (retired_in h p) m
+IsNoted root h p f m = Noted f (stable_events root h p) (present_event h p) (retired_in h p) m
 
 -- a mark that nothing was noted in
 pub record IsFresh (f : Mark) : Type 0 where
@@ -164,4 +164,4 @@ root_noted root p f w =
 
 pub walked_noted : (root : Name) (h : History) (p : Name) (f : Mark) → IsFresh f → IsNoted root h p f (walked h p (rooted root p f))
 walked_noted root [] p f w = root_noted root p f w
-walked_noted root (s ∷ h) p f w = seen_noted f h s p (lasting_events root h p) (present_event h p) (retired_in h p) (walked h p (rooted root p f)) (walked_noted root h p f w)
+walked_noted root (s ∷ h) p f w = seen_noted f h s p (stable_events root h p) (present_event h p) (retired_in h p) (walked h p (rooted root p f)) (walked_noted root h p f w)

@@ -4,7 +4,7 @@ use Rattle.id_tree.specs.IdTree.{IdTree}
 use Rattle.stamp.specs.declared.stamp.Stamp.{Stamp}
 use Rattle.stamp.specs.Operations.{IsEvent, IsFork, IsReceive, IsAbsorb}
 use Rattle.report_line.specs.declared.report.Report.{Report}
-use Rattle.report_line.specs.declared.step.StepKind.TheVariants as deeds
+use Rattle.report_line.specs.declared.step.StepKind.TheVariants as step_kinds
 use Rattle.report_line.specs.declared.step.Step.{Step as Taken}
 use Rattle.report_line.specs.histories.History.{Name, History, Event, Living, Retired, status, sending}
 use Rattle.report_line.specs.histories.Lawful.{IsLawful}
@@ -18,28 +18,28 @@ use Rattle.driver.specs.Chronicle.{Chronicle}
 abbrev pub stamp_of : Event → Stamp
 stamp_of e = record { id = e.id; events = e.values }
 
--- The step has the deed that was asked, and the stamp after it: an event; for a receive the join with what the message
+-- The step is of the kind that was asked, and the stamp after it: an event; for a receive the join with what the message
 -- carries, and then an event; for a fork an event, and then the halves of the id; for an absorption an event on the own stamp,
 -- and then the join with the retired one.
 abbrev pub IsStamped : Name → History → Event → StepRequest → Taken → Type 0
-IsStamped root h before Work s = (s.deed ≡ deeds.Work) × IsEvent (stamp_of before) s.stamp
-IsStamped root h before Check s = (s.deed ≡ deeds.Check) × IsEvent (stamp_of before) s.stamp
-IsStamped root h before Present s = (s.deed ≡ deeds.Present) × IsEvent (stamp_of before) s.stamp
-IsStamped root h before (Send m) s = (s.deed ≡ deeds.Send m) × IsEvent (stamp_of before) s.stamp
+IsStamped root h before Work s = (s.step_kind ≡ step_kinds.Work) × IsEvent (stamp_of before) s.stamp
+IsStamped root h before Check s = (s.step_kind ≡ step_kinds.Check) × IsEvent (stamp_of before) s.stamp
+IsStamped root h before Present s = (s.step_kind ≡ step_kinds.Present) × IsEvent (stamp_of before) s.stamp
+IsStamped root h before (Send m) s = (s.step_kind ≡ step_kinds.Send m) × IsEvent (stamp_of before) s.stamp
 IsStamped root h before (Receive m) s =
-    (sent : Event) × (s.deed ≡ deeds.Receive m) × (sending h m ≡ Some sent) × IsReceive (stamp_of before) sent.values s.stamp
+    (sent : Event) × (s.step_kind ≡ step_kinds.Receive m) × (sending h m ≡ Some sent) × IsReceive (stamp_of before) sent.values s.stamp
 IsStamped root h before (Fork c) s =
-    (given : IdTree) × (s.deed ≡ deeds.Fork c given) × IsFork (stamp_of before) s.stamp (record { id = given; events = s.stamp.events })
-IsStamped root h before (Retire q) s = (s.deed ≡ deeds.Retire q) × IsEvent (stamp_of before) s.stamp
+    (given : IdTree) × (s.step_kind ≡ step_kinds.Fork c given) × IsFork (stamp_of before) s.stamp (record { id = given; events = s.stamp.events })
+IsStamped root h before (Retire q) s = (s.step_kind ≡ step_kinds.Retire q) × IsEvent (stamp_of before) s.stamp
 IsStamped root h before (Absorb r) s =
-    (retirement : Event) × (s.deed ≡ deeds.Absorb r) × (status root h r ≡ Retired retirement s.process) × IsAbsorb (stamp_of before) (stamp_of retirement) s.stamp
+    (retirement : Event) × (s.step_kind ≡ step_kinds.Absorb r) × (status root h r ≡ Retired retirement s.process) × IsAbsorb (stamp_of before) (stamp_of retirement) s.stamp
 
 -- the step is the one that was asked
 pub record IsStepAsked (root : Name) (h : History) (a : Step) (s : Taken) : Type 0 where
   pub process : s.process ≡ a.process
   pub before : Event
   pub living : status root h s.process ≡ Living before
-  pub stamped : IsStamped root h before a.act s
+  pub stamped : IsStamped root h before a.request s
 
 -- just the step asked was added, the history is lawful with it, and its report, if it is reported, was given
 pub record Takes (old : Chronicle) (a : Step) (new : Chronicle) (given : Option Report) : Type 0 where

@@ -22,7 +22,7 @@ HasNoTarget root h _ = ⊥
 
 -- the process is not born, or the target is not
 abbrev pub IsUnknown : Name → History → Name → StepRequest → Type 0
-IsUnknown root h p act = (status root h p ≡ Unborn) ⊎ HasNoTarget root h act
+IsUnknown root h p request = (status root h p ≡ Unborn) ⊎ HasNoTarget root h request
 
 -- it retired, and was perhaps absorbed
 abbrev pub HasRetired : Status → Type 0
@@ -58,8 +58,8 @@ IsFullFor h e (Receive m) =
 IsFullFor h e _ = PassesLimit e.id e.values
 
 abbrev pub IsClockFull : History → Status → StepRequest → Type 0
-IsClockFull h (Living e) act = IsFullFor h e act
-IsClockFull h _ act = ⊥
+IsClockFull h (Living e) request = IsFullFor h e request
+IsClockFull h _ request = ⊥
 
 -- a part of the id would be too deep
 abbrev pub IsTooDeep : Status → StepRequest → Type 0
@@ -68,13 +68,13 @@ IsTooDeep _ _ = ⊥
 
 -- The tests stand in their order, and the first that applies decides; want of memory is set aside.
 abbrev pub IsVerdict : Name → History → Name → StepRequest → Option StepFault → Type 0
-IsVerdict root h p act answer =
-    Refuses (IsUnknown root h p act) faults.Unknown answer
+IsVerdict root h p request answer =
+    Refuses (IsUnknown root h p request) faults.Unknown answer
     (Refuses (HasRetired (status root h p)) faults.Retired answer
-    (Refuses (HasItself p act) faults.SelfTarget answer
-    (Refuses (HasTakenName root h act) faults.Taken answer
-    (Refuses (HasNoMessage h act) faults.NoMessage answer
-    (Refuses (HasNoRetirement root h p act) faults.NotWaiting answer
-    (Refuses (IsClockFull h (status root h p) act) faults.ClockFull answer
-    (Refuses (IsTooDeep (status root h p) act) faults.TooDeep answer
+    (Refuses (HasItself p request) faults.SelfTarget answer
+    (Refuses (HasTakenName root h request) faults.Taken answer
+    (Refuses (HasNoMessage h request) faults.NoMessage answer
+    (Refuses (HasNoRetirement root h p request) faults.NotWaiting answer
+    (Refuses (IsClockFull h (status root h p) request) faults.ClockFull answer
+    (Refuses (IsTooDeep (status root h p) request) faults.TooDeep answer
     (answer ≡ None))))))))

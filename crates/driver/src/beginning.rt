@@ -3,8 +3,8 @@
 ghost use Rattle.std.specs.Prelude.{◌≡◌, [], IfOk};
 ghost use Rattle.driver.specs.working.Tables.{AreSound, history_in};
 
-use crate::known::Known;
-use crate::noting::note;
+use crate::process_status::ProcessStatus;
+use crate::recording::note;
 use crate::tables::Tables;
 use indexmap::IndexMap;
 use report_line::Name;
@@ -18,7 +18,7 @@ pub(crate) fn begun(alloc: Global, root: Name, epoch: u32) -> Result<Tables, All
     let _name = root.as_bytes();
     let mut known = IndexMap::new(alloc);
     known.reserve(1)?;
-    let now = Known::Born {
+    let now = ProcessStatus::Born {
         stamp: Stamp::first(alloc),
     };
     note(&mut known, root.copy(), now);

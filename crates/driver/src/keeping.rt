@@ -12,13 +12,13 @@ ghost use Rattle.driver.specs.working.Tables.{AreSound, history_in};
 
 use crate::beginning::begun;
 use crate::fault::StepFault;
-use crate::known::Known;
-use crate::lining::know_step;
-use crate::making::living;
+use crate::line_events::is_reached;
 use crate::mark::Mark;
-use crate::marking::is_reached;
-use crate::noting::{add, reserve};
-use crate::remaking::remade;
+use crate::process_status::ProcessStatus;
+use crate::proof_facts::know_step;
+use crate::rebuild::remade;
+use crate::recording::{add, reserve};
+use crate::steps::living;
 use crate::tables::{Remade, Tables};
 use indexmap::IndexMap;
 use report_line::{Name, Step as Taken, StepKind};
@@ -30,18 +30,18 @@ fn waits(tables: &Tables, process: &Name) -> bool
 {
     match tables.known.get(process) {
         None => false,
-        Some(Known::Born { .. }) => false,
-        Some(Known::Lives { .. }) => false,
-        Some(Known::Waits { .. }) => true,
-        Some(Known::Gone) => false,
+        Some(ProcessStatus::Born { .. }) => false,
+        Some(ProcessStatus::Lives { .. }) => false,
+        Some(ProcessStatus::Waits { .. }) => true,
+        Some(ProcessStatus::Gone) => false,
     }
 }
 
 // Whether by these tables what is received was sent, and what is absorbed retired.
-fn is_due(tables: &Tables, deed: &StepKind) -> bool
-    ensures { result ≡ is_due tables.now deed.now }
+fn is_due(tables: &Tables, step_kind: &StepKind) -> bool
+    ensures { result ≡ is_due tables.now step_kind.now }
 {
-    match deed {
+    match step_kind {
         StepKind::Work => true,
         StepKind::Check => true,
         StepKind::Present => true,
@@ -53,11 +53,11 @@ fn is_due(tables: &Tables, deed: &StepKind) -> bool
     }
 }
 
-// Whether the deed is a fork, by this event, of a child whose birth is in the line.
-fn bears(marks: &IndexMap<Name, Mark>, deed: &StepKind, number: usize) -> bool
-    ensures { result ≡ bears (get bytes_eq marks.now) deed.now number }
+// Whether the kind of step is a fork, by this event, of a child whose birth is in the line.
+fn bears(marks: &IndexMap<Name, Mark>, step_kind: &StepKind, number: usize) -> bool
+    ensures { result ≡ bears (get bytes_eq marks.now) step_kind.now number }
 {
-    match deed {
+    match step_kind {
         StepKind::Work => false,
         StepKind::Check => false,
         StepKind::Present => false,
@@ -113,12 +113,12 @@ fn go_over(
 {
     let step = &steps[i];
     if !is_reached(marks, &step.process, i + 1) {
-        if bears(marks, &step.deed, i + 1) {
+        if bears(marks, &step.step_kind, i + 1) {
             return Err(StepFault::NotClosed);
         }
         return Ok(());
     }
-    if !is_due(tables, &step.deed) {
+    if !is_due(tables, &step.step_kind) {
         return Err(StepFault::NotClosed);
     }
     keep(alloc, tables, step)

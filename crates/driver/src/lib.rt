@@ -7,16 +7,16 @@ ghost use Rattle.driver.specs.GreatestLines.{GreatestLineIsClosed, RecoveryLineI
 mod beginning;
 mod fault;
 mod keeping;
-mod known;
 mod line;
-mod lining;
-mod making;
+mod line_events;
 mod mark;
-mod marking;
-mod noting;
-mod remaking;
+mod process_status;
+mod proof_facts;
+mod rebuild;
+mod recording;
 mod settling;
 mod step;
+mod steps;
 mod tables;
 mod world;
 

@@ -68,10 +68,10 @@ impl Mark {
     }
 
     // With a step of its own, by this event.
-    pub(crate) fn own(self, deed: &StepKind, number: usize) -> Mark
-        ensures { result ≡ own deed.now number self }
+    pub(crate) fn own(self, step_kind: &StepKind, number: usize) -> Mark
+        ensures { result ≡ own step_kind.now number self }
     {
-        match deed {
+        match step_kind {
             StepKind::Work => self,
             StepKind::Check => self.reports(None, false).lasts(number),
             StepKind::Present => self.reports(Some(number), false),

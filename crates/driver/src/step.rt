@@ -29,7 +29,7 @@ pub enum StepRequest {
 #[derive(Drop)]
 pub struct Step {
     pub process: Name,
-    pub act: StepRequest,
+    pub request: StepRequest,
 }
 
 impl StepRequest {
@@ -67,7 +67,7 @@ impl Step {
     {
         Step {
             process: self.process.copy(),
-            act: self.act.copy(),
+            request: self.request.copy(),
         }
     }
 }

@@ -1,6 +1,6 @@
 //! What a world keeps.
 
-use crate::known::Known;
+use crate::process_status::ProcessStatus;
 use indexmap::IndexMap;
 use report_line::{Name, Step as Taken};
 
@@ -10,7 +10,7 @@ pub(crate) struct Tables {
     pub(crate) root: Name,
     pub(crate) epoch: u32,
     pub(crate) steps: Vec<Taken>,
-    pub(crate) known: IndexMap<Name, Known>,
+    pub(crate) known: IndexMap<Name, ProcessStatus>,
     pub(crate) messages: IndexMap<Name, usize>,
 }
 
@@ -30,7 +30,7 @@ impl Drop for Tables {
 #[derive(Drop)]
 pub(crate) struct Other {
     pub(crate) name: Name,
-    pub(crate) known: Known,
+    pub(crate) known: ProcessStatus,
 }
 
 /// A step that is made once more, how many reports its process has then, and another process that it changes.

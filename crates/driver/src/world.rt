@@ -17,9 +17,9 @@ ghost use Rattle.driver.specs.Settling.{HasUnknownName, IsClosedLine, Settles, R
 use crate::beginning::begun;
 use crate::fault::StepFault;
 use crate::line::NamedPosition;
-use crate::making::{absorb, check, fork, present, receive, retire, send, work};
 use crate::settling::settle_on;
 use crate::step::{Step, StepRequest};
+use crate::steps::{absorb, check, fork, present, receive, retire, send, work};
 use crate::tables::Tables;
 use report_line::{Name, Report};
 use std::alloc::{AllocError, Global};
@@ -69,7 +69,7 @@ impl World {
 
     /// Tells a proof what holds of each world: its history is a lawful one of its root, what it reported has lines, and that folds
     /// and agrees with the history.
-    pub fn lawful(&self)
+    pub fn recall_lawful(&self)
         ensures lawful { IsLawful self.now.root self.now.history }
         ensures reportable { IsReportable self.now.root self.now.history }
         ensures premise { IsPremise self.now.root self.now.history (reported self.now) }
@@ -82,8 +82,8 @@ impl World {
     pub fn step(&mut self, asked: Step) -> Result<Option<Report>, StepFault>
         ensures step { IfOk result (λ given. Takes self.old asked self.new given) }
         ensures reports { IfOk result (λ given. reports self.new.root self.new.history ≡ reports self.old.root self.old.history ++ cons_option given []) }
-        ensures accepted { OnOk result (IsVerdict self.old.root self.old.history asked.process asked.act None) }
-        ensures refused { IfErr result (λ fault. fault ≢ StepFault.Memory → IsVerdict self.old.root self.old.history asked.process asked.act (Some fault)) }
+        ensures accepted { OnOk result (IsVerdict self.old.root self.old.history asked.process asked.request None) }
+        ensures refused { IfErr result (λ fault. fault ≢ StepFault.Memory → IsVerdict self.old.root self.old.history asked.process asked.request (Some fault)) }
         ensures unchanged { OnErr result (self.new ≡ self.old) }
     {
         take_step(self.alloc, &mut self.tables, &asked)
@@ -118,7 +118,7 @@ fn take_step(alloc: Global, tables: &mut Tables, asked: &Step) -> Result<Option<
     requires { AreSound tables.old }
     ensures { IsStepTaken tables.old asked.now tables.new result }
 {
-    match &asked.act {
+    match &asked.request {
         StepRequest::Work => work(alloc, tables, asked),
         StepRequest::Check => check(alloc, tables, asked),
         StepRequest::Present => present(alloc, tables, asked),

@@ -43,20 +43,20 @@ first_few front file earlier said (inr first) (inr is) few = has_few front file 
 abbrev Answer : Type 0
 Answer = Result (Vec ℕ Global) EarlierFault
 
-abbrev IsMade : ℕ → List ℕ → Answer → Type 0
-IsMade front file result = IfOk result (λ earlier. IsFirst front file earlier.items)
+abbrev IsFirstBytes : ℕ → List ℕ → Answer → Type 0
+IsFirstBytes front file result = IfOk result (λ earlier. IsFirst front file earlier.items)
 
 abbrev IsToldSo : ℕ → List ℕ → Answer → Type 0
 IsToldSo front file result = IfErr result (IsRefusedAt front file)
 
-pub damaged_alone : (front : ℕ) (file : List ℕ) (result : Answer) → IsMade front file result → IsToldSo front file result → (k : ℕ) → k ≤ front → IsDamaged k file → result ≡ Err (Damaged k)
+pub damaged_alone : (front : ℕ) (file : List ℕ) (result : Answer) → IsFirstBytes front file result → IsToldSo front file result → (k : ℕ) → k ≤ front → IsDamaged k file → result ≡ Err (Damaged k)
 damaged_alone front file (Ok earlier) made told k within damaged = absurd (first_damaged front k file earlier.items made within damaged)
 damaged_alone front file (Err Foreign) made told k within damaged = absurd (damaged_foreign file k damaged told)
 damaged_alone front file (Err (Damaged j)) made told k within damaged = ap (λ (n : ℕ). Err (Damaged n)) (one_damage file j k told.0 damaged)
 damaged_alone front file (Err (Short n)) made told k within damaged = absurd (damaged_stands file k told.said damaged told.stands)
 damaged_alone front file (Err Memory) made told k within damaged = absurd (first_damaged front k file told.0 told.1 within damaged)
 
-pub short_alone : (front : ℕ) (file : List ℕ) (result : Answer) → IsMade front file result → IsToldSo front file result → (said : List Said) → Stands said file → length said < front → result ≡ Err (Short (length said))
+pub short_alone : (front : ℕ) (file : List ℕ) (result : Answer) → IsFirstBytes front file result → IsToldSo front file result → (said : List Said) → Stands said file → length said < front → result ≡ Err (Short (length said))
 short_alone front file (Ok earlier) made told said stands few = absurd (first_few front file earlier.items said made stands few)
 short_alone front file (Err Foreign) made told said stands few = absurd (foreign_stands file said told stands)
 short_alone front file (Err (Damaged k)) made told said stands few = absurd (damaged_stands file k said told.0 stands)
@@ -121,7 +121,7 @@ read_so front file earlier (inr first) version said (inr long) (inr is) = elim (
   | inr enough ↦ has_read front file earlier version said first.1 long.1 is enough
 ]
 
-pub reads_so : (front : ℕ) (file : List ℕ) (result : Answer) → IsMade front file result → IfOk result (λ earlier. IsReadAsFirst front file earlier.items)
+pub reads_so : (front : ℕ) (file : List ℕ) (result : Answer) → IsFirstBytes front file result → IfOk result (λ earlier. IsReadAsFirst front file earlier.items)
 reads_so front file (Ok earlier) made = read_so front file earlier.items made
 reads_so front file (Err fault) made = tt
 

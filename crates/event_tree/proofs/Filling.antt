@@ -8,9 +8,9 @@ use Rattle.event_tree.specs.Halves.{root}
 use Rattle.event_tree.specs.Norm.{normal_node}
 use Rattle.event_tree.specs.Size.{size}
 use Rattle.event_tree.specs.working.Entries.{entry, blank, preorder}
-use Rattle.event_tree.specs.working.Writing.{IsWritten}
+use Rattle.event_tree.specs.working.Writing.{HasTreeWritten}
 use Rattle.event_tree.specs.working.Walks.{filled, filled_node, left_raised, right_raised, AreFilled, IsFilled}
-use Rattle.event_tree.specs.working.Filled.{IsHere, IsMade, IsStopOf, AreMade, Tells}
+use Rattle.event_tree.specs.working.Filled.{IsHere, IsFilledFrom, IsStopOf, AreMade, Tells}
 use Rattle.event_tree.specs.declared.event.fill_in_copy.Look.{Look}
 use Rattle.event_tree.specs.declared.event.fill_in_copy.Look.TheVariants.{Kept, Changed}
 use Rattle.event_tree.specs.declared.event.fill_in_copy.FilledEnd.{FilledEnd}
@@ -105,11 +105,11 @@ filled_kept l r n a b hi he above beside sa sb =
 
 -- ---- a node that was filled, as it is written
 
-pub raised_closed : (old one both raised new : List Entry) (start middle stop end n : ℕ) (l r : IdTree) (a b : EventTree) → start < length old → IsWritten old one (start + 1) middle a → IsWritten one both middle stop b
+pub raised_closed : (old one both raised new : List Entry) (start middle stop end n : ℕ) (l r : IdTree) (a b : EventTree) → start < length old → HasTreeWritten old one (start + 1) middle a → HasTreeWritten one both middle stop b
     → AreFilled l r a b → length raised ≡ length both → take stop raised ≡ take start old ++ get_or old start blank ∷ (preorder (left_raised l r a b) ++ preorder (right_raised l r a b))
     → length new ≡ length raised
     → ((front : List Entry) (e : Entry) (c d : EventTree) → length front ≡ start → middle ≡ start + 1 + size c → take stop raised ≡ front ++ e ∷ (preorder c ++ preorder d) → EndsInNode new front (normal_node n c d) end stop)
-    → IsWritten old new start end (filled_node l r n a b) × (end ≤ stop)
+    → HasTreeWritten old new start end (filled_node l r n a b) × (end ≤ stop)
 raised_closed old one both raised new start middle stop end n l r a b lt w v f along is long closed =
     let h = written_both old one both start middle stop a b lt w v in
     let g = halves_raised (take stop both) (take stop raised) _ _ l r a b start middle h f is in
@@ -156,7 +156,7 @@ halves_told i e l r k n x y a b hi he id_is tree_is first second =
 -- ---- what was made, in a copy or in room for it
 
 abbrev pub are_made : (n start : ℕ) (one other : FilledEnd) (old between now : List Entry) (l r : IdTree) (a b : EventTree) → IsNormalId (Pair l r) → IsNormal (Node n a b) → greatest (Node n a b) < 4294967296 → start + size (Node n a b) ≤ length old
-    → IsMade l a old between (start + 1) one → IsMade r b between now one.stop other → AreMade n start one other now
+    → IsFilledFrom l a old between (start + 1) one → IsFilledFrom r b between now one.stop other → AreMade n start one other now
 are_made n start one other old between now l r a b hi he f room x y = record {
   old = old;
   between = between;
@@ -173,15 +173,15 @@ are_made n start one other old between now l r a b hi he f room x y = record {
 }
 
 -- where it stops, with whether all of it is owned
-pub ended_at : (i : IdTree) (e : EventTree) (old new : List Entry) (start stop : ℕ) (end : FilledEnd) → end.stop ≡ stop → (IsTrue end.whole ↔ (i ≡ One)) → IsStopOf i e old new start stop → IsMade i e old new start end
+pub ended_at : (i : IdTree) (e : EventTree) (old new : List Entry) (start stop : ℕ) (end : FilledEnd) → end.stop ≡ stop → (IsTrue end.whole ↔ (i ≡ One)) → IsStopOf i e old new start stop → IsFilledFrom i e old new start end
 ended_at i e old new start stop end at told m = record { written = rw at m.written; next = rw at m.next; whole = told }
 
 -- a leaf that stays
-pub made_leaf : (i : IdTree) (n : ℕ) (old new : List Entry) (start stop : ℕ) → IsWritten old new start stop (Leaf n) → stop ≡ start + 1 → IsStopOf i (Leaf n) old new start stop
+pub made_leaf : (i : IdTree) (n : ℕ) (old new : List Entry) (start stop : ℕ) → HasTreeWritten old new start stop (Leaf n) → stop ≡ start + 1 → IsStopOf i (Leaf n) old new start stop
 made_leaf i n old new start stop w next = record { written = rw (filled_leaf i n) w; next = omega (arith, next) }
 
 -- a leaf in place of what is owned whole
-pub made_whole : (e : EventTree) (old new : List Entry) (start stop g : ℕ) → g ≡ greatest e → IsWritten old new start stop (Leaf g) → stop ≡ start + 1 → IsStopOf One e old new start stop
+pub made_whole : (e : EventTree) (old new : List Entry) (start stop g : ℕ) → g ≡ greatest e → HasTreeWritten old new start stop (Leaf g) → stop ≡ start + 1 → IsStopOf One e old new start stop
 made_whole e old new start stop g most w next = record { written = rw most at w; next = omega (arith, next, some_size e) }
 
 -- where the halves of a part stand
@@ -220,7 +220,7 @@ pub here_within : (es : List Entry) (start : ℕ) (e : EventTree) → IsHere es 
 here_within es start e h = omega (arith, ap length h.are, length-append h.front (preorder e ++ h.rest), length-append (preorder e) h.rest, length_preorder e, h.begins)
 
 -- what stays as it is stands written there
-pub here_written : (es : List Entry) (start : ℕ) (e : EventTree) → IsHere es start e → IsWritten es es start (start + size e) e
+pub here_written : (es : List Entry) (start : ℕ) (e : EventTree) → IsHere es start e → HasTreeWritten es es start (start + size e) e
 here_written es start e h =
     let before = h.front ++ preorder e in
     let long : start + size e ≡ length before = omega (arith, length-append h.front (preorder e), length_preorder e, h.begins) in
@@ -262,7 +262,7 @@ closed_in_copy n start one other stop items slice new lent f h =
     rw (refilled items slice new lent long) m
 
 -- the first leaf, in the copy that was made for it
-pub begun : (e : EventTree) (tree items slice new : List Entry) (start stop g : ℕ) → items ≡ tree → slice ≡ items → g ≡ greatest e → IsWritten slice new start stop (Leaf g) → stop ≡ start + 1
+pub begun : (e : EventTree) (tree items slice new : List Entry) (start stop g : ℕ) → items ≡ tree → slice ≡ items → g ≡ greatest e → HasTreeWritten slice new start stop (Leaf g) → stop ≡ start + 1
     → IsStopOf One e tree (refill (length items) items new) start stop
 begun e tree items slice new start stop g copied lent most w next =
     subst (λ (es : List Entry). IsStopOf One e es (refill (length items) items new) start stop) copied

@@ -8,7 +8,7 @@ use Rattle.event_tree.specs.EventTree.{EventTree, Leaf, Node}
 use Rattle.event_tree.specs.Values.{value_at, IsAtOrBelow, ExceedsOn}
 use Rattle.event_tree.specs.NormalForm.{least, greatest}
 use Rattle.event_tree.specs.Halves.{root, left, right}
-use Rattle.event_tree.specs.Tests.{is_below_from, exceeds_from}
+use Rattle.event_tree.specs.working.Tests.{is_below_from, exceeds_from}
 use Rattle.event_tree.proofs.Trees.{value_at-nil, value_at-left, value_at-right, least_le, some_least}
 
 pub below_from-true : (x : ℕ) (e : EventTree) (y : ℕ) (f : EventTree) → is_below_from x e y f ≡ true → (p : Point) → x + value_at e p ≤ y + value_at f p

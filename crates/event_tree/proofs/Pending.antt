@@ -7,7 +7,7 @@ use Rattle.event_tree.specs.NormalForm.{IsNormal, greatest}
 use Rattle.event_tree.specs.Halves.{root}
 use Rattle.event_tree.specs.Size.{size}
 use Rattle.event_tree.specs.working.Entries.{first, later}
-use Rattle.event_tree.specs.Tests.{is_below_from}
+use Rattle.event_tree.specs.working.Tests.{is_below_from}
 use Rattle.event_tree.specs.working.Sequences.{halved}
 use Rattle.event_tree.specs.working.Pending.{bases_at, waiting, are_below, ArePairs, sizes, IsLeft}
 use Rattle.event_tree.specs.declared.order.Bases.{Bases}

@@ -11,18 +11,18 @@ use Rattle.event_tree.specs.Halves.{root}
 use Rattle.event_tree.specs.Norm.{lifted, normal_node}
 use Rattle.event_tree.specs.Size.{size}
 use Rattle.event_tree.specs.working.Entries.{entry, blank, preorder, EndsInHalves}
-use Rattle.event_tree.specs.working.Writing.{IsWritten}
+use Rattle.event_tree.specs.working.Writing.{HasTreeWritten}
 use Rattle.event_tree.specs.working.Walks.{AreFilled}
 use Rattle.event_tree.specs.declared.layout.entries.Entry.{Entry}
 use Rattle.event_tree.proofs.Preorder.{below, preorder_root, preorder_lifted, length_preorder, some_size}
 use Rattle.event_tree.proofs.Closed.{HalvesAt, Read, AreLeaves, AreRaised, raises_left, raises_right, middle_within, halves_here, closes, node_closed, pushed_leaves, written}
 
-pub leaf_written : (old new : List Entry) (start stop n : ℕ) → start < length old → new ≡ set old start (entry n 1) → stop ≡ start + 1 → IsWritten old new start stop (Leaf n)
+pub leaf_written : (old new : List Entry) (start stop n : ℕ) → start < length old → new ≡ set old start (entry n 1) → stop ≡ start + 1 → HasTreeWritten old new start stop (Leaf n)
 leaf_written old new start stop n lt is next =
     rw (is, next) (record { as_long = length-set old start (entry n 1); within = omega (arith, lt); are = take_more_set old start (entry n 1) lt })
 
 pub leaves_written : (old one two new : List Entry) (start m n k : ℕ) → start + 2 < length old → m ≢ n → k ≡ min m n
-    → one ≡ set old start (entry k 3) → two ≡ set one (start + 1) (entry (m - k) 1) → new ≡ set two (start + 2) (entry (n - k) 1) → IsWritten old new start (start + 3) (normal_node 0 (Leaf m) (Leaf n))
+    → one ≡ set old start (entry k 3) → two ≡ set one (start + 1) (entry (m - k) 1) → new ≡ set two (start + 2) (entry (n - k) 1) → HasTreeWritten old new start (start + 3) (normal_node 0 (Leaf m) (Leaf n))
 leaves_written old one two new start m n k lt unlike is a b c =
     let first_long : length one ≡ length old = ap length a ∙ length-set old start (entry k 3) in
     let second_long : length two ≡ length old = ap length b ∙ length-set one (start + 1) (entry (m - k) 1) ∙ first_long in
@@ -38,7 +38,7 @@ leaves_written old one two new start m n k lt unlike is a b c =
 
 -- a copy of the entries of which the first is written over
 pub lifted_written : (old copied new : List Entry) (start stop k : ℕ) (e : EventTree) → start + size e ≤ length old → stop ≡ start + size e → length copied ≡ length old
-    → take (start + size e) copied ≡ take start old ++ preorder e → new ≡ set copied start (entry (root e + k) (size e)) → IsWritten old new start stop (lifted k e)
+    → take (start + size e) copied ≡ take start old ++ preorder e → new ≡ set copied start (entry (root e + k) (size e)) → HasTreeWritten old new start stop (lifted k e)
 lifted_written old copied new start stop k e room next long is put =
     rw next
     (record {
@@ -67,7 +67,7 @@ put_there old copied front start room is =
 
 pub part_lifted : (old copied entries front : List Entry) (start k : ℕ) (e : EventTree) → entries ≡ preorder e → start + size e ≤ length old → front ≡ take (get_or entries 0 blank).size entries → length copied ≡ length old
     → copied ≡ take start old ++ (front ++ drop (start + length front) old)
-    → IsWritten old (set copied start (entry ((get_or entries 0 blank).value + k) (get_or entries 0 blank).size)) start (start + (get_or entries 0 blank).size) (lifted k e)
+    → HasTreeWritten old (set copied start (entry ((get_or entries 0 blank).value + k) (get_or entries 0 blank).size)) start (start + (get_or entries 0 blank).size) (lifted k e)
 part_lifted old copied entries front start k e are room parts long is =
     let first : get_or entries 0 blank ≡ entry (root e) (size e) = ap (λ (es : List Entry). get_or es 0 blank) are ∙ first_alone e in
     let whole : front ≡ preorder e = parts ∙ ap (λ (x : Entry). take x.size entries) first ∙ ap (take (size e)) are ∙ take_all (size e) (preorder e) (omega (arith, length_preorder e)) in
@@ -77,11 +77,11 @@ part_lifted old copied entries front start k e are room parts long is =
 
 -- ---- two halves
 
-length_of_written : (old new : List Entry) (start stop : ℕ) (t : EventTree) → start ≤ length old → IsWritten old new start stop t → stop ≡ start + size t
+length_of_written : (old new : List Entry) (start stop : ℕ) (t : EventTree) → start ≤ length old → HasTreeWritten old new start stop t → stop ≡ start + size t
 length_of_written old new start stop t le w =
     omega (arith, sym (length-take-le stop new (omega (arith, w.within, w.as_long))) ∙ ap length w.are, length-append (take start old) (preorder t), length-take-le start old le, length_preorder t)
 
-pub written_both : (old one both : List Entry) (start middle stop : ℕ) (a b : EventTree) → start < length old → IsWritten old one (start + 1) middle a → IsWritten one both middle stop b
+pub written_both : (old one both : List Entry) (start middle stop : ℕ) (a b : EventTree) → start < length old → HasTreeWritten old one (start + 1) middle a → HasTreeWritten one both middle stop b
     → HalvesAt (take stop both) (take start old) (get_or old start blank) a b start middle
 written_both old one both start middle stop a b lt w v = record {
   begins = length-take-le start old (omega (arith, lt));
@@ -117,7 +117,7 @@ EndsInNode new front t end stop = (end ≤ stop) × (take end new ≡ front ++ p
 
 -- two equal leaves
 pub leaf_closed : (out new front : List Entry) (e one other : Entry) (a b : EventTree) (n start middle stop end : ℕ) → HalvesAt (take stop out) front e a b start middle → Read (take stop out) start middle one other → AreLeaves one other
-    → start < stop → end ≡ start + 1 → IsWritten out new start end (Leaf (n + one.value)) → EndsInNode new front (normal_node n a b) end stop
+    → start < stop → end ≡ start + 1 → HasTreeWritten out new start end (Leaf (n + one.value)) → EndsInNode new front (normal_node n a b) end stop
 leaf_closed out new front e one other a b n start middle stop end h r leaves lt next w =
     (omega (arith, lt, next), closes (take stop out) (take end new) front e one other a b n start middle h r leaves (w.are ∙ ap (λ (es : List Entry). es ++ preorder (Leaf (n + one.value))) (sym (take-take start stop out (omega (arith, lt))))))
 
@@ -138,7 +138,7 @@ put_closed out new front e one other a b n k size_here start middle stop h r unl
           (take-set-lt stop (set out (start + 1) x) middle y other_lt ∙ ap (λ (es : List Entry). set es middle y) (take-set-lt stop out (start + 1) x one_lt))),
     )
 
-pub halves_within : (old one both : List Entry) (start middle stop : ℕ) (a b : EventTree) → start < length old → IsWritten old one (start + 1) middle a → IsWritten one both middle stop b
+pub halves_within : (old one both : List Entry) (start middle stop : ℕ) (a b : EventTree) → start < length old → HasTreeWritten old one (start + 1) middle a → HasTreeWritten one both middle stop b
     → (start + 1 < middle) × (middle < stop) × (stop ≤ length both)
 halves_within old one both start middle stop a b lt w v =
     let h = written_both old one both start middle stop a b lt w v in
@@ -190,9 +190,9 @@ pub if_ok : {T E : Type 0} {P Q : T → Type 0} (r : Result T E) → ((x : T) �
 if_ok (Ok x) f p = f x p
 if_ok (Err e) f p = tt
 
-pub node_written : {E : Type 0} (r : Result ℕ E) (old one both new : List Entry) (start middle stop : ℕ) (a b : EventTree) → start < length old → IsWritten old one (start + 1) middle a → IsWritten one both middle stop b → length new ≡ length both
+pub node_written : {E : Type 0} (r : Result ℕ E) (old one both new : List Entry) (start middle stop : ℕ) (a b : EventTree) → start < length old → HasTreeWritten old one (start + 1) middle a → HasTreeWritten one both middle stop b → length new ≡ length both
     → IfOk r (λ end. (front : List Entry) (e : Entry) (c d : EventTree) → length front ≡ start → middle ≡ start + 1 + size c → take stop both ≡ front ++ e ∷ (preorder c ++ preorder d) → EndsInNode new front (normal_node 0 c d) end stop)
-    → IfOk r (λ end. IsWritten old new start end (normal_node 0 a b) × (end ≤ stop))
+    → IfOk r (λ end. HasTreeWritten old new start end (normal_node 0 a b) × (end ≤ stop))
 node_written r old one both new start middle stop a b lt w v long closed =
     let h = written_both old one both start middle stop a b lt w v in
     if_ok r
@@ -202,5 +202,5 @@ node_written r old one both new start middle stop a b lt w v long closed =
     closed
 
 -- the whole of it, from the first place on
-pub written_from_none : (old new items : List Entry) (stop : ℕ) (t : EventTree) → IsWritten old new 0 stop t → items ≡ take stop new → items ≡ preorder t
+pub written_from_none : (old new items : List Entry) (stop : ℕ) (t : EventTree) → HasTreeWritten old new 0 stop t → items ≡ take stop new → items ≡ preorder t
 written_from_none old new items stop t w is = is ∙ w.are

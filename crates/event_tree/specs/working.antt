@@ -6,6 +6,7 @@ pub mod Walks
 pub mod Beside
 pub mod OwnLeaf
 pub mod Taking
+pub mod Tests
 pub mod Sequences
 pub mod Pending
 pub mod Writing

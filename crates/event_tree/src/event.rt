@@ -43,7 +43,7 @@ fn step_by_walks(
     ensures { IfOk result (λ fits. IsStepped fits id.now e.now out.new.items) }
 {
     let view = e.view();
-    view.counted();
+    view.recall_count();
     match fill_at(alloc, out, &view, 0, id, &view, 0)? {
         Look::Kept => grown(alloc, out, id, &view),
         Look::Changed(stop) => {

@@ -15,7 +15,7 @@ ghost use Rattle.event_tree.specs.Values.{value_at, IsAtOrBelow, ExceedsOn};
 ghost use Rattle.event_tree.specs.NormalForm.{IsEvents, IsNormal, depth, least, greatest, value_limit};
 ghost use Rattle.event_tree.specs.Size.{size};
 ghost use Rattle.event_tree.specs.Spelling.{spelling, IsTextOf};
-ghost use Rattle.event_tree.specs.Faults.{IsFaultOf, IsEventFaultOf};
+ghost use Rattle.event_tree.specs.Faults.{IsFaultOfEvents, IsEventFaultOf};
 ghost use Rattle.event_tree.specs.Join.{IsJoin};
 ghost use Rattle.event_tree.specs.Meet.{IsMeet};
 ghost use Rattle.event_tree.specs.Restricted.{IsRestricted};
@@ -79,7 +79,7 @@ impl Events {
     }
 
     /// Tells a proof what holds of each event tree.
-    pub fn known(&self)
+    pub fn recall_facts(&self)
         ensures normal { IsNormal self.now }
         ensures shallow { depth self.now ≤ depth_limit }
         ensures small { greatest self.now ≤ value_limit }
@@ -141,7 +141,7 @@ impl Events {
     pub fn restricted(&self, alloc: Global, id: &Id) -> Result<Events, AllocError>
         ensures { IfOk result (λ bound. IsRestricted id.now self.now bound) }
     {
-        id.known();
+        id.recall_facts();
         let node = restriction::restricted(alloc, id, &self.node)?;
         Ok(Events { node })
     }
@@ -157,7 +157,7 @@ impl Events {
         ensures full { PassesLimit id.now self.now → IsErr result }
         ensures nothing_owned { id.now ≡ Zero → result ≡ Err EventFault.NothingOwned }
     {
-        id.known();
+        id.recall_facts();
         let view = id.view();
         match view.part() {
             IdPart::Nothing => Err(EventFault::NothingOwned),
@@ -172,7 +172,7 @@ impl Events {
     /// deeply brackets are nested beyond the depth limit, but for one small entry for each open bracket.
     pub fn parse(alloc: Global, bytes: &[u8]) -> Result<Events, EventsFault>
         ensures ok { IfOk result (λ e. bytes.now ≡ spelling e) }
-        ensures err { IfErr result (λ fault. IsFaultOf fault bytes.now) }
+        ensures err { IfErr result (λ fault. IsFaultOfEvents fault bytes.now) }
         ensures only { (t : EventTree) → IsEvents t → bytes.now ≡ spelling t → MatchResult result (λ e. e ≡ t) (λ fault. fault ≡ EventsFault.Memory) }
     {
         // What is spelled right is read so, if there is memory; which fault a text has, the reader says.
@@ -273,7 +273,7 @@ pub fn growth_costs_least()
 
 /// Fill raises only points that the id owns, lowers none, and passes the tree's greatest value at none.
 pub fn fill_raises_only_what_is_owned()
-    ensures same { (i : IdTree) (e : EventTree) (p : Point) → owns i p ≡ false → value_at (fill i e) p ≡ value_at e p }
+    ensures unchanged { (i : IdTree) (e : EventTree) (p : Point) → owns i p ≡ false → value_at (fill i e) p ≡ value_at e p }
     ensures above { (i : IdTree) (e : EventTree) (p : Point) → value_at e p ≤ value_at (fill i e) p }
     ensures within { (i : IdTree) (e : EventTree) (p : Point) → value_at (fill i e) p ≤ greatest e }
 {}

@@ -18,7 +18,7 @@ pub fn garbage_by(chains: &Chains, needs: Option<&Needs<'_>>) -> Result<Certific
     requires { IfSome needs (λ n. IsTableOf chains.now.accepted n.now) }
     ensures { IfOk result (IsGarbageLine (held_of chains.now)) }
 {
-    chains.lawful();
+    chains.recall_lawful();
     let all = Failed::all(chains)?;
     certificate_by(chains, needs, &all)
 }

@@ -4,10 +4,10 @@ use Rattle.std.proofs.lemmas.Bool.{cases_Bool, both_ways}
 use Rattle.id_tree.specs.IdTree.{IdTree, Zero, One, Pair}
 use Rattle.id_tree.specs.NormalForm.{IsNormal, IsId, are_equal_leaves, depth, depth_limit}
 use Rattle.id_tree.specs.Spelling.{spelling}
-use Rattle.id_tree.specs.Faults.{SpellsUnnormal, SpellsDeep, IsFaultOf}
+use Rattle.id_tree.specs.Faults.{SpellsUnnormal, SpellsDeep, IsFaultOfId}
 use Rattle.id_tree.specs.working.Reading.{Spells, IsRunFault, IsPartFault, run, start, are_one, height, above, pair_of, part_of}
-use Rattle.id_tree.specs.declared.reader.Part.{Part}
-use Rattle.id_tree.specs.declared.reader.Part.TheVariants as parts
+use Rattle.id_tree.specs.declared.reading.first_fault.Part.{Part}
+use Rattle.id_tree.specs.declared.reading.first_fault.Part.TheVariants as parts
 use Rattle.id_tree.specs.declared.fault.IdFault.{IdFault}
 use Rattle.id_tree.specs.declared.fault.IdFault.TheVariants.{Syntax, NotNormal, TooDeep, Memory}
 use Rattle.id_tree.proofs.Runs.{spelled, run_spelled}
@@ -97,7 +97,7 @@ not_deep bytes d t s e n deep =
     omega (arith, told.1, deep, ap depth same, n.shallow)
 
 -- a fault of the run is one that the bytes have
-pub fault_found : (fault : IdFault) (bytes : List ℕ) → IsRunFault fault (run start bytes) → IsFaultOf fault bytes
+pub fault_found : (fault : IdFault) (bytes : List ℕ) → IsRunFault fault (run start bytes) → IsFaultOfId fault bytes
 fault_found Syntax bytes h = λ t e. h t (run_spelled t bytes e)
 fault_found NotNormal bytes h = absurd h
 fault_found TooDeep bytes h = absurd h
@@ -112,7 +112,7 @@ fault_of_id Memory bytes t n e h = refl
 
 -- ---- the fault of what was not read straight
 
-pub part_fault : (fault : IdFault) (part : Part) (bytes : List ℕ) → Spells part bytes → IsPartFault fault part → IsFaultOf fault bytes
+pub part_fault : (fault : IdFault) (part : Part) (bytes : List ℕ) → Spells part bytes → IsPartFault fault part → IsFaultOfId fault bytes
 part_fault Syntax part bytes s h = absurd h
 part_fault NotNormal part bytes s h = found_unnormal bytes (subst (λ (p : Part). Spells p bytes) h s)
 part_fault TooDeep part bytes s h = found_deep bytes h.0 (subst (λ (p : Part). Spells p bytes) h.1 s) h.2

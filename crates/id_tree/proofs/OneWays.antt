@@ -5,7 +5,8 @@ use Rattle.std.specs.Prelude.{⊤}
 use Rattle.id_tree.specs.IdTree.{IdTree, Zero, Pair}
 use Rattle.id_tree.specs.working.Marks.{preorder, first, later, trees_of, tree_of, AreMarksOf}
 use Rattle.id_tree.specs.Points.{Point}
-use Rattle.id_tree.specs.OneWay.{id_of_way, turns_of, are_nothing, is_only_way}
+use Rattle.id_tree.specs.OneWay.{id_of_way}
+use Rattle.id_tree.specs.working.WayOfMarks.{turns_of, are_nothing, is_only_way}
 use Rattle.id_tree.specs.declared.marks.Mark.{Mark}
 use Rattle.id_tree.specs.declared.marks.Mark.TheVariants as marks
 use Rattle.id_tree.proofs.Preorder.{tree_of_preorder}

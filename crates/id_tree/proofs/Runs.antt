@@ -5,18 +5,18 @@ use Rattle.std.proofs.lemmas.Bool.{eqb-true}
 use Rattle.std.proofs.Math.ListN.{drop_of_length-le}
 use Rattle.id_tree.specs.IdTree.{IdTree, Zero, One, Pair}
 use Rattle.id_tree.specs.Spelling.{spelling}
-use Rattle.id_tree.specs.working.Reading.{IsStepFault, IsRunFault, State, Shows, StepsTo, Spells, half_of, halves_of_pairs, last_of, part_of, step_of, leaf_read, opened, halved, closed, run, start, whole}
-use Rattle.id_tree.specs.declared.reader.Part.{Part}
+use Rattle.id_tree.specs.working.Reading.{IsStepFault, IsRunFault, State, ShowsState, StepsTo, Spells, half_of, halves_of_pairs, last_of, part_of, step_of, leaf_read, opened, halved, closed, run, start, whole}
+use Rattle.id_tree.specs.declared.reading.first_fault.Part.{Part}
 use Rattle.id_tree.specs.declared.fault.IdFault.{IdFault}
 use Rattle.id_tree.specs.declared.fault.IdFault.TheVariants.{Syntax, NotNormal, TooDeep, Memory}
-use Rattle.id_tree.specs.declared.reader.Half.{Half}
+use Rattle.id_tree.specs.declared.reading.first_fault.Half.{Half}
 
 -- ---- a loop over the bytes
 
 -- what is left from a byte on leads from the state that is shown to where the whole leads
 pub record Reads (hs : List Half) (last : Option Part) (i : ℕ) (bytes : List ℕ) : Type 0 where
   pub state : State
-  pub shows : Shows hs last state
+  pub shows : ShowsState hs last state
   pub leads : run state (drop i bytes) ≡ run start bytes
 
 -- a run over what is left from a byte on goes on behind that byte
@@ -75,7 +75,7 @@ run_empty hs last i bytes r none h t f =
 same_part : (o : Option Part) (p q : Part) → o ≡ Some p → o ≡ Some q → p ≡ q
 same_part o p q e f = cc
 
-spells_whole : (hs : List Half) (last : Option Part) (part : Part) (bytes : List ℕ) (ps : List (Option IdTree)) (tree : Option IdTree) → Shows hs last (record { open_pairs = ps; last = tree }) → length hs ≡ 0 → last ≡ Some part
+spells_whole : (hs : List Half) (last : Option Part) (part : Part) (bytes : List ℕ) (ps : List (Option IdTree)) (tree : Option IdTree) → ShowsState hs last (record { open_pairs = ps; last = tree }) → length hs ≡ 0 → last ≡ Some part
     → run start bytes ≡ Some (record { open_pairs = ps; last = tree }) → Spells part bytes
 spells_whole hs last part bytes [] (Some t) s n c e = record { tree = t; part_is = same_part last part (part_of t) c s.last_is; ran = e }
 spells_whole hs last part bytes [] None s n c e = absurd (let is = s.last_is in cc)

@@ -3,11 +3,11 @@ use Rattle.std.proofs.Common.{◌≡◌, ℕ, List, [], ◌∷◌, ◌++◌, len
 use Rattle.std.specs.Prelude.{reverse}
 use Rattle.std.proofs.lemmas.List.{reverse-append, append_cancel_right}
 use Rattle.id_tree.specs.IdTree.{IdTree, Zero, One, Pair}
-use Rattle.id_tree.specs.working.Reading.{State, Shows, StepsTo, halves_of_pairs, part_of, pair_of, right_of, left_of, step_of}
-use Rattle.id_tree.specs.declared.reader.Part.{Part}
-use Rattle.id_tree.specs.declared.reader.Part.TheVariants as parts
-use Rattle.id_tree.specs.declared.reader.Half.{Half}
-use Rattle.id_tree.specs.declared.reader.Half.TheVariants as halves
+use Rattle.id_tree.specs.working.Reading.{State, ShowsState, StepsTo, halves_of_pairs, part_of, pair_of, right_of, left_of, step_of}
+use Rattle.id_tree.specs.declared.reading.first_fault.Part.{Part}
+use Rattle.id_tree.specs.declared.reading.first_fault.Part.TheVariants as parts
+use Rattle.id_tree.specs.declared.reading.first_fault.Half.{Half}
+use Rattle.id_tree.specs.declared.reading.first_fault.Half.TheVariants as halves
 
 -- a state of these parts
 abbrev at : List (Option IdTree) → Option IdTree → State
@@ -19,18 +19,18 @@ none_is o x e f = cc
 same_some : (o : Option Part) (p q : Part) → o ≡ Some p → o ≡ Some q → p ≡ q
 same_some o p q e f = cc
 
-leaf_at : (t : IdTree) (byte : ℕ) (ps : List (Option IdTree)) (last : Option IdTree) (hs : List Half) (seen : Option Part) → ((qs : List (Option IdTree)) → step_of (at qs None) byte ≡ Some (at qs (Some t))) → seen ≡ None → Shows hs seen (at ps last)
+leaf_at : (t : IdTree) (byte : ℕ) (ps : List (Option IdTree)) (last : Option IdTree) (hs : List Half) (seen : Option Part) → ((qs : List (Option IdTree)) → step_of (at qs None) byte ≡ Some (at qs (Some t))) → seen ≡ None → ShowsState hs seen (at ps last)
     → StepsTo (at ps last) byte hs (Some (part_of t))
 leaf_at t byte ps None hs seen is none s = record { next = at ps (Some t); steps = is ps; shows = record { halves = s.halves; last_is = refl } }
 leaf_at t byte ps (Some u) hs seen is none s = absurd (none_is seen (part_of u) none s.last_is)
 
-pub reads_zero : (byte : ℕ) (hs : List Half) (seen : Option Part) → byte ≡ 48 → seen ≡ None → (s : State) → Shows hs seen s → StepsTo s byte hs (Some parts.Zero)
+pub reads_zero : (byte : ℕ) (hs : List Half) (seen : Option Part) → byte ≡ 48 → seen ≡ None → (s : State) → ShowsState hs seen s → StepsTo s byte hs (Some parts.Zero)
 reads_zero byte hs seen b none s h = leaf_at Zero byte s.open_pairs s.last hs seen (λ qs. rw b refl) none h
 
-pub reads_one : (byte : ℕ) (hs : List Half) (seen : Option Part) → byte ≡ 49 → seen ≡ None → (s : State) → Shows hs seen s → StepsTo s byte hs (Some parts.One)
+pub reads_one : (byte : ℕ) (hs : List Half) (seen : Option Part) → byte ≡ 49 → seen ≡ None → (s : State) → ShowsState hs seen s → StepsTo s byte hs (Some parts.One)
 reads_one byte hs seen b none s h = leaf_at One byte s.open_pairs s.last hs seen (λ qs. rw b refl) none h
 
-open_at : (byte : ℕ) (ps : List (Option IdTree)) (last : Option IdTree) (hs ks : List Half) (seen : Option Part) → byte ≡ 40 → seen ≡ None → ks ≡ hs ++ halves.Left ∷ [] → Shows hs seen (at ps last) → StepsTo (at ps last) byte ks None
+open_at : (byte : ℕ) (ps : List (Option IdTree)) (last : Option IdTree) (hs ks : List Half) (seen : Option Part) → byte ≡ 40 → seen ≡ None → ks ≡ hs ++ halves.Left ∷ [] → ShowsState hs seen (at ps last) → StepsTo (at ps last) byte ks None
 open_at byte ps None hs ks seen b none f s = record {
   next = at (None ∷ ps) None;
   steps = rw b refl;
@@ -38,7 +38,7 @@ open_at byte ps None hs ks seen b none f s = record {
 }
 open_at byte ps (Some u) hs ks seen b none f s = absurd (none_is seen (part_of u) none s.last_is)
 
-pub reads_open : (byte : ℕ) (hs ks : List Half) (seen : Option Part) → byte ≡ 40 → seen ≡ None → ks ≡ hs ++ halves.Left ∷ [] → (s : State) → Shows hs seen s → StepsTo s byte ks None
+pub reads_open : (byte : ℕ) (hs ks : List Half) (seen : Option Part) → byte ≡ 40 → seen ≡ None → ks ≡ hs ++ halves.Left ∷ [] → (s : State) → ShowsState hs seen s → StepsTo s byte ks None
 reads_open byte hs ks seen b none f s h = open_at byte s.open_pairs s.last hs ks seen b none f h
 
 pub ended_by : (hs mid : List Half) (x y : Half) → x ≡ y → hs ≡ mid ++ x ∷ [] → hs ≡ mid ++ y ∷ []
@@ -66,7 +66,7 @@ left_is x p q e f = same_some (left_of x) p q e (ap left_of f ∙ known_left q)
 not_left : (x : Half) (q : Part) → left_of x ≡ None → x ≡ right_of q → ⊥
 not_left x q e f = none_is (left_of x) q e (ap left_of f ∙ known_left q)
 
-comma_at : (byte : ℕ) (ps : List (Option IdTree)) (last : Option IdTree) (hs mid ks : List Half) (seen : Option Part) (part : Part) → byte ≡ 44 → seen ≡ Some part → hs ≡ mid ++ halves.Left ∷ [] → ks ≡ mid ++ right_of part ∷ [] → Shows hs seen (at ps last)
+comma_at : (byte : ℕ) (ps : List (Option IdTree)) (last : Option IdTree) (hs mid ks : List Half) (seen : Option Part) (part : Part) → byte ≡ 44 → seen ≡ Some part → hs ≡ mid ++ halves.Left ∷ [] → ks ≡ mid ++ right_of part ∷ [] → ShowsState hs seen (at ps last)
     → StepsTo (at ps last) byte ks None
 comma_at byte ps None hs mid ks seen part b some e f s = absurd (none_is seen part s.last_is some)
 comma_at byte [] (Some v) hs mid ks seen part b some e f s = absurd (omega (arith, ap length e, ap length s.halves, length-append mid (halves.Left ∷ [])))
@@ -83,10 +83,10 @@ comma_at byte (None ∷ ps) (Some v) hs mid ks seen part b some e f s =
     }
 comma_at byte (Some l ∷ ps) (Some v) hs mid ks seen part b some e f s = absurd (not_left halves.Left (part_of l) refl (last_same halves.Left (right_of (part_of l)) mid _ (sym e ∙ s.halves)))
 
-pub reads_comma : (byte : ℕ) (hs mid ks : List Half) (seen : Option Part) (part : Part) → byte ≡ 44 → seen ≡ Some part → hs ≡ mid ++ halves.Left ∷ [] → ks ≡ mid ++ right_of part ∷ [] → (s : State) → Shows hs seen s → StepsTo s byte ks None
+pub reads_comma : (byte : ℕ) (hs mid ks : List Half) (seen : Option Part) (part : Part) → byte ≡ 44 → seen ≡ Some part → hs ≡ mid ++ halves.Left ∷ [] → ks ≡ mid ++ right_of part ∷ [] → (s : State) → ShowsState hs seen s → StepsTo s byte ks None
 reads_comma byte hs mid ks seen part b some e f s h = comma_at byte s.open_pairs s.last hs mid ks seen part b some e f h
 
-close_at : (byte : ℕ) (ps : List (Option IdTree)) (last : Option IdTree) (hs mid : List Half) (half : Half) (seen : Option Part) (left part : Part) → byte ≡ 41 → seen ≡ Some part → hs ≡ mid ++ half ∷ [] → left_of half ≡ Some left → Shows hs seen (at ps last)
+close_at : (byte : ℕ) (ps : List (Option IdTree)) (last : Option IdTree) (hs mid : List Half) (half : Half) (seen : Option Part) (left part : Part) → byte ≡ 41 → seen ≡ Some part → hs ≡ mid ++ half ∷ [] → left_of half ≡ Some left → ShowsState hs seen (at ps last)
     → StepsTo (at ps last) byte mid (Some (pair_of left part))
 close_at byte ps None hs mid half seen left part b some e k s = absurd (none_is seen part s.last_is some)
 close_at byte [] (Some v) hs mid half seen left part b some e k s = absurd (omega (arith, ap length e, ap length s.halves, length-append mid (half ∷ [])))
@@ -104,5 +104,5 @@ close_at byte (Some l ∷ ps) (Some v) hs mid half seen left part b some e k s =
       };
     }
 
-pub reads_close : (byte : ℕ) (hs mid : List Half) (half : Half) (seen : Option Part) (left part : Part) → byte ≡ 41 → seen ≡ Some part → hs ≡ mid ++ half ∷ [] → left_of half ≡ Some left → (s : State) → Shows hs seen s → StepsTo s byte mid (Some (pair_of left part))
+pub reads_close : (byte : ℕ) (hs mid : List Half) (half : Half) (seen : Option Part) (left part : Part) → byte ≡ 41 → seen ≡ Some part → hs ≡ mid ++ half ∷ [] → left_of half ≡ Some left → (s : State) → ShowsState hs seen s → StepsTo s byte mid (Some (pair_of left part))
 reads_close byte hs mid half seen left part b some e k s h = close_at byte s.open_pairs s.last hs mid half seen left part b some e k h

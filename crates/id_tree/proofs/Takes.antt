@@ -9,11 +9,11 @@ use Rattle.id_tree.specs.Faults.{SpellsUnnormal}
 use Rattle.id_tree.specs.working.Taking.{IsFormOf, pair_form, is_normal, IsTaken, IsWhole, BeginsNot, IsLeafPut, IsHalt, IsHaltOfWhole}
 use Rattle.id_tree.specs.declared.marks.Mark.{Mark}
 use Rattle.id_tree.specs.declared.marks.Mark.TheVariants as marks
-use Rattle.id_tree.specs.declared.straight.Taken.{Taken}
-use Rattle.id_tree.specs.declared.straight.Halt.{Halt}
-use Rattle.id_tree.specs.declared.straight.Halt.TheVariants.{NoTree, NotNormal, Other}
-use Rattle.id_tree.specs.declared.straight.Form.{Form}
-use Rattle.id_tree.specs.declared.straight.Form.TheVariants as forms
+use Rattle.id_tree.specs.declared.reading.into_marks.Taken.{Taken}
+use Rattle.id_tree.specs.declared.reading.into_marks.Halt.{Halt}
+use Rattle.id_tree.specs.declared.reading.into_marks.Halt.TheVariants.{NoTree, NotNormal, Other}
+use Rattle.id_tree.specs.declared.reading.into_marks.Form.{Form}
+use Rattle.id_tree.specs.declared.reading.into_marks.Form.TheVariants as forms
 use Rattle.id_tree.proofs.Texts.{spelling_front, cons_first, cons_rest}
 use Rattle.id_tree.proofs.Preorder.{tree_of_preorder, are_of}
 

@@ -20,8 +20,8 @@ pub record SpellsDeep (bytes : List ℕ) : Type 0 where
   pub deep : depth_limit < depth tree
 
 -- the fault that bytes have; memory may be wanting for any
-abbrev pub IsFaultOf : IdFault → List ℕ → Type 0
-IsFaultOf Syntax bytes = (t : IdTree) → bytes ≢ spelling t
-IsFaultOf NotNormal bytes = SpellsUnnormal bytes
-IsFaultOf TooDeep bytes = SpellsDeep bytes
-IsFaultOf Memory bytes = ⊤
+abbrev pub IsFaultOfId : IdFault → List ℕ → Type 0
+IsFaultOfId Syntax bytes = (t : IdTree) → bytes ≢ spelling t
+IsFaultOfId NotNormal bytes = SpellsUnnormal bytes
+IsFaultOfId TooDeep bytes = SpellsDeep bytes
+IsFaultOfId Memory bytes = ⊤

@@ -5,7 +5,7 @@ use Rattle.id_tree.specs.declared.view.IdPart.{IdPart}
 use Rattle.id_tree.specs.declared.view.IdPart.TheVariants.{Nothing, Everything, Halves}
 
 -- the part is nothing, everything, or a pair of these halves
-abbrev pub Shows : IdPart → IdTree → Type 0
-Shows Nothing i = i ≡ Zero
-Shows Everything i = i ≡ One
-Shows (Halves l r) i = i ≡ Pair l r
+abbrev pub ShowsId : IdPart → IdTree → Type 0
+ShowsId Nothing i = i ≡ Zero
+ShowsId Everything i = i ≡ One
+ShowsId (Halves l r) i = i ≡ Pair l r

@@ -3,3 +3,4 @@ pub mod Shape
 pub mod Reading
 pub mod Tests
 pub mod Taking
+pub mod WayOfMarks

@@ -13,7 +13,7 @@ ghost use Rattle.id_tree.specs.Size.{size};
 ghost use Rattle.id_tree.specs.working.Marks.{tree_of, IsLeaf, AreMarksOf};
 ghost use Rattle.id_tree.specs.NormalForm.{IsId, IsNormal, depth, depth_limit};
 ghost use Rattle.id_tree.specs.Spelling.{spelling, is_tree_byte};
-ghost use Rattle.id_tree.specs.Faults.{IsFaultOf};
+ghost use Rattle.id_tree.specs.Faults.{IsFaultOfId};
 ghost use Rattle.id_tree.specs.working.Reading.{IsPartFault};
 ghost use Rattle.id_tree.specs.working.Taking.{IsHaltOfWhole};
 ghost use Rattle.id_tree.specs.Split.{left_part, right_part, parts_depth, IsSplit};
@@ -22,8 +22,7 @@ ghost use Rattle.id_tree.specs.Sum.{sum_of};
 mod fault;
 mod marks;
 mod parts;
-mod reader;
-mod straight;
+mod reading;
 mod text;
 mod together;
 mod view;
@@ -32,11 +31,11 @@ mod way;
 pub use fault::{IdFault, SplitFault, SumFault};
 use marks::{Mark, Marks, are_apart, are_same, cover, own_any, sum_into};
 use parts::{left_into, parts_fit, right_into};
-use reader::Part;
+use reading::first_fault::Part;
+use reading::into_marks::Halt;
 use smallvec::SmallVec;
 use std::alloc::{AllocError, Global};
 use std::marker::Model;
-use straight::Halt;
 use text::{text_length, write_first};
 use together::is_sum_by;
 pub use view::{IdPart, IdView};
@@ -100,7 +99,7 @@ impl Id {
     }
 
     /// Tells a proof what holds of each id.
-    pub fn known(&self)
+    pub fn recall_facts(&self)
         ensures normal { IsNormal self.now }
         ensures shallow { depth self.now ≤ depth_limit }
     {
@@ -180,9 +179,9 @@ impl Id {
         ensures points { IsTrue result ↔ (AreDisjoint left.now right.now × AreTogether left.now right.now self.now) }
         ensures sum { AreDisjoint left.now right.now → (IsTrue result ↔ (self.now ≡ sum_of left.now right.now)) }
     {
-        self.known();
-        left.known();
-        right.known();
+        self.recall_facts();
+        left.recall_facts();
+        right.recall_facts();
         is_sum_by(&self.view(), &left.view(), &right.view())
     }
 
@@ -226,11 +225,11 @@ impl Id {
     /// nested; the memory that it takes is a byte for each node and leaf, and one for each open bracket.
     pub fn parse(alloc: Global, bytes: &[u8]) -> Result<Id, IdFault>
         ensures ok { IfOk result (λ id. bytes.now ≡ spelling id) }
-        ensures err { IfErr result (λ fault. IsFaultOf fault bytes.now) }
+        ensures err { IfErr result (λ fault. IsFaultOfId fault bytes.now) }
         ensures only { (t : IdTree) → IsId t → bytes.now ≡ spelling t → MatchResult result (λ id. id ≡ t) (λ fault. fault ≡ IdFault.Memory) }
     {
         // What is spelled right is read so, if there is memory; which fault a text has, the reader says, where this has not.
-        match straight::read(alloc, bytes) {
+        match reading::into_marks::read(alloc, bytes) {
             Ok(marks) => Ok(Id { marks }),
             Err(halt) => Err(fault_of(alloc, bytes, halt)),
         }
@@ -268,13 +267,13 @@ fn fault_of_part(part: Part) -> IdFault
 // The fault of bytes of which no id was read.
 fn fault_of(alloc: Global, bytes: &[u8], halt: Halt) -> IdFault
     requires { IsHaltOfWhole halt bytes.now }
-    ensures err { IsFaultOf result bytes.now }
+    ensures err { IsFaultOfId result bytes.now }
     ensures only { (t : IdTree) → IsId t → bytes.now ≡ spelling t → result ≡ IdFault.Memory }
 {
     match halt {
         Halt::NoTree => IdFault::Syntax,
         Halt::NotNormal => IdFault::NotNormal,
-        Halt::Other => match reader::read(alloc, bytes) {
+        Halt::Other => match reading::first_fault::read(alloc, bytes) {
             Ok(part) => fault_of_part(part),
             Err(fault) => fault,
         },

@@ -2,7 +2,7 @@
 
 ghost use Rattle.std.specs.Prelude.{◌≡◌, ◌↔◌, IsTrue};
 ghost use Rattle.id_tree.specs.IdTree.{Zero, One};
-ghost use Rattle.id_tree.specs.View.{Shows};
+ghost use Rattle.id_tree.specs.View.{ShowsId};
 ghost use Rattle.id_tree.specs.working.Marks.{tree_of};
 
 use crate::marks::{Mark, split_first_tree};
@@ -45,7 +45,7 @@ impl<'a> IdView<'a> {
 
     /// What stands at the top of this part.
     pub fn part(&self) -> IdPart<'a>
-        ensures { Shows result self.now }
+        ensures { ShowsId result self.now }
     {
         match self.marks.split_first() {
             Some((Mark::One, _)) => IdPart::Everything,

@@ -1,8 +1,8 @@
 //! The one way down to what an id owns, where all that it owns is one part alone.
 
 ghost use Rattle.std.specs.Prelude.{◌≡◌, ◌∷◌, [], MatchOption};
-ghost use Rattle.id_tree.specs.OneWay.{turns_of};
-ghost use Rattle.id_tree.specs.OneWay as ways;
+ghost use Rattle.id_tree.specs.working.WayOfMarks.{turns_of};
+ghost use Rattle.id_tree.specs.working.WayOfMarks as ways;
 
 use crate::marks::Mark;
 use std::marker::Model;
@@ -16,7 +16,7 @@ pub struct Way<'a> {
 impl<'a> Model for Way<'a> {
     ghost use Rattle.std.specs.Coded.{coded_bool, coded_list};
     ghost use Rattle.id_tree.specs.Points.{Point};
-    ghost use Rattle.id_tree.specs.OneWay.{turns_of};
+    ghost use Rattle.id_tree.specs.working.WayOfMarks.{turns_of};
 
     ghost Value = { Point };
 

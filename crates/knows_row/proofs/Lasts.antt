@@ -102,12 +102,12 @@ module _ (accepted : List Report) where
   all_below n e = All-weaker (Contains (all_known accepted)) (λ (q : ℕ). q < n) (λ q contains. omega (arith, in_all q contains, e)) (all_known accepted) (All-contains_itself (all_known accepted))
 
   -- a cut within the last ranks may be made of the ranks behind all elements
-  pub first_lowered : AreLawfulPlaces accepted → (tops : List ℕ) → length tops ≡ length (known accepted) → ((p : ℕ) → p < length tops → slice_index tops p ≤ last_rank accepted p)
-      → IsLoweredFrom accepted (ranks_past_all accepted) tops
-  first_lowered laws tops complete within = record {
+  pub first_lowered : AreLawfulPlaces accepted → (surviving_ranks : List ℕ) → length surviving_ranks ≡ length (known accepted) → ((p : ℕ) → p < length surviving_ranks → slice_index surviving_ranks p ≤ last_rank accepted p)
+      → IsLoweredFrom accepted (ranks_past_all accepted) surviving_ranks
+  first_lowered laws surviving_ranks complete within = record {
     complete = past_len ∙ sym complete;
     falls = λ q lt. omega (arith, within q lt, last_below accepted q, past_at q (omega (arith, lt, complete)));
-    unknown = λ p q pin qin. laws.ended p (slice_index tops p) q (slice_index (ranks_past_all accepted) q) (omega (arith, past_at q (omega (arith, qin, complete))));
+    unknown = λ p q pin qin. laws.ended p (slice_index surviving_ranks p) q (slice_index (ranks_past_all accepted) q) (omega (arith, past_at q (omega (arith, qin, complete))));
   }
 
   -- and so are the last ranks themselves

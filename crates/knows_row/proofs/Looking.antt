@@ -12,7 +12,7 @@ use Rattle.chains.specs.Elements.{elements, element}
 use Rattle.chains.specs.Knowledge.{events_at, Knows}
 use Rattle.knows_row.specs.Knowing.{KnowsAt, IsNeed, IsLastKnown}
 use Rattle.knows_row.proofs.Laws.{at_from_knows, element_within}
-use Rattle.knows_row.specs.working.Beyond.{numbered, IsBeyondAt, IsLastBeyond}
+use Rattle.knows_row.specs.working.Beyond.{element_number, IsBeyondAt, IsLastBeyond}
 
 -- beyond none of the elements from `from` on and below `to`
 abbrev pub NoneOf : EventTree → List Stamp → ℕ → ℕ → Type 0
@@ -20,7 +20,7 @@ NoneOf events stamps from to = (k : ℕ) → from ≤ k → k < to → ¬ IsBeyo
 
 -- ---- of a place
 
-same_element : (accepted : List Report) (q k : ℕ) → element accepted q k ≡ numbered (elements accepted q) k
+same_element : (accepted : List Report) (q k : ℕ) → element accepted q k ≡ element_number (elements accepted q) k
 same_element accepted q zero = refl
 same_element accepted q (suc k) = refl
 

@@ -7,9 +7,9 @@ use Rattle.id_tree.specs.IdTree.{IdTree}
 use Rattle.event_tree.specs.EventTree.{EventTree}
 use Rattle.event_tree.specs.Values.{IsAtOrBelow, ExceedsOn}
 use Rattle.stamp.specs.declared.stamp.Stamp.{Stamp}
-use Rattle.chains.specs.LastRun.{last_run}
+use Rattle.chains.specs.LastRun.{same_id_from}
 use Rattle.chains.proofs.LastRun.{run_same}
-use Rattle.knows_row.specs.working.Beyond.{numbered, IsBeyondAt, IsBeyondFrom, AreRising}
+use Rattle.knows_row.specs.working.Beyond.{element_number, IsBeyondAt, IsBeyondFrom, AreRising}
 use Rattle.knows_row.proofs.Looking.{NoneOf}
 
 -- the events are beyond no element from k on up to this one, which has this id
@@ -20,7 +20,7 @@ pub record IsLookedAt (events : EventTree) (stamps : List Stamp) (k number : ℕ
   pub same : stamp.id ≡ id
   pub none : NoneOf events stamps k (number + 1)
 
-numbered_at : (stamps : List Stamp) (number : ℕ) → 0 < number → numbered stamps number ≡ slice_get stamps (number - 1)
+numbered_at : (stamps : List Stamp) (number : ℕ) → 0 < number → element_number stamps number ≡ slice_get stamps (number - 1)
 numbered_at stamps zero some = absurd (omega (arith, some))
 numbered_at stamps (suc j) some = let e : suc j - 1 ≡ j = omega arith in subst (λ (i : ℕ). slice_get stamps j ≡ slice_get stamps i) (sym e) refl
 
@@ -102,7 +102,7 @@ looked_all events stamps k number id h long beyond = elim (cases_lt beyond.0 (nu
 ]
 
 -- within the last run, what is beyond an element is beyond each one before
-pub beyond_earlier : (events : EventTree) (stamps : List Stamp) (number later : ℕ) → AreRising stamps → last_run stamps < number → number ≤ later → IsBeyondAt events stamps later → IsBeyondAt events stamps number
+pub beyond_earlier : (events : EventTree) (stamps : List Stamp) (number later : ℕ) → AreRising stamps → same_id_from stamps < number → number ≤ later → IsBeyondAt events stamps later → IsBeyondAt events stamps number
 beyond_earlier events stamps zero later rising run le h = absurd (omega (arith, run))
 beyond_earlier events stamps (suc i) zero rising run le h = absurd (omega (arith, le))
 beyond_earlier events stamps (suc i) (suc j) rising run le h =
@@ -114,7 +114,7 @@ beyond_earlier events stamps (suc i) (suc j) rising run le h =
     record { stamp = s; is_element = there; exceeds = exceeds_earlier s.id h.stamp.id events s.events h.stamp.events same low h.exceeds }
 
 -- one of the last run was looked at, and so all
-pub looked_run : (events : EventTree) (stamps : List Stamp) (k number : ℕ) (id : IdTree) → AreRising stamps → IsLookedAt events stamps k number id → k ≤ number → last_run stamps < number → ¬ IsBeyondFrom events stamps k
+pub looked_run : (events : EventTree) (stamps : List Stamp) (k number : ℕ) (id : IdTree) → AreRising stamps → IsLookedAt events stamps k number id → k ≤ number → same_id_from stamps < number → ¬ IsBeyondFrom events stamps k
 looked_run events stamps k number id rising h le run beyond = elim (cases_lt beyond.0 (number + 1)) [
   | inl before ↦ h.none beyond.0 beyond.1 before beyond.2
   | inr past ↦ h.none number le (omega arith) (beyond_earlier events stamps number beyond.0 rising run (omega (arith, past)) beyond.2)

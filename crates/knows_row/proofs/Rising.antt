@@ -17,7 +17,7 @@ use Rattle.report_line.specs.declared.report.NumberedReport.{NumberedReport}
 use Rattle.report_line.specs.declared.report.Report.{Report}
 use Rattle.report_line.specs.declared.report.Report.TheVariants.{Begin, Numbered}
 use Rattle.chains.specs.Processes.{Name, IsKnown, first_of, last_passing, is_birth_of, last_report, birth_report, events_after, last_events}
-use Rattle.chains.specs.Elements.{only_if, lasting_made, lasting_by, lasting_of, present_in, present_by, elements_of}
+use Rattle.chains.specs.Elements.{only_if, stable_made, stable_by, stable_of, present_in, present_by, elements_of}
 use Rattle.chains.specs.Folded.{IsFitReport, IsFolded, nothing_folded, one_folded}
 use Rattle.chains.proofs.Stepping.{same_or_other, other_bytes, own_report, other_report, failing, passing, doing}
 use Rattle.chains.proofs.Distinct.{unknown_child}
@@ -83,7 +83,7 @@ only_events : (b : Bool) (s : Stamp) (e : EventTree) → s.events ≡ e → HasE
 only_events true s e same = same
 only_events false s e same = tt
 
-made_events : (p : Name) (r : NumberedReport) (a : ReportKind) → HasEvents (lasting_by p r a) r.stamp.events
+made_events : (p : Name) (r : NumberedReport) (a : ReportKind) → HasEvents (stable_by p r a) r.stamp.events
 made_events p r Check = only_events (bytes_eq p r.process) r.stamp r.stamp.events refl
 made_events p r (Fork f) = only_events (bytes_eq p f.child) (record { id = f.given; events = r.stamp.events }) r.stamp.events refl
 made_events p r _ = tt
@@ -93,18 +93,18 @@ rise_with low ss None top higher h le same = subst (λ (l : List Stamp). Rise lo
 rise_with low ss (Some s) top higher h le same =
     subst (λ (e : EventTree). Rise low (ss ++ s ∷ []) e) same (rise_more low ss top s h (below_trans top higher s.events le (below_same higher s.events (sym same))))
 
-lasting-push : (p : Name) (accepted : List Report) (r : Report) → lasting_of p (accepted ++ r ∷ []) ≡ lasting_of p accepted ++ cons_option (lasting_made p r) []
-lasting-push p accepted r = filter_map-append (lasting_made p) accepted (r ∷ [])
+stable-push : (p : Name) (accepted : List Report) (r : Report) → stable_of p (accepted ++ r ∷ []) ≡ stable_of p accepted ++ cons_option (stable_made p r) []
+stable-push p accepted r = filter_map-append (stable_made p) accepted (r ∷ [])
 
--- the lasting elements of the name rise to its last events
+-- the stable elements of the name rise to its last events
 abbrev pub HasRisen : Name → List Report → Type 0
-HasRisen p accepted = Rise (Leaf 0) (lasting_of p accepted) (last_events p accepted)
+HasRisen p accepted = Rise (Leaf 0) (stable_of p accepted) (last_events p accepted)
 
-risen_with : (p : Name) (accepted : List Report) (r : Report) (higher : EventTree) → HasRisen p accepted → IsAtOrBelow (last_events p accepted) higher → HasEvents (lasting_made p r) higher → last_events p (accepted ++ r ∷ []) ≡ higher → HasRisen p (accepted ++ r ∷ [])
+risen_with : (p : Name) (accepted : List Report) (r : Report) (higher : EventTree) → HasRisen p accepted → IsAtOrBelow (last_events p accepted) higher → HasEvents (stable_made p r) higher → last_events p (accepted ++ r ∷ []) ≡ higher → HasRisen p (accepted ++ r ∷ [])
 risen_with p accepted r higher h le same last =
-    subst (λ (l : List Stamp). Rise (Leaf 0) l (last_events p (accepted ++ r ∷ []))) (sym (lasting-push p accepted r))
-    (subst (λ (e : EventTree). Rise (Leaf 0) (lasting_of p accepted ++ cons_option (lasting_made p r) []) e) (sym last)
-    (rise_with (Leaf 0) (lasting_of p accepted) (lasting_made p r) (last_events p accepted) higher h le same))
+    subst (λ (l : List Stamp). Rise (Leaf 0) l (last_events p (accepted ++ r ∷ []))) (sym (stable-push p accepted r))
+    (subst (λ (e : EventTree). Rise (Leaf 0) (stable_of p accepted ++ cons_option (stable_made p r) []) e) (sym last)
+    (rise_with (Leaf 0) (stable_of p accepted) (stable_made p r) (last_events p accepted) higher h le same))
 
 -- the report of the process itself
 own_last : (accepted : List Report) (r : NumberedReport) → last_events r.process (accepted ++ Numbered r ∷ []) ≡ r.stamp.events
@@ -116,7 +116,7 @@ other_last p accepted r other unborn =
     ap (λ (o : Option Report). events_after (first_of o (birth_report p (accepted ++ Numbered r ∷ [])))) (other_report accepted p r other)
     ∙ ap (λ (o : Option Report). events_after (first_of (last_report p accepted) o)) (failing (is_birth_of p) accepted (Numbered r) unborn)
 
-other_made : (p : Name) (r : NumberedReport) (a : ReportKind) → p ≢ r.process → is_birth_of p (Numbered (doing r a)) ≡ false → lasting_by p r a ≡ None
+other_made : (p : Name) (r : NumberedReport) (a : ReportKind) → p ≢ r.process → is_birth_of p (Numbered (doing r a)) ≡ false → stable_by p r a ≡ None
 other_made p r Check other unborn = ap (λ (b : Bool). only_if b r.stamp) (other_bytes p r.process other)
 other_made p r (Fork f) other unborn = ap (λ (b : Bool). only_if b (record { id = f.given; events = r.stamp.events })) unborn
 other_made p r _ other unborn = refl
@@ -189,4 +189,4 @@ with_present low ss (Some (Begin p)) birth h = subst (λ (l : List Stamp). Rise 
 with_present low ss (Some (Numbered r)) birth h = with_present_by low ss r.stamp r.action h
 
 pub elements_rise : (p : Name) (accepted : List Report) → IsFolded accepted → Rise (Leaf 0) (elements_of p accepted) (last_events p accepted)
-elements_rise p accepted folded = with_present (Leaf 0) (lasting_of p accepted) (last_report p accepted) (birth_report p accepted) (risen p accepted folded)
+elements_rise p accepted folded = with_present (Leaf 0) (stable_of p accepted) (last_report p accepted) (birth_report p accepted) (risen p accepted folded)

@@ -18,10 +18,10 @@ use Rattle.chains.specs.declared.position.Position.{Position}
 use Rattle.chains.specs.Folded.{IsFolded}
 use Rattle.chains.specs.Processes.{Name, last_events}
 use Rattle.chains.specs.Elements.{elements, element, elements_of, name_of}
-use Rattle.chains.specs.LastRun.{last_run}
+use Rattle.chains.specs.LastRun.{same_id_from}
 use Rattle.chains.specs.Positions.{place_at, last_rank}
 use Rattle.chains.specs.Knowledge.{events_at}
-use Rattle.knows_row.specs.working.Beyond.{numbered, IsBeyondAt, AreRising, AddsNothing}
+use Rattle.knows_row.specs.working.Beyond.{element_number, IsBeyondAt, AreRising, AddsNothing}
 use Rattle.knows_row.specs.Knowing.{KnowsRank, AreLawfulPlaces}
 use Rattle.knows_row.proofs.Rising.{Rise, nothing_below, below_later, elements_rise}
 use Rattle.knows_row.proofs.Laws.{at_element}
@@ -270,7 +270,7 @@ threshold_same accepted q from k bound lt adds h v small = (λ passes. more ((h 
     ]
 
 -- nothing behind the first of the last run adds to them
-pub threshold_run : (accepted : List Report) (q from k to : ℕ) (bound : EventTree) → AreRising (elements accepted q) → from < k → k ≤ to → (k < to → last_run (elements accepted q) + 2 ≤ k) → IsThreshold accepted q from k bound
+pub threshold_run : (accepted : List Report) (q from k to : ℕ) (bound : EventTree) → AreRising (elements accepted q) → from < k → k ≤ to → (k < to → same_id_from (elements accepted q) + 2 ≤ k) → IsThreshold accepted q from k bound
     → IsThreshold accepted q from to bound
 threshold_run accepted q from k to bound rising lt le run h v small = (λ passes. more ((h v small).0 passes), λ beyond. (h v small).1 (less beyond))
   where
@@ -286,7 +286,7 @@ threshold_run accepted q from k to bound rising lt le run h v small = (λ passes
     ]
 
 -- where there is no such element, nothing is added
-pub absent_more : (v bound : EventTree) (stamps : List Stamp) (k : ℕ) → numbered stamps k ≡ None → Passes v bound ↔ (Passes v bound ⊎ IsBeyondAt v stamps k)
+pub absent_more : (v bound : EventTree) (stamps : List Stamp) (k : ℕ) → element_number stamps k ≡ None → Passes v bound ↔ (Passes v bound ⊎ IsBeyondAt v stamps k)
 absent_more v bound stamps k none = (λ passes. inl passes, from)
   where
     from : Passes v bound ⊎ IsBeyondAt v stamps k → Passes v bound
@@ -294,11 +294,11 @@ absent_more v bound stamps k none = (λ passes. inl passes, from)
     from (inr beyond) = absurd (let e = sym none ∙ beyond.is_element in cc)
 
 -- so what nothing passes bounds it
-pub absent_alone : (v t : EventTree) (stamps : List Stamp) (k : ℕ) → numbered stamps k ≡ None → ¬ Passes v t → Passes v t ↔ IsBeyondAt v stamps k
+pub absent_alone : (v t : EventTree) (stamps : List Stamp) (k : ℕ) → element_number stamps k ≡ None → ¬ Passes v t → Passes v t ↔ IsBeyondAt v stamps k
 absent_alone v t stamps k none passed_by_none = (λ passes. absurd (passed_by_none passes), λ beyond. absurd (let e = sym none ∙ beyond.is_element in cc))
 
 -- and where there is one, what exceeds it
-pub element_more : (v bound t : EventTree) (stamps : List Stamp) (k : ℕ) (s : Stamp) → numbered stamps k ≡ Some s → Passes v t ↔ (Passes v bound ⊎ ExceedsOn s.id v s.events) → Passes v t ↔ (Passes v bound ⊎ IsBeyondAt v stamps k)
+pub element_more : (v bound t : EventTree) (stamps : List Stamp) (k : ℕ) (s : Stamp) → element_number stamps k ≡ Some s → Passes v t ↔ (Passes v bound ⊎ ExceedsOn s.id v s.events) → Passes v t ↔ (Passes v bound ⊎ IsBeyondAt v stamps k)
 element_more v bound t stamps k s is h = (λ passes. to (h.0 passes), λ one. h.1 (from one))
   where
     to : Passes v bound ⊎ ExceedsOn s.id v s.events → Passes v bound ⊎ IsBeyondAt v stamps k
@@ -309,11 +309,11 @@ element_more v bound t stamps k s is h = (λ passes. to (h.0 passes), λ one. h.
     from (inl passes) = inl passes
     from (inr beyond) = inr (subst (λ (y : Stamp). ExceedsOn y.id v y.events) (same_Some beyond.stamp s (sym beyond.is_element ∙ is)) beyond.exceeds)
 
-pub element_alone : (v t : EventTree) (stamps : List Stamp) (k : ℕ) (s : Stamp) → numbered stamps k ≡ Some s → Passes v t ↔ ExceedsOn s.id v s.events → Passes v t ↔ IsBeyondAt v stamps k
+pub element_alone : (v t : EventTree) (stamps : List Stamp) (k : ℕ) (s : Stamp) → element_number stamps k ≡ Some s → Passes v t ↔ ExceedsOn s.id v s.events → Passes v t ↔ IsBeyondAt v stamps k
 element_alone v t stamps k s is h =
     (λ passes. record { stamp = s; is_element = is; exceeds = h.0 passes }, λ beyond. h.1 (subst (λ (y : Stamp). ExceedsOn y.id v y.events) (same_Some beyond.stamp s (sym beyond.is_element ∙ is)) beyond.exceeds))
 
-pub numbered_of : (stamps : List Stamp) (k : ℕ) (s : Stamp) → 0 < k → Some s ≡ slice_get stamps (k - 1) → numbered stamps k ≡ Some s
+pub numbered_of : (stamps : List Stamp) (k : ℕ) (s : Stamp) → 0 < k → Some s ≡ slice_get stamps (k - 1) → element_number stamps k ≡ Some s
 numbered_of stamps zero s some is = absurd (omega (arith, some))
 numbered_of stamps (suc k) s some is = let e : suc k - 1 ≡ k = omega arith in sym (subst (λ (j : ℕ). Some s ≡ slice_get stamps j) e is)
 

@@ -50,7 +50,7 @@ fn look(
     requires within { start + length slots.old ≤ length (known chains.now.accepted) }
     ensures { (k : ℕ) → k < length slots.old → IsUnknownCount chains.now.accepted (start + k) (slice_index slots.new k) }
 {
-    chains.lawful();
+    chains.recall_lawful();
     for k in 0..slots.len() {
         slots[k] = unknown_to(chains, thresholds, lasts, all, (start + k) as u32);
     }
@@ -80,7 +80,7 @@ fn look_by_runs<R: Threads + Sync, G: ChunkGate + Sync>(
             × (all.now ≡ all_known chains.now.accepted) × (start + length slots.old ≤ length (known chains.now.accepted)) }
         ensures { (k : ℕ) → k < length slots.old → IsUnknownCount chains.entry.now.accepted (start + k) (slice_index slots.new k) }
     {
-        chains.lawful();
+        chains.recall_lawful();
         gate.before_chunk((start / size) as u64 + 1);
         look(chains, thresholds, lasts, all, start, slots);
     };
@@ -99,7 +99,7 @@ pub fn needs<'a, R: Threads + Sync, G: ChunkGate + Sync>(
     requires workers { (0 < workers) × (workers ≤ 64) }
     ensures { IfOk result (λ table. IsTableOf chains.now.accepted table) }
 {
-    chains.lawful();
+    chains.recall_lawful();
     let lasts = last_ranks(chains)?;
     let before = ranks_past_all(chains)?;
     let all = all_processes(chains)?;

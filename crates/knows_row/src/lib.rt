@@ -38,7 +38,7 @@ pub fn knows(chains: &Chains, place: Place, process: u32, position: Position) ->
     match events_beside(chains, place, process) {
         None => false,
         Some(events) => {
-            chains.lawful();
+            chains.recall_lawful();
             is_beyond_from(events, &chains.elements(process), k)
         }
     }
@@ -120,7 +120,7 @@ fn is_beyond_from(events: &Events, elements: &Elements<'_>, k: u32) -> bool
         return false;
     }
     let mut id = element.id;
-    let end = elements.last_run() + 1;
+    let end = elements.same_id_from() + 1;
     for before in first..end {
         let Some(later) = elements.get(before) else {
             return false;

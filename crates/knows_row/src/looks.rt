@@ -23,13 +23,13 @@ pub fn first_known(
     requires rank { rank ≤ slice_index cut.now process }
     ensures { IsFirstOf chains.now.accepted among.now cut.now process rank result }
 {
-    chains.lawful();
+    chains.recall_lawful();
     let _cut = cut;
     let place = place_at(chains, process, rank);
     match chains.events_at(place) {
         None => None,
         Some(events) => {
-            events.known();
+            events.recall_facts();
             match thresholds.first_passed(events) {
                 None => None,
                 Some(i) => Some(among[i]),
@@ -53,14 +53,14 @@ pub fn knows_one(
     requires rank { rank ≤ slice_index cut.now process }
     ensures { IsTrue result ↔ KnowsOne chains.now.accepted among.now cut.now process rank }
 {
-    chains.lawful();
+    chains.recall_lawful();
     let _cut = cut;
     let _among = among;
     let place = place_at(chains, process, rank);
     match chains.events_at(place) {
         None => false,
         Some(events) => {
-            events.known();
+            events.recall_facts();
             thresholds.is_passed(events)
         }
     }

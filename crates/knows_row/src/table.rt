@@ -88,7 +88,7 @@ impl<'a> Needs<'a> {
         ensures { (k : ℕ) → result ≤ k → ¬ KnowsAt self.now.accepted place process k }
     {
         let chains = self.chains;
-        chains.lawful();
+        chains.recall_lawful();
         let all = chains.elements(process).len() + 1;
         if place.process >= chains.count() {
             return all;

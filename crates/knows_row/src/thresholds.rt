@@ -168,10 +168,10 @@ fn threshold_of_many(
     requires order { from < to }
     ensures { IfOk result (λ t. IsThreshold chains.now.accepted process from to t) }
 {
-    chains.lawful();
+    chains.recall_lawful();
     let elements = chains.elements(process);
     let mut bound = bound_of_element(chains.alloc(), &elements, from)?;
-    let end = to.min(elements.last_run() + 2);
+    let end = to.min(elements.same_id_from() + 2);
     for k in from + 1..end {
         if adds_nothing(&elements, k) {
             continue;

@@ -37,7 +37,7 @@ filled [] y ys is = cc
 filled (x ∷ xs) y ys is = cc
 
 -- who absorbs, what an absorption asks
-absorbs_retired : (root : Name) (h : History) (b : Event) (s : Step) (q : Name) → IsAllowed root h b s s.deed → s.deed ≡ Absorb q
+absorbs_retired : (root : Name) (h : History) (b : Event) (s : Step) (q : Name) → IsAllowed root h b s s.step_kind → s.step_kind ≡ Absorb q
     → (e : Event) × (status root h q ≡ Retired e s.process)
 absorbs_retired root h b s q allowed is = (let w = subst (IsAllowed root h b s) is allowed in (w.retirement, w.into_this))
 
@@ -58,10 +58,10 @@ child_events accepted q r other unreported is_born =
     ∙ ap (λ (o : Option Report). events_after (first_of None o)) (passing (is_birth_of q) accepted (Numbered r) is_born)
 
 module _ (accepted : List Report) (root : Name) (h : History) (b : Event) (s : Step) (tied : AreTied accepted root h)
-    (lives : status root h s.process ≡ Living b) (allowed : IsAllowed root h b s s.deed) (a : ReportKind) (makes : reported s s.deed ≡ Some a)
-    (line : AreFields (report_with h s (reported_id root h s s.deed) a)) where
+    (lives : status root h s.process ≡ Living b) (allowed : IsAllowed root h b s s.step_kind) (a : ReportKind) (makes : reported s s.step_kind ≡ Some a)
+    (line : AreFields (report_with h s (reported_id root h s s.step_kind) a)) where
   abbrev r : NumberedReport
-  r = report_with h s (reported_id root h s s.deed) a
+  r = report_with h s (reported_id root h s s.step_kind) a
 
   abbrev after : List Report
   after = accepted ++ Numbered r ∷ []
@@ -75,40 +75,40 @@ module _ (accepted : List Report) (root : Name) (h : History) (b : Event) (s : S
   -- who lives is not absorbed by the step
   not_absorbed : (q : Name) (e : Event) → status root h q ≡ Living e → absorbs q a ≡ false
   not_absorbed q e living = false_from_ne_true (absorbs q a) (λ hit.
-      (let w = absorbs_retired root h b s q allowed (absorb_fact s s.deed a q makes hit) in
+      (let w = absorbs_retired root h b s q allowed (absorb_fact s s.step_kind a q makes hit) in
       living_not_retired e w.0 s.process (sym living ∙ w.1)))
 
-  not_by_others : (q : Name) → s.deed ≢ Absorb q → absorbs q a ≡ false
-  not_by_others q never = false_from_ne_true (absorbs q a) (λ hit. never (absorb_fact s s.deed a q makes hit))
+  not_by_others : (q : Name) → s.step_kind ≢ Absorb q → absorbs q a ≡ false
+  not_by_others q never = false_from_ne_true (absorbs q a) (λ hit. never (absorb_fact s s.step_kind a q makes hit))
 
   still_unabsorbed : (q : Name) → is_absorbed q accepted ≡ false → absorbs q a ≡ false → is_absorbed q after ≡ false
   still_unabsorbed q is never = absorbed-push q accepted (Numbered r) ∙ or_from (is_absorbed q accepted) (absorbs q a) is never
 
-  not_born : (q : Name) → ((i : IdTree) → s.deed ≢ Fork q i) → is_birth_of q (Numbered r) ≡ false
+  not_born : (q : Name) → ((i : IdTree) → s.step_kind ≢ Fork q i) → is_birth_of q (Numbered r) ≡ false
   not_born q never = no_birth q r a (λ child is same.
-      (let w = child_fact s s.deed a child makes is in never w.0 (w.1 ∙ ap (λ (x : Name). Fork x w.0) (sym same))))
+      (let w = child_fact s s.step_kind a child makes is in never w.0 (w.1 ∙ ap (λ (x : Name). Fork x w.0) (sym same))))
 
   counted_next : (q : Name) → q ≡ s.process → reporting_steps q (s ∷ h) ≡ reporting_steps q h + 1
   counted_next q is =
       (let up : reporting_steps q (s ∷ h) ≡ suc (reporting_steps q h) =
-      cond-true (bytes_eq q s.process && is_reported s.deed) _ _ (and_from _ _ (bytes_same q s.process is) (reported_is s s.deed a makes)) in
+      cond-true (bytes_eq q s.process && is_reported s.step_kind) _ _ (and_from _ _ (bytes_same q s.process is) (reported_is s s.step_kind a makes)) in
       omega arith)
 
   -- ---- each part of the tie
 
   born_next : (q : Name) → Change root h s q → IsKnown after q → status root (s ∷ h) q ≢ Unborn
-  born_next q (acted is now) known unborn = actor_born s.deed (event_of h s) (sym now ∙ unborn)
+  born_next q (acted is now) known unborn = actor_born s.step_kind (event_of h s) (sym now ∙ unborn)
   born_next q (born i apart forks now) known unborn = living_not_unborn (birth_by h s q i) (sym now ∙ unborn)
   born_next q (taken apart absorbs now) known unborn = absorbed_not_unborn (sym now ∙ unborn)
   born_next q (kept apart no_fork no_absorption now) known unborn =
       elim (known_cases accepted (Numbered r) q known) [
         | inl before ↦ tied.born q before (sym now ∙ unborn)
-        | inr is ↦ (let w = child_fact s s.deed a q makes is in no_fork w.0 w.1)
+        | inr is ↦ (let w = child_fact s s.step_kind a q makes is in no_fork w.0 w.1)
       ]
 
   known_next : (q : Name) → Change root h s q → status root (s ∷ h) q ≢ Unborn → IsKnown after q
   known_next q (acted is now) is_born = still_known accepted (Numbered r) q (tied.known q (λ unborn. living_not_unborn b (sym (lived q is) ∙ unborn)))
-  known_next q (born i apart forks now) is_born = known_new accepted (Numbered r) q (ap child_of (fork_fact s s.deed a q i makes forks))
+  known_next q (born i apart forks now) is_born = known_new accepted (Numbered r) q (ap child_of (fork_fact s s.step_kind a q i makes forks))
   known_next q (taken apart absorbs now) is_born =
       (let w = absorbs_retired root h b s q allowed absorbs in
       still_known accepted (Numbered r) q (tied.known q (λ unborn. retired_not_unborn w.0 s.process (sym w.1 ∙ unborn))))
@@ -132,7 +132,7 @@ module _ (accepted : List Report) (root : Name) (h : History) (b : Event) (s : S
   ]
 
   unborn_next : (q : Name) → Change root h s q → status root (s ∷ h) q ≡ Unborn → (last_report q after ≡ None) × (is_absorbed q after ≡ false)
-  unborn_next q (acted is now) unborn = absurd (actor_born s.deed (event_of h s) (sym now ∙ unborn))
+  unborn_next q (acted is now) unborn = absurd (actor_born s.step_kind (event_of h s) (sym now ∙ unborn))
   unborn_next q (born i apart forks now) unborn = absurd (living_not_unborn (birth_by h s q i) (sym now ∙ unborn))
   unborn_next q (taken apart absorbs now) unborn = absurd (absorbed_not_unborn (sym now ∙ unborn))
   unborn_next q (kept apart no_fork no_absorption now) unborn =
@@ -144,7 +144,7 @@ module _ (accepted : List Report) (root : Name) (h : History) (b : Event) (s : S
 
   living_next : (q : Name) (e : Event) → Change root h s q → status root (s ∷ h) q ≡ Living e → (target_of q after ≡ None) × (is_absorbed q after ≡ false)
   living_next q e (acted is now) living = (
-    ap target_after (own q is) ∙ no_target s s.deed a makes (λ u. actor_lives s.deed (event_of h s) e u (sym now ∙ living)),
+    ap target_after (own q is) ∙ no_target s s.step_kind a makes (λ u. actor_lives s.step_kind (event_of h s) e u (sym now ∙ living)),
     still_unabsorbed q (tied.living q b (lived q is)).1 (not_absorbed q b (lived q is)),
   )
   living_next q e (born i apart forks now) living =
@@ -159,7 +159,7 @@ module _ (accepted : List Report) (root : Name) (h : History) (b : Event) (s : S
 
   retired_next : (q : Name) (e : Event) (u : Name) → Change root h s q → status root (s ∷ h) q ≡ Retired e u → Waits after q u
   retired_next q e u (acted is now) retired = (
-    ap target_after (own q is) ∙ ap target_in (retire_fact s s.deed a u makes (actor_retires s.deed (event_of h s) e u (sym now ∙ retired))),
+    ap target_after (own q is) ∙ ap target_in (retire_fact s s.step_kind a u makes (actor_retires s.step_kind (event_of h s) e u (sym now ∙ retired))),
     still_unabsorbed q (tied.living q b (lived q is)).1 (not_absorbed q b (lived q is)),
   )
   retired_next q e u (born i apart forks now) retired = absurd (living_not_retired (birth_by h s q i) e u (sym now ∙ retired))
@@ -175,13 +175,13 @@ module _ (accepted : List Report) (root : Name) (h : History) (b : Event) (s : S
   own_held : IsHeld after s.process (event_of h s)
   own_held = record {
     normal = subst (λ (i : IdTree). IsNormal i) (sym (own_id accepted r)) (kept_normal r a refl line);
-    same = λ point. ap (λ (i : IdTree). owns i point) (sym (own_id accepted r ∙ kept_is root h s s.deed a r.stamp makes refl));
+    same = λ point. ap (λ (i : IdTree). owns i point) (sym (own_id accepted r ∙ kept_is root h s s.step_kind a r.stamp makes refl));
     below = as_step (last_events s.process after) (own_events accepted r);
   }
 
-  child_held : (q : Name) (i : IdTree) → q ≢ s.process → s.deed ≡ Fork q i → IsHeld after q (birth_by h s q i)
+  child_held : (q : Name) (i : IdTree) → q ≢ s.process → s.step_kind ≡ Fork q i → IsHeld after q (birth_by h s q i)
   child_held q i apart forks =
-      (let is = fork_fact s s.deed a q i makes forks in
+      (let is = fork_fact s s.step_kind a q i makes forks in
       let unreported = (tied.unborn q (steps.fork_of root h b s q i allowed forks).new_name).0 in
       let fields = subst (λ (x : ReportKind). AreFields (doing r x)) is line in
       let id : registered_id q (accepted ++ Numbered (doing r (fork_of s q i)) ∷ []) ≡ i = child_id accepted r (record { kept = s.stamp.id; child = q; given = i }) apart unreported in
@@ -195,7 +195,7 @@ module _ (accepted : List Report) (root : Name) (h : History) (b : Event) (s : S
 
   held_next : (q : Name) (e : Event) → Change root h s q → Holds root (s ∷ h) q e → IsHeld after q e
   held_next q e (acted is now) holds =
-      subst (λ (d : Event). IsHeld after q d) (sym (actor_holds s.deed (event_of h s) e (ap last_of (sym now) ∙ holds)))
+      subst (λ (d : Event). IsHeld after q d) (sym (actor_holds s.step_kind (event_of h s) e (ap last_of (sym now) ∙ holds)))
       (subst (λ (x : Name). IsHeld after x (event_of h s)) (sym is) own_held)
   held_next q e (born i apart forks now) holds =
       subst (λ (d : Event). IsHeld after q d) (sym (living_holds (birth_by h s q i) e (ap last_of (sym now) ∙ holds))) (child_held q i apart forks)
@@ -210,7 +210,7 @@ module _ (accepted : List Report) (root : Name) (h : History) (b : Event) (s : S
         below = subst (λ (f : EventTree). IsAtOrBelow f e.values) (sym events) before.below;
       })
 
-  pub reported_tied : AreTied (accepted ++ Numbered (report_with h s (reported_id root h s s.deed) a) ∷ []) root (s ∷ h)
+  pub reported_tied : AreTied (accepted ++ Numbered (report_with h s (reported_id root h s s.step_kind) a) ∷ []) root (s ∷ h)
   reported_tied = record {
     begun = filled accepted (Numbered r) [];
     born = λ q. born_next q (change root h s q);

@@ -11,10 +11,10 @@ use Rattle.law_histories.proofs.Bytes.{cases_name, bytes_same, bytes_other}
 use Rattle.law_histories.proofs.Status.{status_acts, status_others}
 
 pub data Change (root : Name) (h : History) (s : Step) (q : Name) : Type 0 where
-  acted : q ≡ s.process → status root (s ∷ h) q ≡ status_of_actor s.deed (event_of h s) → Change root h s q
-  born : (i : IdTree) → q ≢ s.process → s.deed ≡ Fork q i → status root (s ∷ h) q ≡ Living (birth_by h s q i) → Change root h s q
-  taken : q ≢ s.process → s.deed ≡ Absorb q → status root (s ∷ h) q ≡ Absorbed → Change root h s q
-  kept : q ≢ s.process → ((i : IdTree) → s.deed ≢ Fork q i) → s.deed ≢ Absorb q → status root (s ∷ h) q ≡ status root h q → Change root h s q
+  acted : q ≡ s.process → status root (s ∷ h) q ≡ status_of_actor s.step_kind (event_of h s) → Change root h s q
+  born : (i : IdTree) → q ≢ s.process → s.step_kind ≡ Fork q i → status root (s ∷ h) q ≡ Living (birth_by h s q i) → Change root h s q
+  taken : q ≢ s.process → s.step_kind ≡ Absorb q → status root (s ∷ h) q ≡ Absorbed → Change root h s q
+  kept : q ≢ s.process → ((i : IdTree) → s.step_kind ≢ Fork q i) → s.step_kind ≢ Absorb q → status root (s ∷ h) q ≡ status root h q → Change root h s q
 
 data Other (h : History) (s : Step) (q : Name) (d : StepKind) (before : Status) : Type 0 where
   is_born : (i : IdTree) → d ≡ Fork q i → status_of_other h s d q before ≡ Living (birth_by h s q i) → Other h s q d before
@@ -54,7 +54,7 @@ change root h s q =
       | inl is ↦ acted is (status_acts root h s q is)
       | inr differs ↦
           (let there = status_others root h s q differs in
-          elim (other h s q s.deed (status root h q)) [
+          elim (other h s q s.step_kind (status root h q)) [
             | is_born i forks now ↦ born i differs forks (there ∙ now)
             | is_taken absorbs now ↦ taken differs absorbs (there ∙ now)
             | is_kept no_fork no_absorption now ↦ kept differs no_fork no_absorption (there ∙ now)

@@ -1,13 +1,13 @@
 -- The history with every kind of step can be reported.
-use Rattle.std.proofs.Common.{◌≡◌, ◌+◌, ◌≤◌, ℕ, min, max, false, All, refl, sym, subst, arith}
-use Rattle.std.specs.Prelude.{◌==◌, Contains, drop, IsTrue}
+use Rattle.std.proofs.Common.{◌≡◌, ℕ, All, refl, sym, subst, arith}
+use Rattle.std.specs.Prelude.{Contains, drop, IsTrue}
 use Rattle.std.proofs.lemmas.List.Elements.{All-from_recursion, All-weaker, All-contains_itself}
 use Rattle.id_tree.specs.IdTree.{IdTree, One}
 use Rattle.id_tree.specs.NormalForm.{IsId}
 use Rattle.event_tree.specs.EventTree.{EventTree, Leaf}
-use Rattle.event_tree.specs.NormalForm.{IsEvents, value_limit}
+use Rattle.event_tree.specs.NormalForm.{IsEvents}
 use Rattle.report_line.specs.declared.report.ReportKind.{ReportKind}
-use Rattle.report_line.specs.declared.report.ReportKind.TheVariants as acts
+use Rattle.report_line.specs.declared.report.ReportKind.TheVariants as report_kinds
 use Rattle.report_line.specs.declared.report.Report.{Report}
 use Rattle.report_line.specs.declared.step.StepKind.TheVariants.{Retire}
 use Rattle.report_line.specs.declared.step.Step.{Step}
@@ -15,10 +15,11 @@ use Rattle.report_line.specs.Names.{is_letter, is_name_byte, is_name}
 use Rattle.report_line.specs.Spelling.{IsCount, IsAction}
 use Rattle.report_line.specs.histories.History.{Name, status}
 use Rattle.report_line.specs.histories.Lawful.{IsLawful, next}
-use Rattle.law_histories.specs.Example.{a, b, c, d, left, right, halves, act, every_step}
+use Rattle.law_histories.specs.Example.{a, b, c, d, left, right, halves, act, every_step, told, forked}
 use Rattle.law_histories.proofs.Example.{below, every_step_is_lawful}
+use Rattle.law_histories.proofs.ExampleForms.{name_a, name_b, on_one, on_left, on_right, flat, halved}
 use Rattle.law_admission.specs.HandedOver.{handed_over, HasLine, IsTargetBorn, IsReportable}
-use Rattle.law_admission.specs.Example.{reported_steps, told, forked, its_reports}
+use Rattle.law_admission.specs.Example.{reported_steps, its_reports}
 use Rattle.law_admission.proofs.Changes.{living_not_unborn}
 use Rattle.law_admission.proofs.Next.{before_last}
 use Rattle.law_histories.proofs.Rules.{last_step}
@@ -29,32 +30,9 @@ gives_these = refl
 
 -- ---- lines
 
-pub name_a : IsTrue (is_name a)
-unfolding is_letter is_name_byte is_name
-name_a = refl
-
-pub name_b : IsTrue (is_name b)
-unfolding is_letter is_name_byte is_name
-name_b = refl
-
 name_c : IsTrue (is_name c)
 unfolding is_letter is_name_byte is_name
 name_c = refl
-
-pub one : IsId One
-one = record { normal = tt; shallow = omega arith }
-
-pub on_left : IsId left
-on_left = record { normal = (tt, tt, refl); shallow = omega arith }
-
-pub on_right : IsId right
-on_right = record { normal = (tt, tt, refl); shallow = omega arith }
-
-pub leaf : (n : ℕ) → n ≤ value_limit → IsEvents (Leaf n)
-leaf n few = record { normal = tt; shallow = omega arith; small = few }
-
-pub halved : (n x y : ℕ) → min x y ≡ 0 → (x == y) ≡ false → n + max x y ≤ value_limit → IsEvents (halves n x y)
-halved n x y least differs few = record { normal = (tt, tt, least, differs); shallow = omega arith; small = few }
 
 pub line : (p : Name) (n : ℕ) (i : IdTree) (e : EventTree) (x : ReportKind) → IsTrue (is_name p) → IsCount n → IsId i → IsEvents e → IsAction x → HasLine (told p n i e x)
 line p n i e x name count id events action = (omega arith, record { name = name; count = count; stamped = record { id = id; events = events }; acted = action })
@@ -63,20 +41,20 @@ lines : All HasLine its_reports
 lines = All-from_recursion HasLine its_reports (
   (refl, name_a),
   (
-    line a 1 One (Leaf 1) (forked b) name_a (omega arith, omega arith) one (leaf 1 (omega arith)) (on_left, name_b, on_right),
+    line a 1 One (Leaf 1) (forked b) name_a (omega arith, omega arith) on_one (flat 1 (omega arith)) (on_left, name_b, on_right),
     (
-      line b 1 right (halves 1 0 1) acts.Check name_b (omega arith, omega arith) on_right (halved 1 0 1 refl refl (omega arith)) tt,
+      line b 1 right (halves 1 0 1) report_kinds.Check name_b (omega arith, omega arith) on_right (halved 1 0 1 refl refl (omega arith)) tt,
       (
-        line a 2 left (halves 3 2 0) acts.Present name_a (omega arith, omega arith) on_left (halved 3 2 0 refl refl (omega arith)) tt,
+        line a 2 left (halves 3 2 0) report_kinds.Present name_a (omega arith, omega arith) on_left (halved 3 2 0 refl refl (omega arith)) tt,
         (
-          line b 2 right (halves 1 0 4) (acts.Retire a) name_b (omega arith, omega arith) on_right (halved 1 0 4 refl refl (omega arith)) name_a,
+          line b 2 right (halves 1 0 4) (report_kinds.Retire a) name_b (omega arith, omega arith) on_right (halved 1 0 4 refl refl (omega arith)) name_a,
           (
-            line a 3 One (halves 5 1 0) (acts.Absorb b) name_a (omega arith, omega arith) one (halved 5 1 0 refl refl (omega arith)) name_b,
+            line a 3 One (halves 5 1 0) (report_kinds.Absorb b) name_a (omega arith, omega arith) on_one (halved 5 1 0 refl refl (omega arith)) name_b,
             (
-              line a 4 One (Leaf 7) (forked c) name_a (omega arith, omega arith) one (leaf 7 (omega arith)) (on_left, name_c, on_right),
+              line a 4 One (Leaf 7) (forked c) name_a (omega arith, omega arith) on_one (flat 7 (omega arith)) (on_left, name_c, on_right),
               (
-                line a 5 left (halves 7 1 0) acts.Check name_a (omega arith, omega arith) on_left (halved 7 1 0 refl refl (omega arith)) tt,
-                (line c 1 right (halves 7 0 1) (acts.Retire a) name_c (omega arith, omega arith) on_right (halved 7 0 1 refl refl (omega arith)) name_a, tt),
+                line a 5 left (halves 7 1 0) report_kinds.Check name_a (omega arith, omega arith) on_left (halved 7 1 0 refl refl (omega arith)) tt,
+                (line c 1 right (halves 7 0 1) (report_kinds.Retire a) name_c (omega arith, omega arith) on_right (halved 7 0 1 refl refl (omega arith)) name_a, tt),
               ),
             ),
           ),

@@ -37,7 +37,7 @@ pub record Ends (root : Name) (h : History) (s : Step) : Type 0 where
   pub before : IsReportable root h
   pub last : Event
   pub lives : status root h s.process ≡ Living last
-  pub allowed : IsAllowed root h last s s.deed
+  pub allowed : IsAllowed root h last s s.step_kind
   pub line : (r : Report) → report_of root h s ≡ Some r → HasLine r
 
 pub before_last : {root : Name} {whole : History} → IsLawful root whole → (s : Step) (h : History) → whole ≡ s ∷ h → IsLawful root h
@@ -62,18 +62,18 @@ with_option : (root : Name) (h : History) (s : Step) (o : Option Report) → rep
 with_option root h s o is tied = subst (λ (p : Option Report). AreTied (handed_over root h ++ cons_option p []) root (s ∷ h)) (sym is) tied
 
 tied_next : (root : Name) (h : History) (s : Step) → Ends root h s → AreTied (handed_over root h) root h
-    → (o : Option ReportKind) → reported s s.deed ≡ o → AreTied (handed_over root (s ∷ h)) root (s ∷ h)
+    → (o : Option ReportKind) → reported s s.step_kind ≡ o → AreTied (handed_over root (s ∷ h)) root (s ∷ h)
 tied_next root h s w tied None is =
-    with_option root h s None (report_is root h s s.deed ∙ ap (option_map (λ a. Numbered (report_with h s (reported_id root h s s.deed) a))) is)
+    with_option root h s None (report_is root h s s.step_kind ∙ ap (option_map (λ a. Numbered (report_with h s (reported_id root h s s.step_kind) a))) is)
     (subst (λ (xs : List Report). AreTied xs root (s ∷ h)) (sym (append-nil (handed_over root h)))
-    (silent_tied (handed_over root h) root h w.last s tied w.lives w.allowed (unreported s s.deed is)))
+    (silent_tied (handed_over root h) root h w.last s tied w.lives w.allowed (unreported s s.step_kind is)))
 tied_next root h s w tied (Some a) is =
-    let made = report_is root h s s.deed ∙ ap (option_map (λ x. Numbered (report_with h s (reported_id root h s s.deed) x))) is in
+    let made = report_is root h s s.step_kind ∙ ap (option_map (λ x. Numbered (report_with h s (reported_id root h s s.step_kind) x))) is in
     with_option root h s _ made (reported_tied (handed_over root h) root h w.last s tied w.lives w.allowed a is (w.line _ made).1)
 
 pub tied_all : (root : Name) (h : History) → IsReportable root h → AreTied (handed_over root h) root h
 tied_all root [] w = first_tied root
-tied_all root (s ∷ h) w = (let e = ends root h s w in tied_next root h s e (tied_all root h e.before) (reported s s.deed) refl)
+tied_all root (s ∷ h) w = (let e = ends root h s w in tied_next root h s e (tied_all root h e.before) (reported s s.step_kind) refl)
 
 -- ---- the next report
 
@@ -117,6 +117,6 @@ only_room_is_tested root (s ∷ h) held r answer w (rest, is) born =
     let e = ends root h s w in
     elim (behind (handed_over root h) (report_of root h s) held.accepted r rest is) [
       | newest made all ↦
-          fits_by root h e.last s held (subst (λ (xs : List Report). AreTied xs root h) (sym all) (tied_all root h e.before)) e.lives e.allowed answer s.deed r made e.allowed (born.1 made) (e.line r made)
+          fits_by root h e.last s held (subst (λ (xs : List Report). AreTied xs root h) (sym all) (tied_all root h e.before)) e.lives e.allowed answer s.step_kind r made e.allowed (born.1 made) (e.line r made)
       | earlier more parts ↦ only_room_is_tested root h held r answer e.before (more, parts) born.0
     ]

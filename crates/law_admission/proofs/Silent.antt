@@ -56,21 +56,21 @@ data Quiet (root : Name) (h : History) (s : Step) (q : Name) : Type 0 where
   goes_on : q ≡ s.process → status root (s ∷ h) q ≡ Living (event_of h s) → Quiet root h s q
   as_before : status root (s ∷ h) q ≡ status root h q → Quiet root h s q
 
-quiet : (root : Name) (h : History) (s : Step) → IsSilent s.deed → (q : Name) → Quiet root h s q
+quiet : (root : Name) (h : History) (s : Step) → IsSilent s.step_kind → (q : Name) → Quiet root h s q
 quiet root h s hush q = elim (change root h s q) [
-  | acted is now ↦ goes_on is (now ∙ silent_lives s.deed (event_of h s) hush)
-  | born i apart forks now ↦ absurd (silent_forks s.deed q i hush forks)
-  | taken apart absorbs now ↦ absurd (silent_absorbs s.deed q hush absorbs)
+  | acted is now ↦ goes_on is (now ∙ silent_lives s.step_kind (event_of h s) hush)
+  | born i apart forks now ↦ absurd (silent_forks s.step_kind q i hush forks)
+  | taken apart absorbs now ↦ absurd (silent_absorbs s.step_kind q hush absorbs)
   | kept apart no_fork no_absorption now ↦ as_before now
 ]
 
 module _ (accepted : List Report) (root : Name) (h : History) (b : Event) (s : Step) (tied : AreTied accepted root h)
-    (lives : status root h s.process ≡ Living b) (allowed : IsAllowed root h b s s.deed) (unreported : is_reported s.deed ≡ false) where
-  hush : IsSilent s.deed
-  hush = silent s.deed unreported
+    (lives : status root h s.process ≡ Living b) (allowed : IsAllowed root h b s s.step_kind) (unreported : is_reported s.step_kind ≡ false) where
+  hush : IsSilent s.step_kind
+  hush = silent s.step_kind unreported
 
   same_count : (q : Name) → reporting_steps q (s ∷ h) ≡ reporting_steps q h
-  same_count q = cond-false _ _ _ (and_right (bytes_eq q s.process) (is_reported s.deed) unreported)
+  same_count q = cond-false _ _ _ (and_right (bytes_eq q s.process) (is_reported s.step_kind) unreported)
 
   lived : (q : Name) → q ≡ s.process → status root h q ≡ Living b
   lived q is = ap (status root h) is ∙ lives
@@ -80,11 +80,11 @@ module _ (accepted : List Report) (root : Name) (h : History) (b : Event) (s : S
   held_on q e (goes_on is now) holds =
       let before = tied.held q b (ap last_of (lived q is)) in
       let last : e ≡ event_of h s = living_holds (event_of h s) e (ap last_of (sym now) ∙ holds) in
-      let id = silent_id root h b s s.deed hush allowed in
+      let id = silent_id root h b s s.step_kind hush allowed in
       subst (λ (d : Event). IsHeld accepted q d) (sym last) (record {
         normal = before.normal;
         same = λ point. id point ∙ before.same point;
-        below = then_below (last_events q accepted) b.values s.stamp.events before.below (never_falls_by root h b s s.deed allowed);
+        below = then_below (last_events q accepted) b.values s.stamp.events before.below (never_falls_by root h b s s.step_kind allowed);
       })
 
   living_on : (q : Name) (e : Event) → Quiet root h s q → status root (s ∷ h) q ≡ Living e → (target_of q accepted ≡ None) × (is_absorbed q accepted ≡ false)

@@ -12,7 +12,7 @@ use Rattle.event_tree.specs.EventTree.{EventTree}
 use Rattle.event_tree.specs.Join.{IsJoin}
 use Rattle.event_tree.specs.Values.{value_at, IsAtOrBelow}
 use Rattle.report_line.specs.declared.report.ReportKind.{ReportKind}
-use Rattle.report_line.specs.declared.report.ReportKind.TheVariants as acts
+use Rattle.report_line.specs.declared.report.ReportKind.TheVariants as report_kinds
 use Rattle.report_line.specs.declared.report.NumberedReport.{NumberedReport}
 use Rattle.report_line.specs.declared.report.Report.{Report}
 use Rattle.report_line.specs.declared.report.Report.TheVariants.{Numbered}
@@ -43,13 +43,13 @@ chained first next = (λ a. next.0 (first.0 a), λ c. first.1 (next.1 c))
 same_reply : {A : Type 0} → A ↔ A
 same_reply = (λ x. x, λ x. x)
 
-waiting : (held : Held) (r : NumberedReport) (a : ReportKind) (answer : Reply) → ((q : Name) → a ≡ acts.Absorb q → Waits held.accepted q r.process)
+waiting : (held : Held) (r : NumberedReport) (a : ReportKind) (answer : Reply) → ((q : Name) → a ≡ report_kinds.Absorb q → Waits held.accepted q r.process)
     → IsWaitingReply held r a answer ↔ IsStampReply held r a answer
-waiting held r acts.Check answer waits = same_reply
-waiting held r acts.Present answer waits = same_reply
-waiting held r (acts.Fork f) answer waits = same_reply
-waiting held r (acts.Retire q) answer waits = same_reply
-waiting held r (acts.Absorb q) answer waits = untested (λ not_waiting. not_waiting (waits q refl))
+waiting held r report_kinds.Check answer waits = same_reply
+waiting held r report_kinds.Present answer waits = same_reply
+waiting held r (report_kinds.Fork f) answer waits = same_reply
+waiting held r (report_kinds.Retire q) answer waits = same_reply
+waiting held r (report_kinds.Absorb q) answer waits = untested (λ not_waiting. not_waiting (waits q refl))
 
 none_report : (y : Report) → None ≢ Some y
 none_report y is = cc
@@ -58,7 +58,7 @@ right_below : (e f g : EventTree) → IsJoin e f g → IsAtOrBelow f g
 right_below e f g join p = (let is = join p in omega arith)
 
 module _ (root : Name) (h : History) (b : Event) (s : Step) (held : Held) (tied : AreTied held.accepted root h)
-    (lives : status root h s.process ≡ Living b) (allowed : IsAllowed root h b s s.deed) (answer : Reply) where
+    (lives : status root h s.process ≡ Living b) (allowed : IsAllowed root h b s s.step_kind) (answer : Reply) where
   own : IsHeld held.accepted s.process b
   own = tied.held s.process b (ap last_of lives)
 
@@ -68,16 +68,16 @@ module _ (root : Name) (h : History) (b : Event) (s : Step) (held : Held) (tied 
 
   grown : AreGrown (last_events s.process held.accepted) (registered_id s.process held.accepted) s.stamp.events
   grown =
-      let up = rises_by root h b s s.deed allowed in
+      let up = rises_by root h b s s.step_kind allowed in
       let low : value_at (last_events s.process held.accepted) up.0 ≤ value_at b.values up.0 = own.below up.0 in
       let less : value_at b.values up.0 < value_at s.stamp.events up.0 = up.2 in
-      (then_below (last_events s.process held.accepted) b.values s.stamp.events own.below (never_falls_by root h b s s.deed allowed), (up.0, sym (own.same up.0) ∙ up.1, omega arith))
+      (then_below (last_events s.process held.accepted) b.values s.stamp.events own.below (never_falls_by root h b s s.step_kind allowed), (up.0, sym (own.same up.0) ∙ up.1, omega arith))
 
   not_old : (id : IdTree) (a : ReportKind) → last_report s.process held.accepted ≢ Some (Numbered (report_with h s id a))
   not_old id a is = (let number : reporting_steps s.process h + 1 ≡ reporting_steps s.process h = tied.last s.process (report_with h s id a) is in omega arith)
 
   -- all tests up to those of the action
-  up_to_action : (id : IdTree) (a : ReportKind) → id ≡ expected_id held.accepted s.process a → ((q : Name) → a ≡ acts.Absorb q → Waits held.accepted q s.process)
+  up_to_action : (id : IdTree) (a : ReportKind) → id ≡ expected_id held.accepted s.process a → ((q : Name) → a ≡ report_kinds.Absorb q → Waits held.accepted q s.process)
       → IsReportReply held held.epoch (Numbered (report_with h s id a)) answer ↔ IsActionReply held (report_with h s id a) a answer
   up_to_action id a expected waits =
       let r = report_with h s id a in
@@ -90,7 +90,7 @@ module _ (root : Name) (h : History) (b : Event) (s : Step) (held : Held) (tied 
       (chained (untested (λ differs. differs refl))
       (subst (λ (o : Option Name). IsStandingReply o held r answer ↔ IsActionReply held r a answer) (sym (tied.living s.process b lives).0) standing))))
 
-  no_absorption : (a : ReportKind) → ((q : Name) → a ≢ acts.Absorb q) → (q : Name) → a ≡ acts.Absorb q → Waits held.accepted q s.process
+  no_absorption : (a : ReportKind) → ((q : Name) → a ≢ report_kinds.Absorb q) → (q : Name) → a ≡ report_kinds.Absorb q → Waits held.accepted q s.process
   no_absorption a never q is = absurd (never q is)
 
   absorbed_id : (q : Name) (e : Event) → status root h q ≡ Retired e s.process → IsNormal s.stamp.id → AreTogether b.id e.id s.stamp.id
@@ -117,11 +117,11 @@ module _ (root : Name) (h : History) (b : Event) (s : Step) (held : Held) (tied 
   fits_by (Send m) r is w target = absurd (none_report r is)
   fits_by (Receive m) r is w target = absurd (none_report r is)
   fits_by Check r is w target = subst (λ (x : Report). HasLine x → IsUntested x) (same_Some _ r is)
-      (λ line. up_to_action s.stamp.id acts.Check (is_registered s.stamp.id line.1.stamped.id.normal w.same_id) (no_absorption acts.Check (λ q e. cc)))
+      (λ line. up_to_action s.stamp.id report_kinds.Check (is_registered s.stamp.id line.1.stamped.id.normal w.same_id) (no_absorption report_kinds.Check (λ q e. cc)))
   fits_by Present r is w target = subst (λ (x : Report). HasLine x → IsUntested x) (same_Some _ r is)
-      (λ line. up_to_action s.stamp.id acts.Present (is_registered s.stamp.id line.1.stamped.id.normal w.same_id) (no_absorption acts.Present (λ q e. cc)))
+      (λ line. up_to_action s.stamp.id report_kinds.Present (is_registered s.stamp.id line.1.stamped.id.normal w.same_id) (no_absorption report_kinds.Present (λ q e. cc)))
   fits_by (Retire q) r is w target = subst (λ (x : Report). HasLine x → IsUntested x) (same_Some _ r is)
-      (λ line. chained (up_to_action s.stamp.id (acts.Retire q) (is_registered s.stamp.id line.1.stamped.id.normal w.0.same_id) (no_absorption (acts.Retire q) (λ x e. cc)))
+      (λ line. chained (up_to_action s.stamp.id (report_kinds.Retire q) (is_registered s.stamp.id line.1.stamped.id.normal w.0.same_id) (no_absorption (report_kinds.Retire q) (λ x e. cc)))
       (untested (elim [ inl itself ↦ w.1 itself | inr unknown ↦ unknown (tied.known q target) ])))
   fits_by (Fork c i) r is w target = subst (λ (x : Report). HasLine x → IsUntested x) (same_Some _ r is)
       (λ line. chained (up_to_action (id_of (status root h s.process)) (fork_of s c i)
@@ -131,9 +131,9 @@ module _ (root : Name) (h : History) (b : Event) (s : Step) (held : Held) (tied 
   fits_by (Absorb q) r is w target = subst (λ (x : Report). HasLine x → IsUntested x) (same_Some _ r is)
       (λ line.
       (let other = tied.held q w.retirement (ap last_of w.into_this) in
-      chained (up_to_action s.stamp.id (acts.Absorb q) (absorbed_id q w.retirement w.into_this line.1.stamped.id.normal w.together)
+      chained (up_to_action s.stamp.id (report_kinds.Absorb q) (absorbed_id q w.retirement w.into_this line.1.stamped.id.normal w.together)
       (λ x absorbs. subst (λ (y : Name). Waits held.accepted y s.process) (same_retired q x absorbs) (tied.retired q w.retirement s.process w.into_this)))
       (untested (λ below. below (then_below (last_events q held.accepted) w.retirement.values s.stamp.events other.below (right_below w.between w.retirement.values s.stamp.events w.joined))))))
     where
-      same_retired : (r q : Name) → acts.Absorb r ≡ acts.Absorb q → r ≡ q
+      same_retired : (r q : Name) → report_kinds.Absorb r ≡ report_kinds.Absorb q → r ≡ q
       same_retired r q absorbs = cc

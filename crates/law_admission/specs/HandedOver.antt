@@ -27,7 +27,7 @@ HasBornTarget root h _ = ⊤
 -- so is the target of the retirement of the history that makes this report, if one does
 abbrev pub IsTargetBorn : Name → History → Report → Type 0
 IsTargetBorn root [] r = ⊤
-IsTargetBorn root (s ∷ h) r = IsTargetBorn root h r × (report_of root h s ≡ Some r → HasBornTarget root h s.deed)
+IsTargetBorn root (s ∷ h) r = IsTargetBorn root h r × (report_of root h s ≡ Some r → HasBornTarget root h s.step_kind)
 
 -- The report has a line: its names are names, its number is below 2 ^ 32, and its trees are in normal form and within the limits.
 abbrev pub HasLine : Report → Type 0

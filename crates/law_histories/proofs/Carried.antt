@@ -45,7 +45,7 @@ event_now root cut h s reached =
     subst (λ (g : History). IsIn root g (event_of h s)) (sym (kept_taken cut h s reached))
     (event_of (kept cut h) s, step, record { process = refl; kind = refl; id = refl; values = refl })
 
-birth_now : (root : Name) (cut : Cut) (h : History) (s : Step) (c : Name) (i : IdTree) → s.deed ≡ Fork c i → cut (event_of h s) ≡ true → IsIn root (kept cut (s ∷ h)) (birth_by h s c i)
+birth_now : (root : Name) (cut : Cut) (h : History) (s : Step) (c : Name) (i : IdTree) → s.step_kind ≡ Fork c i → cut (event_of h s) ≡ true → IsIn root (kept cut (s ∷ h)) (birth_by h s c i)
 birth_now root cut h s c i forks reached =
     subst (λ (g : History). IsIn root g (birth_by h s c i)) (sym (kept_taken cut h s reached))
     (birth_by (kept cut h) s c i, birth forks, record { process = refl; kind = refl; id = refl; values = refl })
@@ -68,7 +68,7 @@ each_event_is_kept root h cut x lawful closed occurs within = kept_occurs root h
 -- ---- reports
 
 steps_same : (p : Name) (s : Step) (h g : History) → reporting_steps p g ≡ reporting_steps p h → reporting_steps p (s ∷ g) ≡ reporting_steps p (s ∷ h)
-steps_same p s h g is = ap (λ (n : ℕ). cond (bytes_eq p s.process && is_reported s.deed) (suc n) n) is
+steps_same p s h g is = ap (λ (n : ℕ). cond (bytes_eq p s.process && is_reported s.step_kind) (suc n) n) is
 
 steps_other : (cut : Cut) (h : History) (s : Step) (p : Name) → p ≢ s.process → reporting_steps p (kept cut h) ≡ reporting_steps p h
     → reporting_steps p (kept cut (s ∷ h)) ≡ reporting_steps p (s ∷ h)
@@ -87,11 +87,11 @@ steps_kept {root} (next {h = h} {s = s} {before = b} lawful living allowed) cut 
     let before = closed_before root cut h s closed in
     elim (cases_name p s.process) [
       | inl same ↦
-          (let event : x ≡ event_of h s = (actor_lives h h s s.deed x (sym (status_acts root h s p same) ∙ lives)).0 in
+          (let event : x ≡ event_of h s = (actor_lives h h s s.step_kind x (sym (status_acts root h s p same) ∙ lives)).0 in
           let reached : cut (event_of h s) ≡ true = ap cut (sym event) ∙ within in
           ap (reporting_steps p) (kept_taken cut h s reached)
           ∙ steps_same p s h (kept cut h) (steps_kept lawful cut before p b (ap (status root h) same ∙ living) (closed b (event_of h s) (to_next living) reached)))
-      | inr differs ↦ elim (other_lives h h s p s.deed (status root h p) x (sym (status_others root h s p differs) ∙ lives)) [
+      | inr differs ↦ elim (other_lives h h s p s.step_kind (status root h p) x (sym (status_others root h s p differs) ∙ lives)) [
         | stays as_before after ↦ steps_other cut h s p differs (steps_kept lawful cut before p x as_before within)
         | is_child i forks event after ↦
             (let new = (fork_of root h b s p i allowed forks).new_name in
@@ -129,7 +129,7 @@ report_now {root} {h} {s} {b} lawful cut closed living r is reached =
     let steps = steps_kept lawful cut before s.process b living within in
     let id : id_of (status root (kept cut h) s.process) ≡ id_of (status root h s.process) = ap id_of there.1 ∙ (sym same_id.id ∙ sym (ap id_of living)) in
     subst (λ (g : History). IsReported root g r (event_of h s)) (sym (kept_taken cut h s reached))
-    (event_of (kept cut h) s, newest (report_same root h (kept cut h) s s.deed steps id ∙ is), record { process = refl; kind = refl; id = refl; values = refl })
+    (event_of (kept cut h) s, newest (report_same root h (kept cut h) s s.step_kind steps id ∙ is), record { process = refl; kind = refl; id = refl; values = refl })
 
 report_next : (root : Name) (cut : Cut) (h : History) (s : Step) (r : Report) (x : Event) → IsReported root (kept cut h) r x → IsReported root (kept cut (s ∷ h)) r x
 report_next root cut h s r x there =
@@ -160,7 +160,7 @@ LivesBySame root g x = (y : Event) × (status root g x.process ≡ Living y) × 
 retired_lives : (x y : Event) (q : Name) → Retired x q ≡ Living y → ⊥
 retired_lives x y q is = cc
 
-absorption_of : (root : Name) (h : History) (b : Event) (s : Step) (r : Name) → IsAllowed root h b s s.deed → s.deed ≡ Absorb r → IsLawfulAbsorption root h b s r
+absorption_of : (root : Name) (h : History) (b : Event) (s : Step) (r : Name) → IsAllowed root h b s s.step_kind → s.step_kind ≡ Absorb r → IsLawfulAbsorption root h b s r
 absorption_of root h b s r w is = subst (λ (a : StepKind). IsAllowed root h b s a) is w
 
 -- another process lives on, where the step neither makes nor absorbs it
@@ -188,7 +188,7 @@ acts_on (Receive m) e not_retired = refl
 child_lives : (g : History) (s : Step) (c : Name) (i : IdTree) (before : Status) (d : StepKind) → d ≡ Fork c i → status_of_other g s d c before ≡ Living (birth_by g s c i)
 child_lives g s c i before d forks = ap (λ (a : StepKind). status_of_other g s a c before) forks ∙ cond-true (bytes_eq c c) _ _ (bytes_same c c refl)
 
-module _ (root : Name) (cut : Cut) (h : History) (s : Step) (b : Event) (living : status root h s.process ≡ Living b) (allowed : IsAllowed root h b s s.deed)
+module _ (root : Name) (cut : Cut) (h : History) (s : Step) (b : Event) (living : status root h s.process ≡ Living b) (allowed : IsAllowed root h b s s.step_kind)
     (closed : IsClosed root (s ∷ h) cut) where
   old_lives : (x : Event) → Occurs root h x → IsNewestIn root (s ∷ h) cut x → LivesBySame root (kept cut h) x → LivesBySame root (kept cut (s ∷ h)) x
   old_lives x occurs newest_in there =
@@ -199,32 +199,32 @@ module _ (root : Name) (cut : Cut) (h : History) (s : Step) (b : Event) (living 
             let p = x.process in
             let within : x.number ≤ length h = number_within occurs in
             let differs : p ≢ s.process = λ same. true≢false (sym reached ∙ newest_in.newest (event_of h s) step (sym same) (omega arith)) in
-            let no_fork : (i : IdTree) → s.deed ≢ Fork p i = λ i forks. is_born occurs (fork_of root h b s p i allowed forks).new_name in
-            let no_absorb : s.deed ≢ Absorb p = λ absorbs.
+            let no_fork : (i : IdTree) → s.step_kind ≢ Fork p i = λ i forks. is_born occurs (fork_of root h b s p i allowed forks).new_name in
+            let no_absorb : s.step_kind ≢ Absorb p = λ absorbs.
             (let w = absorption_of root h b s p allowed absorbs in
             let retired = (follows root cut h (closed_before root cut h s closed)).retired p w.retirement s.process w.into_this
             (closed w.retirement (event_of h s) (to_absorption absorbs w.into_this) reached) in
             retired_lives retired.0 there.0 s.process (sym retired.1 ∙ there.1)) in
             subst (λ (g' : History). LivesBySame root g' x) (sym (kept_taken cut h s reached))
-            (there.0, status_others root g s p differs ∙ (ap (status_of_other g s s.deed p) there.1 ∙ lives_on g s p there.0 s.deed no_fork no_absorb), there.2))
+            (there.0, status_others root g s p differs ∙ (ap (status_of_other g s s.step_kind p) there.1 ∙ lives_on g s p there.0 s.step_kind no_fork no_absorb), there.2))
       ]
 
-  step_lives : cut (event_of h s) ≡ true → ((q : Name) → Does s.deed ≢ Does (Retire q)) → LivesBySame root (kept cut (s ∷ h)) (event_of h s)
+  step_lives : cut (event_of h s) ≡ true → ((q : Name) → Does s.step_kind ≢ Does (Retire q)) → LivesBySame root (kept cut (s ∷ h)) (event_of h s)
   step_lives reached not_retired =
       let g = kept cut h in
       subst (λ (g' : History). LivesBySame root g' (event_of h s)) (sym (kept_taken cut h s reached)) (
         event_of g s,
-        status_acts root g s s.process refl ∙ acts_on s.deed (event_of g s) not_retired,
+        status_acts root g s s.process refl ∙ acts_on s.step_kind (event_of g s) not_retired,
         record { process = refl; kind = refl; id = refl; values = refl },
       )
 
-  birth_lives : (c : Name) (i : IdTree) → s.deed ≡ Fork c i → cut (event_of h s) ≡ true → LivesBySame root (kept cut (s ∷ h)) (birth_by h s c i)
+  birth_lives : (c : Name) (i : IdTree) → s.step_kind ≡ Fork c i → cut (event_of h s) ≡ true → LivesBySame root (kept cut (s ∷ h)) (birth_by h s c i)
   birth_lives c i forks reached =
       let g = kept cut h in
       let differs = child_differs root h b s c i living (fork_of root h b s c i allowed forks) in
       subst (λ (g' : History). LivesBySame root g' (birth_by h s c i)) (sym (kept_taken cut h s reached)) (
         birth_by g s c i,
-        status_others root g s c differs ∙ child_lives g s c i (status root g c) s.deed forks,
+        status_others root g s c differs ∙ child_lives g s c i (status root g c) s.step_kind forks,
         record { process = refl; kind = refl; id = refl; values = refl },
       )
 

@@ -16,14 +16,14 @@ use Rattle.law_histories.proofs.Steps.{CameFrom, came_from, Source, source, chil
 
 -- A holder of a point after a step: it held the point before, or the point came to it by the step.
 pub data Held (root : Name) (h : History) (s : Step) (p : Name) (e : Event) (t : Point) : Type 0 where
-  stays : p ≢ s.process → s.deed ≢ Absorb p → Holds root h p e → Held root h s p e t
+  stays : p ≢ s.process → s.step_kind ≢ Absorb p → Holds root h p e → Held root h s p e t
   takes : Source root h s t → p ≡ s.process → e ≡ event_of h s → Held root h s p e t
-  given : {i : IdTree} → Source root h s t → p ≢ s.process → s.deed ≡ Fork p i → e ≡ birth_by h s p i → Held root h s p e t
+  given : {i : IdTree} → Source root h s t → p ≢ s.process → s.step_kind ≡ Fork p i → e ≡ birth_by h s p i → Held root h s p e t
 
 pub owned_by : {d e : Event} (t : Point) → e ≡ d → Owns e.id t → Owns d.id t
 owned_by t is owned = subst (λ (x : Event). Owns x.id t) is owned
 
-module _ (root : Name) (h : History) (b : Event) (s : Step) (living : status root h s.process ≡ Living b) (allowed : IsAllowed root h b s s.deed) where
+module _ (root : Name) (h : History) (b : Event) (s : Step) (living : status root h s.process ≡ Living b) (allowed : IsAllowed root h b s s.step_kind) where
   pub held : (p : Name) (e : Event) (t : Point) → Holds root (s ∷ h) p e → Owns e.id t → Held root h s p e t
   held p e t holds owned =
       elim (origin root h s p e holds) [
@@ -37,9 +37,9 @@ module _ (root : Name) (h : History) (b : Event) (s : Step) (living : status roo
 abbrev pub HasOneHolder : Name → History → Type 0
 HasOneHolder root h = (p q : Name) (d e : Event) (t : Point) → Holds root h p d → Holds root h q e → Owns d.id t → Owns e.id t → p ≡ q
 
-module _ (root : Name) (h : History) (b : Event) (s : Step) (living : status root h s.process ≡ Living b) (allowed : IsAllowed root h b s s.deed) (one : HasOneHolder root h) where
+module _ (root : Name) (h : History) (b : Event) (s : Step) (living : status root h s.process ≡ Living b) (allowed : IsAllowed root h b s s.step_kind) (one : HasOneHolder root h) where
   -- who stays a holder is not whose point it was that came by the step
-  not_both : (p : Name) (d : Event) (t : Point) → p ≢ s.process → s.deed ≢ Absorb p → Holds root h p d → Owns d.id t → Source root h s t → ⊥
+  not_both : (p : Name) (d : Event) (t : Point) → p ≢ s.process → s.step_kind ≢ Absorb p → Holds root h p d → Owns d.id t → Source root h s t → ⊥
   not_both p d t differs absorbs holds owned source =
       let is : p ≡ source.holder = one p source.holder d source.last t holds source.holds owned source.owned in
       elim source.known [
@@ -84,7 +84,7 @@ one_holder {root} (next {h = h} {s = s} {before = b} lawful living allowed) p q 
 pub data Entry (root : Name) (h : History) (s : Step) (x : Event) : Type 0 where
   old : Occurs root h x → Entry root h s x
   stepped : x ≡ event_of h s → Entry root h s x
-  child : {c : Name} {i : IdTree} → s.deed ≡ Fork c i → x ≡ birth_by h s c i → Entry root h s x
+  child : {c : Name} {i : IdTree} → s.step_kind ≡ Fork c i → x ≡ birth_by h s c i → Entry root h s x
 
 pub entry : {root : Name} {h : History} {s : Step} {x : Event} → Occurs root (s ∷ h) x → Entry root h s x
 entry step = stepped refl
@@ -98,7 +98,7 @@ same_value t is = ap (λ (x : Event). value_at x.values t) is
 abbrev pub HasTop : Name → History → Type 0
 HasTop root h = (p : Name) (e x : Event) (t : Point) → Holds root h p e → Owns e.id t → Occurs root h x → value_at x.values t ≤ value_at e.values t
 
-module _ (root : Name) (h : History) (b : Event) (s : Step) (living : status root h s.process ≡ Living b) (allowed : IsAllowed root h b s s.deed)
+module _ (root : Name) (h : History) (b : Event) (s : Step) (living : status root h s.process ≡ Living b) (allowed : IsAllowed root h b s s.step_kind)
     (one : HasOneHolder root h) (top : HasTop root h) where
   -- the step's value is below that of a holder which stays
   step_below : (p : Name) (e : Event) (t : Point) → p ≢ s.process → Holds root h p e → Owns e.id t → value_at s.stamp.events t ≤ value_at e.values t

@@ -150,9 +150,9 @@ module _ (root : Name) (cut : Cut) (h g : History) (s : Step) (follows : Follows
   both_unborn : (p : Name) → status root (s ∷ h) p ≡ Unborn → status root (s ∷ g) p ≡ Unborn
   both_unborn p is =
       elim (cases_name p s.process) [
-        | inl same ↦ absurd (actor_is_born s.deed (event_of h s) (sym (status_acts root h s p same) ∙ is))
+        | inl same ↦ absurd (actor_is_born s.step_kind (event_of h s) (sym (status_acts root h s p same) ∙ is))
         | inr differs ↦
-            (let other = other_unborn h g s p s.deed (status root h p) (status root g p) (sym (status_others root h s p differs) ∙ is) in
+            (let other = other_unborn h g s p s.step_kind (status root h p) (status root g p) (sym (status_others root h s p differs) ∙ is) in
             status_others root g s p differs ∙ other.1 (follows.unborn p other.0))
       ]
 
@@ -160,9 +160,9 @@ module _ (root : Name) (cut : Cut) (h g : History) (s : Step) (follows : Follows
   both_living p x is within =
       elim (cases_name p s.process) [
         | inl same ↦
-            (let acts = actor_lives h g s s.deed x (sym (status_acts root h s p same) ∙ is) in
+            (let acts = actor_lives h g s s.step_kind x (sym (status_acts root h s p same) ∙ is) in
             (event_of g s, status_acts root g s p same ∙ acts.1, subst (λ (e : Event). IsSameEvent e (event_of g s)) (sym acts.0) same_step))
-        | inr differs ↦ elim (other_lives h g s p s.deed (status root h p) x (sym (status_others root h s p differs) ∙ is)) [
+        | inr differs ↦ elim (other_lives h g s p s.step_kind (status root h p) x (sym (status_others root h s p differs) ∙ is)) [
           | stays before after ↦
               (let there = follows.living p x before within in
               (there.0, status_others root g s p differs ∙ (after (status root g p) ∙ there.1), there.2))
@@ -178,10 +178,10 @@ module _ (root : Name) (cut : Cut) (h g : History) (s : Step) (follows : Follows
   both_retired p x q is within =
       elim (cases_name p s.process) [
         | inl same ↦
-            (let acts = actor_retires h g s s.deed x q (sym (status_acts root h s p same) ∙ is) in
+            (let acts = actor_retires h g s s.step_kind x q (sym (status_acts root h s p same) ∙ is) in
             (event_of g s, status_acts root g s p same ∙ acts.1, subst (λ (e : Event). IsSameEvent e (event_of g s)) (sym acts.0) same_step))
         | inr differs ↦
-            (let before = other_retired h g s p s.deed (status root h p) x q (sym (status_others root h s p differs) ∙ is) in
+            (let before = other_retired h g s p s.step_kind (status root h p) x q (sym (status_others root h s p differs) ∙ is) in
             let there = follows.retired p x q before.0 within in
             (there.0, status_others root g s p differs ∙ (before.1 (status root g p) ∙ there.1), there.2))
       ]
@@ -189,23 +189,23 @@ module _ (root : Name) (cut : Cut) (h g : History) (s : Step) (follows : Follows
   both_unsent : (m : Message) → sending (s ∷ h) m ≡ None → sending (s ∷ g) m ≡ None
   unfolding sending
   both_unsent m is =
-      elim (cases_Bool (sends s.deed m)) [
-        | inl this ↦ (let none : Some (event_of h s) ≡ None = sym (cond-true (sends s.deed m) _ _ this) ∙ is in absurd (cc))
-        | inr other ↦ cond-false (sends s.deed m) _ _ other ∙ follows.unsent m (sym (cond-false (sends s.deed m) _ _ other) ∙ is)
+      elim (cases_Bool (sends s.step_kind m)) [
+        | inl this ↦ (let none : Some (event_of h s) ≡ None = sym (cond-true (sends s.step_kind m) _ _ this) ∙ is in absurd (cc))
+        | inr other ↦ cond-false (sends s.step_kind m) _ _ other ∙ follows.unsent m (sym (cond-false (sends s.step_kind m) _ _ other) ∙ is)
       ]
 
   both_sent : (m : Message) (x : Event) → sending (s ∷ h) m ≡ Some x → cut x ≡ true → (y : Event) × (sending (s ∷ g) m ≡ Some y) × IsSameEvent x y
   unfolding sending
   both_sent m x is within =
-      elim (cases_Bool (sends s.deed m)) [
+      elim (cases_Bool (sends s.step_kind m)) [
         | inl this ↦
-            (let some : Some (event_of h s) ≡ Some x = sym (cond-true (sends s.deed m) _ _ this) ∙ is in
+            (let some : Some (event_of h s) ≡ Some x = sym (cond-true (sends s.step_kind m) _ _ this) ∙ is in
             let event : event_of h s ≡ x = cc in
-            (event_of g s, cond-true (sends s.deed m) _ _ this, subst (λ (e : Event). IsSameEvent e (event_of g s)) event same_step))
+            (event_of g s, cond-true (sends s.step_kind m) _ _ this, subst (λ (e : Event). IsSameEvent e (event_of g s)) event same_step))
         | inr other ↦
-            (let before : sending h m ≡ Some x = sym (cond-false (sends s.deed m) _ _ other) ∙ is in
+            (let before : sending h m ≡ Some x = sym (cond-false (sends s.step_kind m) _ _ other) ∙ is in
             let there = follows.sent m x before within in
-            (there.0, cond-false (sends s.deed m) _ _ other ∙ there.1, there.2))
+            (there.0, cond-false (sends s.step_kind m) _ _ other ∙ there.1, there.2))
       ]
 
   pub follows_taken : Follows root cut (s ∷ h) (s ∷ g)
@@ -219,15 +219,15 @@ module _ (root : Name) (cut : Cut) (h g : History) (s : Step) (follows : Follows
     one_unborn : (p : Name) → status root (s ∷ h) p ≡ Unborn → status root g p ≡ Unborn
     one_unborn p is =
         elim (cases_name p s.process) [
-          | inl same ↦ absurd (actor_is_born s.deed (event_of h s) (sym (status_acts root h s p same) ∙ is))
-          | inr differs ↦ follows.unborn p (other_unborn h g s p s.deed (status root h p) (status root g p) (sym (status_others root h s p differs) ∙ is)).0
+          | inl same ↦ absurd (actor_is_born s.step_kind (event_of h s) (sym (status_acts root h s p same) ∙ is))
+          | inr differs ↦ follows.unborn p (other_unborn h g s p s.step_kind (status root h p) (status root g p) (sym (status_others root h s p differs) ∙ is)).0
         ]
 
     one_living : (p : Name) (x : Event) → status root (s ∷ h) p ≡ Living x → cut x ≡ true → (y : Event) × (status root g p ≡ Living y) × IsSameEvent x y
     one_living p x is within =
         elim (cases_name p s.process) [
-          | inl same ↦ absurd (not_the_step x (actor_lives h g s s.deed x (sym (status_acts root h s p same) ∙ is)).0 within)
-          | inr differs ↦ elim (other_lives h g s p s.deed (status root h p) x (sym (status_others root h s p differs) ∙ is)) [
+          | inl same ↦ absurd (not_the_step x (actor_lives h g s s.step_kind x (sym (status_acts root h s p same) ∙ is)).0 within)
+          | inr differs ↦ elim (other_lives h g s p s.step_kind (status root h p) x (sym (status_others root h s p differs) ∙ is)) [
             | stays before after ↦ follows.living p x before within
             | is_child i forks event after ↦
                 absurd (not_the_step (event_of h s) refl (closed (event_of h s) (birth_by h s p i) (to_birth forks) (ap cut (sym event) ∙ within)))
@@ -237,27 +237,27 @@ module _ (root : Name) (cut : Cut) (h g : History) (s : Step) (follows : Follows
     one_retired : (p : Name) (x : Event) (q : Name) → status root (s ∷ h) p ≡ Retired x q → cut x ≡ true → (y : Event) × (status root g p ≡ Retired y q) × IsSameEvent x y
     one_retired p x q is within =
         elim (cases_name p s.process) [
-          | inl same ↦ absurd (not_the_step x (actor_retires h g s s.deed x q (sym (status_acts root h s p same) ∙ is)).0 within)
-          | inr differs ↦ follows.retired p x q (other_retired h g s p s.deed (status root h p) x q (sym (status_others root h s p differs) ∙ is)).0 within
+          | inl same ↦ absurd (not_the_step x (actor_retires h g s s.step_kind x q (sym (status_acts root h s p same) ∙ is)).0 within)
+          | inr differs ↦ follows.retired p x q (other_retired h g s p s.step_kind (status root h p) x q (sym (status_others root h s p differs) ∙ is)).0 within
         ]
 
     one_unsent : (m : Message) → sending (s ∷ h) m ≡ None → sending g m ≡ None
     unfolding sending
     one_unsent m is =
-        elim (cases_Bool (sends s.deed m)) [
-          | inl this ↦ (let none : Some (event_of h s) ≡ None = sym (cond-true (sends s.deed m) _ _ this) ∙ is in absurd (cc))
-          | inr other ↦ follows.unsent m (sym (cond-false (sends s.deed m) _ _ other) ∙ is)
+        elim (cases_Bool (sends s.step_kind m)) [
+          | inl this ↦ (let none : Some (event_of h s) ≡ None = sym (cond-true (sends s.step_kind m) _ _ this) ∙ is in absurd (cc))
+          | inr other ↦ follows.unsent m (sym (cond-false (sends s.step_kind m) _ _ other) ∙ is)
         ]
 
     one_sent : (m : Message) (x : Event) → sending (s ∷ h) m ≡ Some x → cut x ≡ true → (y : Event) × (sending g m ≡ Some y) × IsSameEvent x y
     unfolding sending
     one_sent m x is within =
-        elim (cases_Bool (sends s.deed m)) [
+        elim (cases_Bool (sends s.step_kind m)) [
           | inl this ↦
-              (let some : Some (event_of h s) ≡ Some x = sym (cond-true (sends s.deed m) _ _ this) ∙ is in
+              (let some : Some (event_of h s) ≡ Some x = sym (cond-true (sends s.step_kind m) _ _ this) ∙ is in
               let event : event_of h s ≡ x = cc in
               absurd (not_the_step x (sym event) within))
-          | inr other ↦ follows.sent m x (sym (cond-false (sends s.deed m) _ _ other) ∙ is) within
+          | inr other ↦ follows.sent m x (sym (cond-false (sends s.step_kind m) _ _ other) ∙ is) within
         ]
 
     pub follows_left : Follows root cut (s ∷ h) g

@@ -52,10 +52,10 @@ taken_over root h b s p e t a w absorbs holds owned = grind arith
 abbrev pub HasHolder : Name → History → Point → Type 0
 HasHolder root h t = (p : Name) × (e : Event) × Holds root h p e × Owns e.id t
 
-module _ (root : Name) (h : History) (b : Event) (s : Step) (living : status root h s.process ≡ Living b) (allowed : IsAllowed root h b s s.deed) (t : Point) where
+module _ (root : Name) (h : History) (b : Event) (s : Step) (living : status root h s.process ≡ Living b) (allowed : IsAllowed root h b s s.step_kind) (t : Point) where
   by_actor : Owns b.id t → HasHolder root (s ∷ h) t
   by_actor owned =
-      elim (kept_or_given root h b s t s.deed allowed owned) [
+      elim (kept_or_given root h b s t s.step_kind allowed owned) [
         | inl kept ↦ (s.process, event_of h s, step_holds root h s, kept)
         | inr given ↦
             (let fork = fork_of root h b s given.0 given.1 allowed given.2 in
@@ -69,9 +69,9 @@ module _ (root : Name) (h : History) (b : Event) (s : Step) (living : status roo
             (let both : Some before.1 ≡ Some b = sym before.2 ∙ (ap (λ (q : Name). last_of (status root h q)) is ∙ ap last_of living) in
             let last : before.1 ≡ b = cc in
             by_actor (subst (λ (e : Event). Owns e.id t) last before.3))
-        | inr differs ↦ elim (stays_or_absorbed root h b s before.0 before.1 s.deed allowed differs before.2) [
+        | inr differs ↦ elim (stays_or_absorbed root h b s before.0 before.1 s.step_kind allowed differs before.2) [
           | inl stays ↦ (before.0, before.1, ap last_of (status_others root h s before.0 differs) ∙ stays, before.3)
-          | inr absorbs ↦ (s.process, event_of h s, step_holds root h s, taken_over root h b s before.0 before.1 t s.deed allowed absorbs before.2 before.3)
+          | inr absorbs ↦ (s.process, event_of h s, step_holds root h s, taken_over root h b s before.0 before.1 t s.step_kind allowed absorbs before.2 before.3)
         ]
       ]
 

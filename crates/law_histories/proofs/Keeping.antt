@@ -36,7 +36,7 @@ same_join {e} {f} {d} {g} to first second join = subst (λ (v : EventTree). IsJo
 -- A step that is in a closed cut is allowed after what the cut keeps.
 module _ (root : Name) (cut : Cut) (h g : History) (b b' : Event) (s : Step) (follows : Follows root cut h g) (same : IsSameEvent b b')
     (closed : (a : Event) → Edge root (s ∷ h) a (event_of h s) → cut a ≡ true) where
-  still_receives : (m : Message) → s.deed ≡ Receive m → IsLawfulReceive h b s m → IsLawfulReceive g b' s m
+  still_receives : (m : Message) → s.step_kind ≡ Receive m → IsLawfulReceive h b s m → IsLawfulReceive g b' s m
   still_receives m is w =
       let there = follows.sent m w.sent w.is_sent (closed w.sent (to_receive is w.is_sent)) in
       let same_send : IsSameEvent w.sent there.0 = there.2 in
@@ -59,7 +59,7 @@ module _ (root : Name) (cut : Cut) (h g : History) (b b' : Event) (s : Step) (fo
     together = subst (λ (k : IdTree). AreTogether s.stamp.id i k) same.id fork.together;
   }
 
-  still_absorbs : (r : Name) → s.deed ≡ Absorb r → IsLawfulAbsorption root h b s r → IsLawfulAbsorption root g b' s r
+  still_absorbs : (r : Name) → s.step_kind ≡ Absorb r → IsLawfulAbsorption root h b s r → IsLawfulAbsorption root g b' s r
   still_absorbs r is absorption =
       let there = follows.retired r absorption.retirement s.process absorption.into_this
       (closed absorption.retirement (to_absorption is absorption.into_this)) in
@@ -75,7 +75,7 @@ module _ (root : Name) (cut : Cut) (h g : History) (b b' : Event) (s : Step) (fo
             (subst (λ (i : IdTree). AreTogether i absorption.retirement.id s.stamp.id) same.id absorption.together);
       }
 
-  still_allowed : (a : StepKind) → s.deed ≡ a → IsAllowed root h b s a → IsAllowed root g b' s a
+  still_allowed : (a : StepKind) → s.step_kind ≡ a → IsAllowed root h b s a → IsAllowed root g b' s a
   still_allowed Work is w = own_work b b' s same.id same.values w
   still_allowed Check is w = own_work b b' s same.id same.values w
   still_allowed Present is w = own_work b b' s same.id same.values w
@@ -85,7 +85,7 @@ module _ (root : Name) (cut : Cut) (h g : History) (b b' : Event) (s : Step) (fo
   still_allowed (Retire q) is w = (own_work b b' s same.id same.values w.0, w.1)
   still_allowed (Absorb r) is w = still_absorbs r is w
 
-kept_next : (root : Name) (cut : Cut) (h : History) (b : Event) (s : Step) → status root h s.process ≡ Living b → IsAllowed root h b s s.deed
+kept_next : (root : Name) (cut : Cut) (h : History) (b : Event) (s : Step) → status root h s.process ≡ Living b → IsAllowed root h b s s.step_kind
     → IsClosed root (s ∷ h) cut → IsLawful root (kept cut h) → IsLawful root (kept cut (s ∷ h))
 kept_next root cut h b s living allowed closed before =
     elim (cases_Bool (cut (event_of h s))) [
@@ -93,7 +93,7 @@ kept_next root cut h b s living allowed closed before =
           (let all = follows root cut h (closed_before root cut h s closed) in
           let there = all.living s.process b living (closed b (event_of h s) (to_next living) reached) in
           subst (λ (g : History). IsLawful root g) (sym (kept_taken cut h s reached))
-          (next before there.1 (still_allowed root cut h (kept cut h) b there.0 s all there.2 (λ a edge. closed a (event_of h s) edge reached) s.deed refl allowed)))
+          (next before there.1 (still_allowed root cut h (kept cut h) b there.0 s all there.2 (λ a edge. closed a (event_of h s) edge reached) s.step_kind refl allowed)))
       | inr beyond ↦ subst (λ (g : History). IsLawful root g) (sym (kept_left cut h s beyond)) before
     ]
 

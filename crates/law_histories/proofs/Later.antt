@@ -50,7 +50,7 @@ up_to_last {root} (next {h = h} {s = s} {before = b} lawful living allowed) p e 
     ]
 
 -- Who is a child is new.
-no_event_of_child : (root : Name) (h : History) (b : Event) (s : Step) (c : Name) (i : IdTree) → IsAllowed root h b s s.deed → s.deed ≡ Fork c i
+no_event_of_child : (root : Name) (h : History) (b : Event) (s : Step) (c : Name) (i : IdTree) → IsAllowed root h b s s.step_kind → s.step_kind ≡ Fork c i
     → (y : Event) → Occurs root h y → y.process ≡ c → ⊥
 no_event_of_child root h b s c i allowed forks y occurs is =
     is_born occurs (ap (status root h) is ∙ (fork_of root h b s c i allowed forks).new_name)
@@ -67,7 +67,7 @@ rises_later {root} (next {h = h} {s = s} {before = b} lawful living allowed) y z
         | old before_z ↦ rises_later lawful y z before_y before_z of_one less
         | stepped is ↦ elim (up_to_last lawful s.process b y (ap last_of living) before_y (sym of_one ∙ same_process is)) [
           | inl last ↦
-              (let up = rises_by root h b s s.deed allowed in
+              (let up = rises_by root h b s s.step_kind allowed in
               let above : value_at b.values up.0 < value_at s.stamp.events up.0 = up.2 in
               let here : value_at y.values up.0 ≡ value_at b.values up.0 = same_value up.0 last in
               let there : value_at z.values up.0 ≡ value_at s.stamp.events up.0 = same_value up.0 is in
@@ -76,7 +76,7 @@ rises_later {root} (next {h = h} {s = s} {before = b} lawful living allowed) y z
               (let up = rises_later lawful y b before_y (held_occurs root h s.process b (ap last_of living))
               (held_process root h s.process b (ap last_of living) ∙ sym (sym of_one ∙ same_process is)) earlier_y in
               let above : value_at y.values up.0 < value_at b.values up.0 = up.2 in
-              let no_fall : value_at b.values up.0 ≤ value_at s.stamp.events up.0 = never_falls_by root h b s s.deed allowed up.0 in
+              let no_fall : value_at b.values up.0 ≤ value_at s.stamp.events up.0 = never_falls_by root h b s s.step_kind allowed up.0 in
               let there : value_at z.values up.0 ≡ value_at s.stamp.events up.0 = same_value up.0 is in
               (up.0, up.1, omega arith))
         ]
@@ -134,13 +134,13 @@ absorbed_up root h b s r e w retired t = grind (arith, cases_Bool, grown_up)
 abbrev pub IsUp : Event → Event → Type 0
 IsUp a c = (t : Point) → value_at a.values t ≤ value_at c.values t
 
-edge_up_next : (root : Name) (h : History) (b : Event) (s : Step) → status root h s.process ≡ Living b → IsAllowed root h b s s.deed
+edge_up_next : (root : Name) (h : History) (b : Event) (s : Step) → status root h s.process ≡ Living b → IsAllowed root h b s s.step_kind
     → ((a c : Event) → Edge root h a c → IsUp a c) → {a c : Event} → Edge root (s ∷ h) a c → IsUp a c
 edge_up_next root h b s living allowed before (to_next {last = e} lives) t =
     let both : Living b ≡ Living e = sym living ∙ lives in
     let is : b ≡ e = cc in
     let equal : value_at b.values t ≡ value_at e.values t = same_value t is in
-    let up : value_at b.values t ≤ value_at s.stamp.events t = never_falls_by root h b s s.deed allowed t in
+    let up : value_at b.values t ≤ value_at s.stamp.events t = never_falls_by root h b s s.step_kind allowed t in
     omega arith
 edge_up_next root h b s living allowed before (to_birth forks) t = omega arith
 edge_up_next root h b s living allowed before (to_receive {m = m} {sent = e} is sent) t =
@@ -175,7 +175,7 @@ birth_first {root} (next {h = h} {s = s} {before = b} lawful living allowed) y z
             | stepped is ↦ (let number : z.number ≡ length (s ∷ h) = same_number is in inr (omega arith))
             | child forks is ↦ (let number : z.number ≡ length (s ∷ h) = same_number is in inr (omega arith))
           ])
-      | stepped is ↦ (let kind : y.kind ≡ Does s.deed = same_what is in absurd (cc))
+      | stepped is ↦ (let kind : y.kind ≡ Does s.step_kind = same_what is in absurd (cc))
       | child {c = c} {i = i} forks is ↦ elim (entry occurs_z) [
         | old before_z ↦ absurd (no_event_of_child root h b s c i allowed forks z before_z (of_one ∙ same_process is))
         | stepped is_z ↦

@@ -10,6 +10,7 @@ pub mod Retiring
 pub mod Rules
 pub mod Reported
 pub mod Example
+pub mod ExampleForms
 pub mod Paths
 pub mod JoinFirst
 pub mod Follows

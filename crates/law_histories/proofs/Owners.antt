@@ -35,6 +35,6 @@ holder_owns {root} start p e holds = moved (first_holds root p e holds).1 ([], r
 holder_owns {root} (next {h = h} {s = s} {before = b} lawful living allowed) p e holds =
     elim (origin root h s p e holds) [
       | kept differs absorbs as_before ↦ holder_owns lawful p e (ap last_of (sym as_before) ∙ holds)
-      | acted is event ↦ moved event (actor_owns root h b s s.deed allowed (holder_owns lawful s.process b (ap last_of living)))
+      | acted is event ↦ moved event (actor_owns root h b s s.step_kind allowed (holder_owns lawful s.process b (ap last_of living)))
       | born {i = i} differs forks event lives ↦ moved event (fork_of root h b s p i allowed forks).child_not_empty
     ]

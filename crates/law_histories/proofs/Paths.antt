@@ -19,7 +19,7 @@ at_itself root h y e is = subst (IsInPast root h y) is same
 abbrev LeadsToHolder : Name → History → Type 0
 LeadsToHolder root h = (p : Name) (e y : Event) (t : Point) → Holds root h p e → Owns e.id t → Occurs root h y → Owns y.id t → IsInPast root h y e
 
-module _ (root : Name) (h : History) (b : Event) (s : Step) (living : status root h s.process ≡ Living b) (allowed : IsAllowed root h b s s.deed)
+module _ (root : Name) (h : History) (b : Event) (s : Step) (living : status root h s.process ≡ Living b) (allowed : IsAllowed root h b s s.step_kind)
     (one_next : HasOneHolder root (s ∷ h)) (leads : LeadsToHolder root h) where
   to_step : (y : Event) (t : Point) → Source root h s t → Occurs root h y → Owns y.id t → IsInPast root (s ∷ h) y (event_of h s)
   to_step y t source occurs owned = along (past_earlier (leads source.holder source.last y t source.holds source.owned occurs owned)) source.edge

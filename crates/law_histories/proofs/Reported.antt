@@ -20,7 +20,7 @@ use Rattle.report_line.specs.histories.StepReports.{is_reported, reporting_steps
 use Rattle.law_histories.proofs.Bytes.{bytes_same, bytes_other}
 use Rattle.law_histories.proofs.Status.{unborn_after}
 
--- a step with this deed is reported so
+-- a step with this kind of step is reported so
 abbrev pub IsReportedAs : Step → Stamp → StepKind → ReportKind → Type 0
 IsReportedAs s st d reported.Check = (d ≡ Check) × (s.stamp.id ≡ st.id)
 IsReportedAs s st d reported.Present = (d ≡ Present) × (s.stamp.id ≡ st.id)
@@ -74,14 +74,14 @@ pub record SaysOfEvent (root : Name) (h : History) (e : Event) (r : NumberedRepo
   pub values : e.values ≡ r.stamp.events
   pub action : IsEventAs e r.stamp r.action
 
-as_event : (h : History) (s : Step) (st : Stamp) (b : ReportKind) → IsReportedAs s st s.deed b → IsEventAs (event_of h s) st b
+as_event : (h : History) (s : Step) (st : Stamp) (b : ReportKind) → IsReportedAs s st s.step_kind b → IsEventAs (event_of h s) st b
 as_event h s st reported.Check w = (ap Does w.0, w.1)
 as_event h s st reported.Present w = (ap Does w.0, w.1)
 as_event h s st (reported.Fork f) w = ap Does w
 as_event h s st (reported.Retire q) w = ap Does w
 as_event h s st (reported.Absorb r) w = ap Does w
 
-event_says : (root : Name) (h : History) (s : Step) (r : NumberedReport) → SaysOfStep h s s.deed r → SaysOfEvent root (s ∷ h) (event_of h s) r
+event_says : (root : Name) (h : History) (s : Step) (r : NumberedReport) → SaysOfStep h s s.step_kind r → SaysOfEvent root (s ∷ h) (event_of h s) r
 event_says root h s r w = record { occurs = step; process = sym w.process; values = w.values; action = as_event h s r.stamp r.action w.action }
 
 says_earlier : (root : Name) (h : History) (s : Step) (e : Event) (r : NumberedReport) → SaysOfEvent root h e r → SaysOfEvent root (s ∷ h) e r
@@ -103,7 +103,7 @@ pub event_of_report : (root : Name) (h : History) (e : Event) (r : NumberedRepor
 event_of_report root [] e r is = absurd (none_at_first is)
 event_of_report root (s ∷ h) e r is =
     elim (report_entry is) [
-      | of_step made event ↦ subst (λ (x : Event). SaysOfEvent root (s ∷ h) x r) (sym event) (event_says root h s r (says root h s r s.deed made))
+      | of_step made event ↦ subst (λ (x : Event). SaysOfEvent root (s ∷ h) x r) (sym event) (event_says root h s r (says root h s r s.step_kind made))
       | of_earlier before ↦ says_earlier root h s e r (event_of_report root h e r before)
     ]
 
@@ -125,8 +125,8 @@ birth_of_report root [] e r f forked is = absurd (none_at_first is)
 birth_of_report root (s ∷ h) e r f forked is =
     elim (report_entry is) [
       | of_step made event ↦
-          (let w = says root h s r s.deed made in
-          (birth_by h s f.child f.given, record { occurs = birth (forks s r.stamp s.deed r.action f forked w.action); process = refl; kind = refl; id = refl; values = w.values }))
+          (let w = says root h s r s.step_kind made in
+          (birth_by h s f.child f.given, record { occurs = birth (forks s r.stamp s.step_kind r.action f forked w.action); process = refl; kind = refl; id = refl; values = w.values }))
       | of_earlier before ↦
           (let w = birth_of_report root h e r f forked before in
           (w.0, record { occurs = earlier w.1.occurs; process = w.1.process; kind = w.1.kind; id = w.1.id; values = w.1.values }))
@@ -135,16 +135,16 @@ birth_of_report root (s ∷ h) e r f forked is =
 -- ---- the numbers of reports
 
 steps_more : (p : Name) (s : Step) (h : History) → reporting_steps p h ≤ reporting_steps p (s ∷ h)
-steps_more p s h = by (bytes_eq p s.process && is_reported s.deed) refl
+steps_more p s h = by (bytes_eq p s.process && is_reported s.step_kind) refl
   where
-    by : (b : Bool) → (bytes_eq p s.process && is_reported s.deed) ≡ b → reporting_steps p h ≤ reporting_steps p (s ∷ h)
+    by : (b : Bool) → (bytes_eq p s.process && is_reported s.step_kind) ≡ b → reporting_steps p h ≤ reporting_steps p (s ∷ h)
     by true e = (let is : reporting_steps p (s ∷ h) ≡ suc (reporting_steps p h) = cond-true _ _ _ e in omega arith)
     by false e = (let is : reporting_steps p (s ∷ h) ≡ reporting_steps p h = cond-false _ _ _ e in omega arith)
 
 both_true : (a b : Bool) → a ≡ true → b ≡ true → (a && b) ≡ true
 both_true a b e f = grind (arith, cases_Bool)
 
-pub own_step : (h : History) (s : Step) (d : StepKind) (r : NumberedReport) → s.deed ≡ d → SaysOfStep h s d r
+pub own_step : (h : History) (s : Step) (d : StepKind) (r : NumberedReport) → s.step_kind ≡ d → SaysOfStep h s d r
     → (r.number ≡ reporting_steps r.process h + 1) × (reporting_steps r.process (s ∷ h) ≡ suc (reporting_steps r.process h))
 own_step h s d r is w = (
   w.number ∙ ap (λ (q : Name). reporting_steps q h + 1) (sym w.process),
@@ -155,7 +155,7 @@ pub number_up_to : (root : Name) (h : History) (e : Event) (r : NumberedReport) 
 number_up_to root [] e r is = absurd (none_at_first is)
 number_up_to root (s ∷ h) e r is =
     elim (report_entry is) [
-      | of_step made event ↦ (let w = own_step h s s.deed r refl (says root h s r s.deed made) in let x = w.0 in let y = w.1 in omega arith)
+      | of_step made event ↦ (let w = own_step h s s.step_kind r refl (says root h s r s.step_kind made) in let x = w.0 in let y = w.1 in omega arith)
       | of_earlier before ↦ (let w = number_up_to root h e r before in let more = steps_more r.process s h in omega arith)
     ]
 

@@ -33,7 +33,7 @@ not_living {root} (next {h = h} {s = s} {before = before} lawful living allowed)
         | acted is event ↦ not_living lawful e q there retires before (ap (status root h) is ∙ living)
         | born {i = i} differs forks event lives' ↦ is_born there (fork_of root h before s e.process i allowed forks).new_name
       ]
-      | stepped is ↦ retires_then s.deed q (event_of h s) b (sym (kind_of is) ∙ retires) (sym (status_acts root h s e.process (process_of is)) ∙ lives)
+      | stepped is ↦ retires_then s.step_kind q (event_of h s) b (sym (kind_of is) ∙ retires) (sym (status_acts root h s e.process (process_of is)) ∙ lives)
       | child {c = c} {i = i} forks is ↦ (let both : Birth ≡ Does (Retire q) = sym (kind_of is) ∙ retires in absurd (cc))
     ]
 

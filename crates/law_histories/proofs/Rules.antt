@@ -16,7 +16,7 @@ use Rattle.law_histories.proofs.Later.{up_to_last}
 use Rattle.law_histories.specs.Rules.{IsNewest, IsNew, IsNeverDone, IsWaiting, LookUpsAreEvents, Obeys, RulesAreTheLaw}
 
 absorption_of : (root : Name) (h : History) (b : Event) (s : Step) (r : Name)
-    → IsAllowed root h b s s.deed → s.deed ≡ Absorb r → IsLawfulAbsorption root h b s r
+    → IsAllowed root h b s s.step_kind → s.step_kind ≡ Absorb r → IsLawfulAbsorption root h b s r
 absorption_of root h b s r w is = subst (λ (a : StepKind). IsAllowed root h b s a) is w
 
 -- What becomes of another process: it is born by the step, it is absorbed, or it stays as it is.
@@ -69,12 +69,12 @@ other_absorbed h s p a before is =
 
 -- An event of another process than the acting one is old, or the child's birth.
 other_event : {root : Name} {h : History} {s : Step} {y : Event} → Occurs root (s ∷ h) y → y.process ≢ s.process
-    → Occurs root h y ⊎ ((i : IdTree) × (s.deed ≡ Fork y.process i))
+    → Occurs root h y ⊎ ((i : IdTree) × (s.step_kind ≡ Fork y.process i))
 other_event step differs = absurd (differs refl)
 other_event (birth {given = i} forks) differs = inr (i, forks)
 other_event (earlier occurs) differs = inl occurs
 
-ends_later : (root : Name) (h : History) (b : Event) (s : Step) (p : Name) → status root h s.process ≡ Living b → IsAllowed root h b s s.deed
+ends_later : (root : Name) (h : History) (b : Event) (s : Step) (p : Name) → status root h s.process ≡ Living b → IsAllowed root h b s s.step_kind
     → p ≢ s.process → status root h p ≢ Unborn → HasEnded root h p → HasEnded root (s ∷ h) p
 ends_later root h b s p living allowed differs born ended = record {
   last = ended.last;
@@ -117,8 +117,8 @@ absorbed_ended : {root : Name} {h : History} → IsLawful root h → (p : Name) 
 absorbed_ended {root} start p is = absurd (first_not_absorbed root p is)
 absorbed_ended {root} (next {h = h} {s = s} {before = b} lawful living allowed) p is =
     elim (cases_name p s.process) [
-      | inl same ↦ absurd (actor_not_absorbed s.deed (event_of h s) (sym (status_acts root h s p same) ∙ is))
-      | inr differs ↦ elim (other_absorbed h s p s.deed (status root h p) (sym (status_others root h s p differs) ∙ is)) [
+      | inl same ↦ absurd (actor_not_absorbed s.step_kind (event_of h s) (sym (status_acts root h s p same) ∙ is))
+      | inr differs ↦ elim (other_absorbed h s p s.step_kind (status root h p) (sym (status_others root h s p differs) ∙ is)) [
         | inl before ↦ ends_later root h b s p living allowed differs (λ unborn. absorbed_born (sym before ∙ unborn)) (absorbed_ended lawful p before)
         | inr absorbs ↦
             (let absorption = absorption_of root h b s p allowed absorbs in
@@ -186,9 +186,9 @@ pub undone_unsent : (root : Name) (h : History) (m : Message) → IsNeverDone ro
 unfolding sending
 undone_unsent root [] m undone = refl
 undone_unsent root (s ∷ h) m undone =
-    elim (cases_Bool (sends s.deed m)) [
-      | inl this ↦ absurd (undone (event_of h s) step (ap Does (sends_this s.deed m this)))
-      | inr other ↦ cond-false (sends s.deed m) _ _ other ∙ undone_unsent root h m (λ x occurs. undone x (earlier occurs))
+    elim (cases_Bool (sends s.step_kind m)) [
+      | inl this ↦ absurd (undone (event_of h s) step (ap Does (sends_this s.step_kind m this)))
+      | inr other ↦ cond-false (sends s.step_kind m) _ _ other ∙ undone_unsent root h m (λ x occurs. undone x (earlier occurs))
     ]
 
 -- Of an event that does something: it is the newest step's, or it occurred before.
@@ -199,8 +199,8 @@ pub birth_does_nothing : (a : StepKind) → Birth ≢ Does a
 birth_does_nothing a is = cc
 
 pub done_now_or_before : {root : Name} {h : History} {s : Step} {x : Event} → Occurs root (s ∷ h) x → (a : StepKind) → x.kind ≡ Does a
-    → ((x ≡ event_of h s) × (s.deed ≡ a)) ⊎ Occurs root h x
-done_now_or_before (step {h = h} {s = s}) a is = inl (refl, does_same s.deed a is)
+    → ((x ≡ event_of h s) × (s.step_kind ≡ a)) ⊎ Occurs root h x
+done_now_or_before (step {h = h} {s = s}) a is = inl (refl, does_same s.step_kind a is)
 done_now_or_before (birth forks) a is = absurd (birth_does_nothing a is)
 done_now_or_before (earlier occurs) a is = inr occurs
 
@@ -220,9 +220,9 @@ retired_not_unborn : (x : Event) (q : Name) → Retired x q ≢ Unborn
 retired_not_unborn x q is = cc
 
 -- The event that sent a message is its send.
-sent_before : (root : Name) (h : History) (b : Event) (s : Step) (m : Message) (x : Event) → IsAllowed root h b s s.deed → sends s.deed m ≡ true → sending h m ≡ Some x → ⊥
+sent_before : (root : Name) (h : History) (b : Event) (s : Step) (m : Message) (x : Event) → IsAllowed root h b s s.step_kind → sends s.step_kind m ≡ true → sending h m ≡ Some x → ⊥
 sent_before root h b s m x allowed this before =
-    let fresh = subst (λ (a : StepKind). IsAllowed root h b s a) (sends_this s.deed m this) allowed in
+    let fresh = subst (λ (a : StepKind). IsAllowed root h b s a) (sends_this s.step_kind m this) allowed in
     let both : Some x ≡ None = sym before ∙ fresh.1 in
     cc
 
@@ -231,12 +231,12 @@ unfolding sending
 send_is_found start m x occurs is = absurd (nothing_done occurs (Send m) is)
 send_is_found {root} (next {h = h} {s = s} {before = b} lawful living allowed) m x occurs is =
     elim (done_now_or_before occurs (Send m) is) [
-      | inl now ↦ cond-true (sends s.deed m) _ _ (send_sends s.deed m now.1) ∙ ap Some (sym now.0)
+      | inl now ↦ cond-true (sends s.step_kind m) _ _ (send_sends s.step_kind m now.1) ∙ ap Some (sym now.0)
       | inr old ↦
           (let before = send_is_found lawful m x old is in
-          elim (cases_Bool (sends s.deed m)) [
+          elim (cases_Bool (sends s.step_kind m)) [
             | inl this ↦ absurd (sent_before root h b s m x allowed this before)
-            | inr other ↦ cond-false (sends s.deed m) _ _ other ∙ before
+            | inr other ↦ cond-false (sends s.step_kind m) _ _ other ∙ before
           ])
     ]
 
@@ -260,12 +260,12 @@ retired_waits {root} (next {h = h} {s = s} {before = b} lawful living allowed) p
     elim (done_now_or_before occurs (Retire q) is) [
       | inl now ↦
           (let same : p ≡ s.process = sym of_p ∙ ap (λ (y : Event). y.process) now.0 in
-          status_acts root h s p same ∙ (actor_retires s.deed q (event_of h s) now.1 ∙ ap (λ (y : Event). Retired y q) (sym now.0)))
+          status_acts root h s p same ∙ (actor_retires s.step_kind q (event_of h s) now.1 ∙ ap (λ (y : Event). Retired y q) (sym now.0)))
       | inr old ↦
           (let before : status root h p ≡ Retired x q = retired_waits lawful p q x old of_p is (λ y occurs_y. waits y (earlier occurs_y)) in
           status_others root h s p (λ same. retired_not_living x b q (sym before ∙ (ap (status root h) same ∙ living))) ∙
-          (ap (status_of_other h s s.deed p) before ∙
-          other_waits h s p s.deed x q
+          (ap (status_of_other h s s.step_kind p) before ∙
+          other_waits h s p s.step_kind x q
           (λ i forks. retired_not_unborn x q (sym before ∙ (fork_of root h b s p i allowed forks).new_name))
           (λ absorbs. waits (event_of h s) step (ap Does absorbs))))
     ]
@@ -329,11 +329,11 @@ ended {root} (next {h = h} {s = s} {before = b} lawful living allowed) x q occur
     elim (done_now_or_before occurs (Retire q) is) [
       | inl now ↦
           inl (status_acts root h s x.process (ap (λ (y : Event). y.process) now.0)
-          ∙ (actor_retires s.deed q (event_of h s) now.1 ∙ ap (λ (y : Event). Retired y q) (sym now.0)))
+          ∙ (actor_retires s.step_kind q (event_of h s) now.1 ∙ ap (λ (y : Event). Retired y q) (sym now.0)))
       | inr old ↦
           (let before = ended lawful x q old is in
           let differs : x.process ≢ s.process = λ same. ended_not_living (status root h x.process) x b q before (ap (status root h) same ∙ living) in
-          let after = other_ended h s x.process s.deed (status root h x.process) x q
+          let after = other_ended h s x.process s.step_kind (status root h x.process) x q
           (λ i forks. ended_not_unborn (status root h x.process) x q before (fork_of root h b s x.process i allowed forks).new_name) before in
           let there = status_others root h s x.process differs in
           elim after [ inl waits ↦ inl (there ∙ waits) | inr absorbed ↦ inr (there ∙ absorbed) ])
@@ -358,12 +358,12 @@ sent_is_send : (root : Name) (h : History) (m : Message) (x : Event) → sending
 unfolding sending
 sent_is_send root [] m x is = absurd (cc)
 sent_is_send root (s ∷ h) m x is =
-    elim (cases_Bool (sends s.deed m)) [
+    elim (cases_Bool (sends s.step_kind m)) [
       | inl this ↦
-          (let some : Some (event_of h s) ≡ Some x = sym (cond-true (sends s.deed m) _ _ this) ∙ is in
+          (let some : Some (event_of h s) ≡ Some x = sym (cond-true (sends s.step_kind m) _ _ this) ∙ is in
           let event : event_of h s ≡ x = cc in
-          ap (λ (y : Event). y.kind) (sym event) ∙ ap Does (sends_this s.deed m this))
-      | inr other ↦ sent_is_send root h m x (sym (cond-false (sends s.deed m) _ _ other) ∙ is)
+          ap (λ (y : Event). y.kind) (sym event) ∙ ap Does (sends_this s.step_kind m this))
+      | inr other ↦ sent_is_send root h m x (sym (cond-false (sends s.step_kind m) _ _ other) ∙ is)
     ]
 
 other_absorbs : (h : History) (s : Step) (p : Name) (a : StepKind) (before : Status) → a ≡ Absorb p → status_of_other h s a p before ≡ Absorbed
@@ -392,12 +392,12 @@ absorbed_by {root} (next {h = h} {s = s} {before = b} lawful living allowed) r y
       | inl now ↦
           (let absorption = absorption_of root h b s r allowed now.1 in
           let differs : r ≢ s.process = λ same. retired_not_living absorption.retirement b s.process (sym absorption.into_this ∙ (ap (status root h) same ∙ living)) in
-          status_others root h s r differs ∙ other_absorbs h s r s.deed (status root h r) now.1)
+          status_others root h s r differs ∙ other_absorbs h s r s.step_kind (status root h r) now.1)
       | inr old ↦
           (let before = absorbed_by lawful r y old is in
           let differs : r ≢ s.process = λ same. absorbed_not_living b (sym before ∙ (ap (status root h) same ∙ living)) in
-          status_others root h s r differs ∙ (ap (status_of_other h s s.deed r) before
-          ∙ other_stays_absorbed h s r s.deed (λ i forks. absorbed_born (sym before ∙ (fork_of root h b s r i allowed forks).new_name))))
+          status_others root h s r differs ∙ (ap (status_of_other h s s.step_kind r) before
+          ∙ other_stays_absorbed h s r s.step_kind (λ i forks. absorbed_born (sym before ∙ (fork_of root h b s r i allowed forks).new_name))))
     ]
 
 none_not_some : (x : Event) → None ≢ Some x
@@ -439,22 +439,22 @@ same_first : {X : Type 0} (x y : X) (xs ys : List X) → x ∷ xs ≡ y ∷ ys �
 same_first x y xs ys is = cc
 
 pub last_step : {root : Name} {whole : History} → IsLawful root whole → (s : Step) (h : History) → whole ≡ s ∷ h
-    → (b : Event) × (status root h s.process ≡ Living b) × IsAllowed root h b s s.deed
+    → (b : Event) × (status root h s.process ≡ Living b) × IsAllowed root h b s s.step_kind
 last_step start s h is = absurd (cc)
 last_step {root} (next {h = g} {s = t} {before = b} lawful living allowed) s h is =
     let same : t ≡ s = same_first t s g h is in
     let rest : g ≡ h = same_rest t s g h is in
-    subst (λ (k : History). (b : Event) × (status root k s.process ≡ Living b) × IsAllowed root k b s s.deed) rest
-    (b, ap (λ (u : Step). status root g u.process) (sym same) ∙ living, subst (λ (u : Step). IsAllowed root g b u u.deed) same allowed)
+    subst (λ (k : History). (b : Event) × (status root k s.process ≡ Living b) × IsAllowed root k b s s.step_kind) rest
+    (b, ap (λ (u : Step). status root g u.process) (sym same) ∙ living, subst (λ (u : Step). IsAllowed root g b u u.step_kind) same allowed)
 
-pub obeying_is_lawful : (root : Name) (h : History) (s : Step) (b : Event) → IsLawful root h → IsNewest root h s.process b → Obeys root h b s s.deed → IsLawful root (s ∷ h)
-obeying_is_lawful root h s b lawful newest obeys = next lawful (newest_lives lawful s.process b newest) (rule_allows root h b s lawful s.deed obeys)
+pub obeying_is_lawful : (root : Name) (h : History) (s : Step) (b : Event) → IsLawful root h → IsNewest root h s.process b → Obeys root h b s s.step_kind → IsLawful root (s ∷ h)
+obeying_is_lawful root h s b lawful newest obeys = next lawful (newest_lives lawful s.process b newest) (rule_allows root h b s lawful s.step_kind obeys)
 
 pub rules_are_the_law : RulesAreTheLaw
 rules_are_the_law root h s lawful = (
   λ longer.
       (let last = last_step longer s h refl in
-      (last.0, living_is_newest lawful s.process last.0 last.1, law_obeys root h last.0 s lawful s.deed last.2)),
+      (last.0, living_is_newest lawful s.process last.0 last.1, law_obeys root h last.0 s lawful s.step_kind last.2)),
   λ w. obeying_is_lawful root h s w.0 lawful w.1 w.2,
 )
 
@@ -464,8 +464,8 @@ absorbed_was : {root : Name} {h : History} → IsLawful root h → (p : Name) �
 absorbed_was {root} start p is = absurd (first_not_absorbed root p is)
 absorbed_was {root} (next {h = h} {s = s} {before = b} lawful living allowed) p is =
     elim (cases_name p s.process) [
-      | inl same ↦ absurd (actor_not_absorbed s.deed (event_of h s) (sym (status_acts root h s p same) ∙ is))
-      | inr differs ↦ elim (other_absorbed h s p s.deed (status root h p) (sym (status_others root h s p differs) ∙ is)) [
+      | inl same ↦ absurd (actor_not_absorbed s.step_kind (event_of h s) (sym (status_acts root h s p same) ∙ is))
+      | inr differs ↦ elim (other_absorbed h s p s.step_kind (status root h p) (sym (status_others root h s p differs) ∙ is)) [
         | inl before ↦ (let w = absorbed_was lawful p before in (w.0, earlier w.1, w.2))
         | inr absorbs ↦ (event_of h s, step, ap Does absorbs)
       ]

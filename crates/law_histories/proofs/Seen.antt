@@ -32,16 +32,16 @@ actor_lasts _ e = refl
 
 -- The step's event, and the birth by it, are last events.
 pub step_holds : (root : Name) (h : History) (s : Step) → Holds root (s ∷ h) s.process (event_of h s)
-step_holds root h s = ap last_of (status_acts root h s s.process refl) ∙ actor_lasts s.deed (event_of h s)
+step_holds root h s = ap last_of (status_acts root h s s.process refl) ∙ actor_lasts s.step_kind (event_of h s)
 
-pub birth_holds : (root : Name) (h : History) (s : Step) (c : Name) (i : IdTree) → c ≢ s.process → s.deed ≡ Fork c i → Holds root (s ∷ h) c (birth_by h s c i)
+pub birth_holds : (root : Name) (h : History) (s : Step) (c : Name) (i : IdTree) → c ≢ s.process → s.step_kind ≡ Fork c i → Holds root (s ∷ h) c (birth_by h s c i)
 birth_holds root h s c i differs forks =
     let there : status root (s ∷ h) c ≡ status_of_other h s (Fork c i) c (status root h c) =
     status_others root h s c differs ∙ ap (λ (a : StepKind). status_of_other h s a c (status root h c)) forks in
     ap last_of (there ∙ cond-true (bytes_eq c c) _ _ (bytes_same c c refl))
 
 -- The new events of a lawful step are last events.
-pub new_holds : (root : Name) (h : History) (b : Event) (s : Step) → status root h s.process ≡ Living b → IsAllowed root h b s s.deed
+pub new_holds : (root : Name) (h : History) (b : Event) (s : Step) → status root h s.process ≡ Living b → IsAllowed root h b s s.step_kind
     → (y : Event) → Entry root h s y → Occurs root h y ⊎ Holds root (s ∷ h) y.process y
 new_holds root h b s living allowed y (old occurs) = inl occurs
 new_holds root h b s living allowed y (stepped is) = inr (subst (λ (x : Event). Holds root (s ∷ h) x.process x) (sym is) (step_holds root h s))
@@ -49,7 +49,7 @@ new_holds root h b s living allowed y (child {c = c} {i = i} forks is) =
     inr (subst (λ (x : Event). Holds root (s ∷ h) x.process x) (sym is)
     (birth_holds root h s c i (child_differs root h b s c i living (fork_of root h b s c i allowed forks)) forks))
 
-module _ (root : Name) (h : History) (b : Event) (s : Step) (living : status root h s.process ≡ Living b) (allowed : IsAllowed root h b s s.deed)
+module _ (root : Name) (h : History) (b : Event) (s : Step) (living : status root h s.process ≡ Living b) (allowed : IsAllowed root h b s s.step_kind)
     (one_next : HasOneHolder root (s ∷ h)) (chained : IsChained root h) where
   -- the step sees something later than an earlier owner of a point that comes to it
   seen_by_step : (y : Event) (t : Point) → Source root h s t → Occurs root h y → Owns y.id t → GoesOn y → LaterIsInPast root (s ∷ h) (event_of h s) y
@@ -97,7 +97,7 @@ is_chained {root} (next {h = h} {s = s} {before = b} lawful living allowed) p e 
 abbrev pub IsSeen : Name → History → Type 0
 IsSeen root h = (x y : Event) (t : Point) → Occurs root h x → Occurs root h y → Owns y.id t → GoesOn y → value_at y.values t < value_at x.values t → LaterIsInPast root h x y
 
-module _ (root : Name) (h : History) (b : Event) (s : Step) (living : status root h s.process ≡ Living b) (allowed : IsAllowed root h b s s.deed)
+module _ (root : Name) (h : History) (b : Event) (s : Step) (living : status root h s.process ≡ Living b) (allowed : IsAllowed root h b s s.step_kind)
     (one_next : HasOneHolder root (s ∷ h)) (top_next : HasTop root (s ∷ h)) (chained : IsChained root h) (seen : IsSeen root h) where
   beyond_by_step : (y : Event) (t : Point) → Occurs root h y → Owns y.id t → GoesOn y → value_at y.values t < value_at s.stamp.events t → LaterIsInPast root (s ∷ h) (event_of h s) y
   beyond_by_step y t occurs owned goes_on less =

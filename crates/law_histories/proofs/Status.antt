@@ -14,12 +14,12 @@ use Rattle.report_line.specs.histories.Events.{Occurs, root_birth, step, birth, 
 abbrev pub Holds : Name → History → Name → Event → Type 0
 Holds root h p e = last_of (status root h p) ≡ Some e
 
-pub status_acts : (root : Name) (h : History) (s : Step) (p : Name) → p ≡ s.process → status root (s ∷ h) p ≡ status_of_actor s.deed (event_of h s)
+pub status_acts : (root : Name) (h : History) (s : Step) (p : Name) → p ≡ s.process → status root (s ∷ h) p ≡ status_of_actor s.step_kind (event_of h s)
 unfolding status
 status_acts root h s p is = cond-true (bytes_eq p s.process) _ _ (bytes_same p s.process is)
 
 pub status_others : (root : Name) (h : History) (s : Step) (p : Name) → p ≢ s.process
-    → status root (s ∷ h) p ≡ status_of_other h s s.deed p (status root h p)
+    → status root (s ∷ h) p ≡ status_of_other h s s.step_kind p (status root h p)
 unfolding status
 status_others root h s p differs = cond-false (bytes_eq p s.process) _ _ (bytes_other p s.process differs)
 
@@ -45,9 +45,9 @@ root_holds root = cond-true (bytes_eq root root) _ _ (bytes_same root root refl)
 
 -- Where a process's last event after a step comes from.
 pub data Origin (root : Name) (h : History) (s : Step) (p : Name) (e : Event) : Type 0 where
-  kept : p ≢ s.process → s.deed ≢ Absorb p → status root (s ∷ h) p ≡ status root h p → Origin root h s p e
+  kept : p ≢ s.process → s.step_kind ≢ Absorb p → status root (s ∷ h) p ≡ status root h p → Origin root h s p e
   acted : p ≡ s.process → e ≡ event_of h s → Origin root h s p e
-  born : {i : IdTree} → p ≢ s.process → s.deed ≡ Fork p i → e ≡ birth_by h s p i → status root (s ∷ h) p ≡ Living e → Origin root h s p e
+  born : {i : IdTree} → p ≢ s.process → s.step_kind ≡ Fork p i → e ≡ birth_by h s p i → status root (s ∷ h) p ≡ Living e → Origin root h s p e
 
 actor_last : (a : StepKind) (d e : Event) → last_of (status_of_actor a d) ≡ Some e → e ≡ d
 actor_last a d e last = grind arith
@@ -88,10 +88,10 @@ other_last h s p e (Retire q) before last = inl (refl, λ e. cc)
 pub origin : (root : Name) (h : History) (s : Step) (p : Name) (e : Event) → Holds root (s ∷ h) p e → Origin root h s p e
 origin root h s p e holds =
     elim (cases_name p s.process) [
-      | inl is ↦ acted is (actor_last s.deed (event_of h s) e (ap last_of (sym (status_acts root h s p is)) ∙ holds))
+      | inl is ↦ acted is (actor_last s.step_kind (event_of h s) e (ap last_of (sym (status_acts root h s p is)) ∙ holds))
       | inr differs ↦
           (let there = status_others root h s p differs in
-          elim (other_last h s p e s.deed (status root h p) (ap last_of (sym there) ∙ holds)) [
+          elim (other_last h s p e s.step_kind (status root h p) (ap last_of (sym there) ∙ holds)) [
             | inl w ↦ kept differs w.1 (there ∙ w.0)
             | inr w ↦ born {i = w.0} differs w.1 w.2 (there ∙ w.3)
           ])
@@ -121,7 +121,7 @@ held_process root (s ∷ h) p e holds =
 pub record IsUnbornAfter (root : Name) (h : History) (s : Step) (p : Name) : Type 0 where
   pub before : status root h p ≡ Unborn
   pub not_actor : p ≢ s.process
-  pub not_child : (i : IdTree) → s.deed ≢ Fork p i
+  pub not_child : (i : IdTree) → s.step_kind ≢ Fork p i
 
 actor_not_unborn : (a : StepKind) (e : Event) → status_of_actor a e ≢ Unborn
 actor_not_unborn a e unborn = grind arith
@@ -158,9 +158,9 @@ other_unborn h s p (Retire q) before unborn = (unborn, λ j e. cc)
 pub unborn_after : (root : Name) (h : History) (s : Step) (p : Name) → status root (s ∷ h) p ≡ Unborn → IsUnbornAfter root h s p
 unborn_after root h s p unborn =
     elim (cases_name p s.process) [
-      | inl is ↦ absurd (actor_not_unborn s.deed (event_of h s) (sym (status_acts root h s p is) ∙ unborn))
+      | inl is ↦ absurd (actor_not_unborn s.step_kind (event_of h s) (sym (status_acts root h s p is) ∙ unborn))
       | inr differs ↦
-          (let there = other_unborn h s p s.deed (status root h p) (sym (status_others root h s p differs) ∙ unborn) in
+          (let there = other_unborn h s p s.step_kind (status root h p) (sym (status_others root h s p differs) ∙ unborn) in
           record { before = there.0; not_actor = differs; not_child = there.1 })
     ]
 
@@ -184,7 +184,7 @@ number_within (birth forks) = omega arith
 number_within (earlier {h = h} {x = x} occurs) = (let before : x.number ≤ length h = number_within occurs in omega arith)
 
 -- A process that retired did so by its last event.
-actor_retired : (h : History) (s : Step) (e : Event) (q : Name) (a : StepKind) → s.deed ≡ a
+actor_retired : (h : History) (s : Step) (e : Event) (q : Name) (a : StepKind) → s.step_kind ≡ a
     → status_of_actor a (event_of h s) ≡ Retired e q → e.kind ≡ Does (Retire q)
 actor_retired h s e q a is both = grind arith
 
@@ -196,7 +196,7 @@ retired_by root [] p e q retired =
 retired_by root (s ∷ h) p e q retired =
     elim (origin root h s p e (ap last_of retired)) [
       | kept differs absorbs as_before ↦ retired_by root h p e q (sym as_before ∙ retired)
-      | acted is event ↦ actor_retired h s e q s.deed refl (sym (status_acts root h s p is) ∙ retired)
+      | acted is event ↦ actor_retired h s e q s.step_kind refl (sym (status_acts root h s p is) ∙ retired)
       | born differs forks event lives ↦ (let both : Living e ≡ Retired e q = sym lives ∙ retired in absurd (cc))
     ]
 
@@ -205,22 +205,22 @@ pub sent_occurs : (root : Name) (h : History) (m : Message) (e : Event) → send
 unfolding sending
 sent_occurs root [] m e is = absurd (cc)
 sent_occurs root (s ∷ h) m e is =
-    elim (cases_Bool (sends s.deed m)) [
+    elim (cases_Bool (sends s.step_kind m)) [
       | inl this ↦
-          (let same : Some (event_of h s) ≡ Some e = sym (cond-true (sends s.deed m) _ _ this) ∙ is in
+          (let same : Some (event_of h s) ≡ Some e = sym (cond-true (sends s.step_kind m) _ _ this) ∙ is in
           let event : event_of h s ≡ e = cc in
           subst (λ (x : Event). Occurs root (s ∷ h) x) event step)
-      | inr other ↦ earlier (sent_occurs root h m e (sym (cond-false (sends s.deed m) _ _ other) ∙ is))
+      | inr other ↦ earlier (sent_occurs root h m e (sym (cond-false (sends s.step_kind m) _ _ other) ∙ is))
     ]
 
 pub sent_by : (h : History) (m : Message) (e : Event) → sending h m ≡ Some e → (a : StepKind) × (e.kind ≡ Does a)
 unfolding sending
 sent_by [] m e is = absurd (cc)
 sent_by (s ∷ h) m e is =
-    elim (cases_Bool (sends s.deed m)) [
+    elim (cases_Bool (sends s.step_kind m)) [
       | inl this ↦
-          (let same : Some (event_of h s) ≡ Some e = sym (cond-true (sends s.deed m) _ _ this) ∙ is in
+          (let same : Some (event_of h s) ≡ Some e = sym (cond-true (sends s.step_kind m) _ _ this) ∙ is in
           let event : event_of h s ≡ e = cc in
-          (s.deed, ap (λ (x : Event). x.kind) (sym event)))
-      | inr other ↦ sent_by h m e (sym (cond-false (sends s.deed m) _ _ other) ∙ is)
+          (s.step_kind, ap (λ (x : Event). x.kind) (sym event)))
+      | inr other ↦ sent_by h m e (sym (cond-false (sends s.step_kind m) _ _ other) ∙ is)
     ]

@@ -44,10 +44,10 @@ came_by : (root : Name) (h : History) (b : Event) (s : Step) (t : Point) (a : St
     ⊎ ((r : Name) × (e : Event) × (a ≡ Absorb r) × (status root h r ≡ Retired e s.process) × (value_at s.stamp.events t ≤ value_at e.values t)))
 came_by root h b s t a w free = grind (arith, cases_lt)
 
-pub came_from : (root : Name) (h : History) (b : Event) (s : Step) (t : Point) → status root h s.process ≡ Living b → IsAllowed root h b s s.deed
+pub came_from : (root : Name) (h : History) (b : Event) (s : Step) (t : Point) → status root h s.process ≡ Living b → IsAllowed root h b s s.step_kind
     → owns b.id t ≡ false → CameFrom root h s t
 came_from root h b s t living w free =
-    elim (came_by root h b s t s.deed w free) [
+    elim (came_by root h b s t s.step_kind w free) [
       | inl own ↦ record { source = b; occurs = held_occurs root h s.process b (ap last_of living); edge = to_next living; no_less = own }
       | inr (inl got) ↦ record { source = got.1; occurs = sent_occurs root h got.0 got.1 got.3; edge = to_receive got.2 got.3; no_less = got.4 }
       | inr (inr got) ↦ record {
@@ -66,7 +66,7 @@ pub record Source (root : Name) (h : History) (s : Step) (t : Point) : Type 0 wh
   pub owned : Owns last.id t
   pub edge : Edge root (s ∷ h) last (event_of h s)
   pub no_more : value_at last.values t ≤ value_at s.stamp.events t
-  pub known : (holder ≡ s.process) ⊎ ((s.deed ≡ Absorb holder) × ((q : Name) × (last.kind ≡ Does (Retire q))))
+  pub known : (holder ≡ s.process) ⊎ ((s.step_kind ≡ Absorb holder) × ((q : Name) × (last.kind ≡ Does (Retire q))))
 
 own_by : (root : Name) (h : History) (b : Event) (s : Step) (t : Point) (a : StepKind) → IsAllowed root h b s a → Owns s.stamp.id t
     → Owns b.id t ⊎ ((r : Name) × (e : Event) × (a ≡ Absorb r) × (status root h r ≡ Retired e s.process) × Owns e.id t × (value_at e.values t ≤ value_at s.stamp.events t))
@@ -78,7 +78,7 @@ or_right a b e = grind (arith, cases_Bool)
 child_by : (root : Name) (h : History) (b : Event) (s : Step) (t : Point) (c : Name) (i : IdTree) → IsLawfulFork root h b s c i → Owns i t → Owns b.id t
 child_by root h b s t c i w owned = w.together t ∙ or_right (owns s.stamp.id t) (owns i t) owned
 
-module _ (root : Name) (h : History) (b : Event) (s : Step) (t : Point) (living : status root h s.process ≡ Living b) (w : IsAllowed root h b s s.deed) where
+module _ (root : Name) (h : History) (b : Event) (s : Step) (t : Point) (living : status root h s.process ≡ Living b) (w : IsAllowed root h b s s.step_kind) where
   pub own_source : Owns b.id t → Source root h s t
   own_source owned = record {
     holder = s.process;
@@ -86,13 +86,13 @@ module _ (root : Name) (h : History) (b : Event) (s : Step) (t : Point) (living 
     holds = ap last_of living;
     owned = owned;
     edge = to_next living;
-    no_more = never_falls_by root h b s s.deed w t;
+    no_more = never_falls_by root h b s s.step_kind w t;
     known = inl refl;
   }
 
   pub source : Owns s.stamp.id t → Source root h s t
   source owned =
-      elim (own_by root h b s t s.deed w owned) [
+      elim (own_by root h b s t s.step_kind w owned) [
         | inl own ↦ own_source own
         | inr got ↦ record {
           holder = got.0;
@@ -105,12 +105,12 @@ module _ (root : Name) (h : History) (b : Event) (s : Step) (t : Point) (living 
         }
       ]
 
-  pub child_source : (c : Name) (i : IdTree) → s.deed ≡ Fork c i → Owns i t → Source root h s t
+  pub child_source : (c : Name) (i : IdTree) → s.step_kind ≡ Fork c i → Owns i t → Source root h s t
   child_source c i forks owned = own_source (child_by root h b s t c i (subst (λ (a : StepKind). IsAllowed root h b s a) forks w) owned)
 
 -- What a fork asks.
 pub fork_of : (root : Name) (h : History) (b : Event) (s : Step) (c : Name) (i : IdTree)
-    → IsAllowed root h b s s.deed → s.deed ≡ Fork c i → IsLawfulFork root h b s c i
+    → IsAllowed root h b s s.step_kind → s.step_kind ≡ Fork c i → IsLawfulFork root h b s c i
 fork_of root h b s c i w is = subst (λ (a : StepKind). IsAllowed root h b s a) is w
 
 pub child_differs : (root : Name) (h : History) (b : Event) (s : Step) (c : Name) (i : IdTree)

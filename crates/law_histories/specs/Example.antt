@@ -2,6 +2,10 @@
 use Rattle.std.specs.Prelude.{ℕ, [], ◌∷◌}
 use Rattle.id_tree.specs.IdTree.{IdTree, Zero, One, Pair}
 use Rattle.event_tree.specs.EventTree.{EventTree, Leaf, Node}
+use Rattle.report_line.specs.declared.report.ReportKind.{ReportKind}
+use Rattle.report_line.specs.declared.report.ReportKind.TheVariants as report_kinds
+use Rattle.report_line.specs.declared.report.Report.{Report}
+use Rattle.report_line.specs.declared.report.Report.TheVariants as reports
 use Rattle.report_line.specs.declared.step.StepKind.{StepKind}
 use Rattle.report_line.specs.declared.step.StepKind.TheVariants.{Work, Check, Present, Send, Receive, Fork, Retire, Absorb}
 use Rattle.report_line.specs.declared.step.Step.{Step}
@@ -37,8 +41,16 @@ right = Pair Zero One
 abbrev pub halves : ℕ → ℕ → ℕ → EventTree
 halves n x y = Node n (Leaf x) (Leaf y)
 
+-- a report, and the fork that hands on the right half
+abbrev pub told : Name → ℕ → IdTree → EventTree → ReportKind → Report
+told process number id values action =
+    reports.Numbered (record { process = process; number = number; stamp = record { id = id; events = values }; action = action })
+
+abbrev pub forked : Name → ReportKind
+forked child = report_kinds.Fork (record { kept = left; child = child; given = right })
+
 abbrev pub act : Name → StepKind → IdTree → EventTree → Step
-act process deed id values = record { process = process; deed = deed; stamp = record { id = id; events = values } }
+act process step_kind id values = record { process = process; step_kind = step_kind; stamp = record { id = id; events = values } }
 
 -- The newest step first. One message is received twice and one never; one retirement is absorbed, and one, into a process
 -- that is not born, is not.

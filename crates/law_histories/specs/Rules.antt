@@ -67,7 +67,7 @@ Obeys root h before s (Absorb retired) = Absorbs root h before s retired
 abbrev pub RulesAreTheLaw : Type 0
 RulesAreTheLaw =
     (root : Name) (h : History) (s : Step) → IsLawful root h
-    → IsLawful root (s ∷ h) ↔ ((before : Event) × IsNewest root h s.process before × Obeys root h before s s.deed)
+    → IsLawful root (s ∷ h) ↔ ((before : Event) × IsNewest root h s.process before × Obeys root h before s s.step_kind)
 
 -- This retirement of the process into that one was not absorbed.
 pub record IsWaiting (root : Name) (h : History) (p into : Name) (x : Event) : Type 0 where

@@ -36,7 +36,7 @@ current (Settles cut ∷ log) = kept cut (current log)
 pub data IsObeyed (root : Name) : Log → Type 0 where
   nothing : IsObeyed root []
   made : {log : Log} {s : Step} {before : Event}
-      → IsObeyed root log → IsNewest root (current log) s.process before → Obeys root (current log) before s s.deed
+      → IsObeyed root log → IsNewest root (current log) s.process before → Obeys root (current log) before s s.step_kind
       → IsObeyed root (Made (epoch log) s ∷ log)
   left_behind : {log : Log} {e : ℕ} {s : Step} → IsObeyed root log → e < epoch log → IsObeyed root (Made e s ∷ log)
   settled : {log : Log} {cut : Cut} → IsObeyed root log → IsClosed root (current log) cut → IsObeyed root (Settles cut ∷ log)

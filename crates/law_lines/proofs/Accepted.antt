@@ -13,14 +13,14 @@ use Rattle.report_line.specs.declared.report.Report.{Report}
 use Rattle.report_line.specs.declared.report.Report.TheVariants.{Begin, Numbered}
 use Rattle.report_line.specs.histories.History.{Name, status}
 use Rattle.report_line.specs.histories.StepReports.{reports}
-use Rattle.law_histories.specs.Example.{a, b, c, d, left, right, halves, every_step}
+use Rattle.law_histories.specs.Example.{a, b, c, d, left, right, halves, every_step, told, forked}
 use Rattle.law_histories.proofs.Example.{Has, leaf, has, apart, both, some_left, some_right, every_step_is_lawful, below}
 use Rattle.chains.specs.Processes.{IsKnown}
 use Rattle.chains.specs.Admission.{AreGrown}
 use Rattle.chains.specs.Folded.{IsFit, IsFolded, nothing_folded, one_folded}
 use Rattle.chains.specs.Agrees.{BeginsWith, AreReportsOfSteps}
 use Rattle.law_lines.specs.Places.{IsPremise}
-use Rattle.law_lines.specs.Example.{told, forked, accepted_reports}
+use Rattle.law_lines.specs.Example.{accepted_reports}
 use Rattle.law_lines.proofs.Listed.{in_cases, none_in}
 use Rattle.law_lines.proofs.Agreeing.{step_of, begin_no_report}
 use Rattle.law_lines.proofs.Agreement.{reports_of_steps_agree}

@@ -43,7 +43,7 @@ pub begin_no_report : (root : Name) (h : History) (p : Name) (e : Event) → ¬ 
 begin_no_report root [] p e is = none_at_first is
 begin_no_report root (s ∷ h) p e is =
     elim (report_entry is) [
-      | of_step made event ↦ no_begin root h s p s.deed made
+      | of_step made event ↦ no_begin root h s p s.step_kind made
       | of_earlier before ↦ begin_no_report root h p e before
     ]
 
@@ -89,12 +89,12 @@ pub count_reports : (root p : Name) (h : History) → length (reports_by p (repo
 count_reports root p [] = refl
 count_reports root p (s ∷ h) =
     let old : length (reports_by p (reports root h)) ≡ reporting_steps p h = count_reports root p h in
-    let new : length (reports_by p (cons_option (report_of root h s) [])) ≡ cond (bytes_eq p s.process && is_reported s.deed) 1 0 = new_reports root p h s s.deed in
+    let new : length (reports_by p (cons_option (report_of root h s) [])) ≡ cond (bytes_eq p s.process && is_reported s.step_kind) 1 0 = new_reports root p h s s.step_kind in
     ap (λ (l : List Report). length l) (split_new root p h s)
     ∙ length-append (reports_by p (reports root h)) (reports_by p (cons_option (report_of root h s) []))
     ∙ ap (λ (n : ℕ). n + length (reports_by p (cons_option (report_of root h s) []))) old
     ∙ ap (λ (n : ℕ). reporting_steps p h + n) new
-    ∙ one_more (bytes_eq p s.process && is_reported s.deed) (reporting_steps p h)
+    ∙ one_more (bytes_eq p s.process && is_reported s.step_kind) (reporting_steps p h)
 
 single_by : (b : Bool) (x r : Report) (j : ℕ) → slice_get (cond b (x ∷ []) []) j ≡ Some r → (x ≡ r) × (j ≡ 0) × (b ≡ true)
 single_by false x r j is = absurd (cc)
@@ -112,7 +112,7 @@ number_at root p (s ∷ h) i r is =
       | inl front ↦ number_at root p h i r front
       | inr back ↦
           (let one = single p (report_of root h s) (Numbered r) back.0 back.2 in
-          let w = own_step h s s.deed r refl (says root h s r s.deed one.0) in
+          let w = own_step h s s.step_kind r refl (says root h s r s.step_kind one.0) in
           let own : p ≡ r.process = bytes_are p r.process one.2 in
           let number : r.number ≡ reporting_steps p h + 1 = w.0 ∙ ap (λ (x : Name). reporting_steps x h + 1) (sym own) in
           let count : length (reports_by p (reports root h)) ≡ reporting_steps p h = count_reports root p h in
@@ -133,10 +133,10 @@ number_order root (s ∷ h) r r' e e' same is is' less =
     let steps : reporting_steps r'.process h ≡ reporting_steps r.process h = same_steps h r.process r'.process same in
     elim (report_entry is) [
       | of_step made event ↦
-          (let w = own_step h s s.deed r refl (says root h s r s.deed made) in
+          (let w = own_step h s s.step_kind r refl (says root h s r s.step_kind made) in
           elim (report_entry is') [
             | of_step made' event' ↦
-                (let w' = own_step h s s.deed r' refl (says root h s r' s.deed made') in
+                (let w' = own_step h s s.step_kind r' refl (says root h s r' s.step_kind made') in
                 let a : r.number ≡ reporting_steps r.process h + 1 = w.0 in
                 let c : r'.number ≡ reporting_steps r'.process h + 1 = w'.0 in
                 absurd (omega arith))
@@ -147,7 +147,7 @@ number_order root (s ∷ h) r r' e e' same is is' less =
           ])
       | of_earlier before ↦ elim (report_entry is') [
         | of_step made' event' ↦
-            (let w' = own_step h s s.deed r' refl (says root h s r' s.deed made') in
+            (let w' = own_step h s s.step_kind r' refl (says root h s r' s.step_kind made') in
             let c : r'.number ≡ reporting_steps r'.process h + 1 = w'.0 in
             let d : r.number ≤ reporting_steps r.process h = number_up_to root h e r before in
             absurd (omega arith))

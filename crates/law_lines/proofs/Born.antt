@@ -11,35 +11,35 @@ use Rattle.report_line.specs.declared.report.ReportKind.TheVariants.{Check, Pres
 use Rattle.report_line.specs.declared.report.Report.{Report}
 use Rattle.report_line.specs.declared.report.Report.TheVariants.{Begin, Numbered}
 use Rattle.chains.specs.Processes.{Name, IsKnown, is_numbered_of, is_birth_of}
-use Rattle.chains.specs.Elements.{lasting_by, lasting_made, lasting_of}
+use Rattle.chains.specs.Elements.{stable_by, stable_made, stable_of}
 use Rattle.report_line.specs.declared.report.NumberedReport.{NumberedReport}
 use Rattle.report_line.specs.declared.report.ReportKind.{ReportKind}
 use Rattle.law_lines.proofs.Numbered.{is_born_by}
 use Rattle.chains.specs.Folded.{IsFitAction, IsFit, IsFolded, nothing_folded, one_folded}
 use Rattle.law_lines.proofs.Looking.{any_known, known_any}
 
-lasting_push : (p : Name) (accepted : List Report) (r : Report) → lasting_of p (accepted ++ r ∷ []) ≡ lasting_of p accepted ++ cons_option (lasting_made p r) []
-lasting_push p accepted r = filter_map-append (lasting_made p) accepted (r ∷ [])
+stable_push : (p : Name) (accepted : List Report) (r : Report) → stable_of p (accepted ++ r ∷ []) ≡ stable_of p accepted ++ cons_option (stable_made p r) []
+stable_push p accepted r = filter_map-append (stable_made p) accepted (r ∷ [])
 
-lasting_none : (p : Name) (accepted : List Report) (r : Report) → lasting_made p r ≡ None → lasting_of p (accepted ++ r ∷ []) ≡ lasting_of p accepted
-lasting_none p accepted r is = lasting_push p accepted r ∙ (ap (λ o. lasting_of p accepted ++ cons_option o []) is ∙ append-nil (lasting_of p accepted))
+stable_none : (p : Name) (accepted : List Report) (r : Report) → stable_made p r ≡ None → stable_of p (accepted ++ r ∷ []) ≡ stable_of p accepted
+stable_none p accepted r is = stable_push p accepted r ∙ (ap (λ o. stable_of p accepted ++ cons_option o []) is ∙ append-nil (stable_of p accepted))
 
-lasting_some : (p : Name) (accepted : List Report) (r : Report) (e : Stamp) → lasting_made p r ≡ Some e → lasting_of p (accepted ++ r ∷ []) ≡ lasting_of p accepted ++ e ∷ []
-lasting_some p accepted r e is = lasting_push p accepted r ∙ ap (λ o. lasting_of p accepted ++ cons_option o []) is
+stable_some : (p : Name) (accepted : List Report) (r : Report) (e : Stamp) → stable_made p r ≡ Some e → stable_of p (accepted ++ r ∷ []) ≡ stable_of p accepted ++ e ∷ []
+stable_some p accepted r e is = stable_push p accepted r ∙ ap (λ o. stable_of p accepted ++ cons_option o []) is
 
--- A report that makes a lasting element of p is a birth of p, or a checkpoint by p.
+-- A report that makes a stable element of p is a birth of p, or a checkpoint by p.
 only_if_some : {X : Type 0} (b : Bool) (x e : X) → cond b (Some x) None ≡ Some e → b ≡ true
 only_if_some true x e is = refl
 only_if_some false x e is = absurd (cc)
 
-made_as : (p : Name) (r : NumberedReport) (a : ReportKind) (e : Stamp) → lasting_by p r a ≡ Some e → (is_born_by p a ≡ true) ⊎ (bytes_eq p r.process ≡ true)
+made_as : (p : Name) (r : NumberedReport) (a : ReportKind) (e : Stamp) → stable_by p r a ≡ Some e → (is_born_by p a ≡ true) ⊎ (bytes_eq p r.process ≡ true)
 made_as p r Check e is = inr (only_if_some (bytes_eq p r.process) r.stamp e is)
 made_as p r Present e is = absurd (cc)
 made_as p r (Fork f) e is = inl (only_if_some (bytes_eq p f.child) _ e is)
 made_as p r (Retire target) e is = absurd (cc)
 made_as p r (Absorb retired) e is = absurd (cc)
 
-pub made_by : (p : Name) (r : Report) (e : Stamp) → lasting_made p r ≡ Some e → (is_birth_of p r ≡ true) ⊎ (is_numbered_of p r ≡ true)
+pub made_by : (p : Name) (r : Report) (e : Stamp) → stable_made p r ≡ Some e → (is_birth_of p r ≡ true) ⊎ (is_numbered_of p r ≡ true)
 made_by p (Begin q) e is = inl (only_if_some (bytes_eq p q) _ e is)
 made_by p (Numbered r) e is = made_as p r r.action e is
 
@@ -68,17 +68,17 @@ reporter_is_known p accepted (Numbered r) fit is =
     known_any accepted p (subst (λ (x : Name). IsKnown accepted x) (sym same) fit.is_known)
 
 -- Who is not known has no element.
-unknown_next : (p : Name) (before : List Report) (r : Report) → IsFit before r → list_any (is_birth_of p) before ≡ false → is_birth_of p r ≡ false → lasting_of p before ≡ []
-    → (o : Option Stamp) → lasting_made p r ≡ o → lasting_of p (before ++ r ∷ []) ≡ []
-unknown_next p before r fit unknown no_birth_here nothing_before None is = lasting_none p before r is ∙ nothing_before
+unknown_next : (p : Name) (before : List Report) (r : Report) → IsFit before r → list_any (is_birth_of p) before ≡ false → is_birth_of p r ≡ false → stable_of p before ≡ []
+    → (o : Option Stamp) → stable_made p r ≡ o → stable_of p (before ++ r ∷ []) ≡ []
+unknown_next p before r fit unknown no_birth_here nothing_before None is = stable_none p before r is ∙ nothing_before
 unknown_next p before r fit unknown no_birth_here nothing_before (Some e) is =
     elim (made_by p r e is) [
       | inl birth ↦ absurd (true≢false (sym birth ∙ no_birth_here))
       | inr own ↦ absurd (true≢false (sym (reporter_is_known p before r fit own) ∙ unknown))
     ]
 
-pub unknown_lasts_not : {accepted : List Report} → IsFolded accepted → (p : Name) → list_any (is_birth_of p) accepted ≡ false → lasting_of p accepted ≡ []
+pub unknown_lasts_not : {accepted : List Report} → IsFolded accepted → (p : Name) → list_any (is_birth_of p) accepted ≡ false → stable_of p accepted ≡ []
 unknown_lasts_not nothing_folded p unknown = refl
 unknown_lasts_not (one_folded before r folded fit) p unknown =
     let parts = or_parts (list_any (is_birth_of p) before) (list_any (is_birth_of p) (r ∷ [])) (sym (list_any-append (is_birth_of p) before (r ∷ [])) ∙ unknown) in
-    unknown_next p before r fit parts.0 (or_parts (is_birth_of p r) false parts.1).0 (unknown_lasts_not folded p parts.0) (lasting_made p r) refl
+    unknown_next p before r fit parts.0 (or_parts (is_birth_of p r) false parts.1).0 (unknown_lasts_not folded p parts.0) (stable_made p r) refl

@@ -19,7 +19,7 @@ use Rattle.report_line.specs.declared.report.Report.TheVariants.{Begin, Numbered
 use Rattle.chains.specs.declared.position.Position.{Position}
 use Rattle.chains.specs.declared.position.Position.TheVariants.{At, Retired}
 use Rattle.chains.specs.Processes.{Name, known, is_numbered_of, is_birth_of, reports_by, reports_of, last_report}
-use Rattle.chains.specs.Elements.{name_of, elements, lasting_by, lasting_made, lasting_of, makes_lasting, present_by, present_in, present_report, elements_of}
+use Rattle.chains.specs.Elements.{name_of, elements, stable_by, stable_made, stable_of, makes_stable, present_by, present_in, present_report, elements_of}
 use Rattle.chains.specs.Positions.{rank, position_in, IsChosen}
 use Rattle.chains.specs.Greatest.{IsGreatestCut}
 use Rattle.chains.specs.Folded.{IsFit, IsFolded, nothing_folded}
@@ -39,7 +39,7 @@ use Rattle.law_lines.proofs.Folding.{is_within, all_settled}
 use Rattle.law_lines.proofs.Born.{made_by, birth_is_new, reporter_is_known}
 use Rattle.law_lines.proofs.Made.{own_no_birth}
 use Rattle.law_lines.proofs.SettledClosing.{makes_some, present_maker, elements_named}
-use Rattle.law_lines.proofs.Lasting.{stands_at, as_many, all_made_kept, none_made_kept, none_passing_kept, last_middle}
+use Rattle.law_lines.proofs.Stable.{stands_at, as_many, all_made_kept, none_made_kept, none_passing_kept, last_middle}
 use Rattle.law_lines.proofs.Unborn.{contains_split, birth_is_settled, unborn_is_not_settled}
 
 -- ---- numbers in parts of a list
@@ -98,7 +98,7 @@ BirthsAre b limits accepted p = (y : Report) → Contains accepted y → is_birt
 number_own : (p : Name) (r : NumberedReport) → bytes_eq p r.process ≡ true → number_for p (Numbered r) ≡ r.number
 number_own p r own = cond-true (bytes_eq p r.process) _ _ own
 
-present_not : (p : Name) (r : NumberedReport) (b : ReportKind) (s : Stamp) → lasting_by p r b ≡ Some s → present_by r.stamp b ≡ []
+present_not : (p : Name) (r : NumberedReport) (b : ReportKind) (s : Stamp) → stable_by p r b ≡ Some s → present_by r.stamp b ≡ []
 present_not p r Check s is = refl
 present_not p r (Fork f) s is = refl
 present_not p r Present s is = absurd (cc)
@@ -111,8 +111,8 @@ module _ (accepted : List Report) (folded : IsFolded accepted) (limits : Limits)
   none_left zero_limit births =
       let own : (r : NumberedReport) → Contains accepted (Numbered r) → bytes_eq p r.process ≡ true → is_settled limits (Numbered r) ≡ false =
       λ r at is. own_left limits p r is (let more : 1 ≤ r.number = one_at_least accepted folded p r at is in omega arith) in
-      let lasts : lasting_of p (settled_by limits accepted) ≡ [] =
-      none_made_kept (lasting_made p) (is_settled limits) accepted (λ y s at made. left own y s at (made_by p y s made)) in
+      let lasts : stable_of p (settled_by limits accepted) ≡ [] =
+      none_made_kept (stable_made p) (is_settled limits) accepted (λ y s at made. left own y s at (made_by p y s made)) in
       let last : last_report p (settled_by limits accepted) ≡ None =
       none_passing_kept (is_numbered_of p) (is_settled limits) accepted (λ y at is. left_own own y at is) in
       ap (λ l. l ++ present_in (last_report p (settled_by limits accepted))) lasts ∙ ap present_in last
@@ -128,8 +128,8 @@ module _ (accepted : List Report) (folded : IsFolded accepted) (limits : Limits)
       left own y s at (inr is) = left_own own y at is
 
   -- all of a process is left whose reports are all within its limit
-  all_lasting : reports_of p accepted ≤ limits p → BirthsAre true limits accepted p → lasting_of p (settled_by limits accepted) ≡ lasting_of p accepted
-  all_lasting few births = all_made_kept (lasting_made p) (is_settled limits) accepted (λ y s at made. stays y at (made_by p y s made))
+  all_stable : reports_of p accepted ≤ limits p → BirthsAre true limits accepted p → stable_of p (settled_by limits accepted) ≡ stable_of p accepted
+  all_stable few births = all_made_kept (stable_made p) (is_settled limits) accepted (λ y s at made. stays y at (made_by p y s made))
     where
       stays : (y : Report) → Contains accepted y → (is_birth_of p y ≡ true) ⊎ (is_numbered_of p y ≡ true) → is_settled limits y ≡ true
       stays y at (inl birth) = births y at birth
@@ -138,11 +138,11 @@ module _ (accepted : List Report) (folded : IsFolded accepted) (limits : Limits)
 
   all_left : reports_of p accepted ≤ limits p → BirthsAre true limits accepted p → elements_of p (settled_by limits accepted) ≡ elements_of p accepted
   all_left few births =
-      ap (λ l. l ++ present_in (last_report p (settled_by limits accepted))) (all_lasting few births)
-      ∙ ap (λ o. lasting_of p accepted ++ present_in o) (all_settled folded p few).last
+      ap (λ l. l ++ present_in (last_report p (settled_by limits accepted))) (all_stable few births)
+      ∙ ap (λ o. stable_of p accepted ++ present_in o) (all_settled folded p few).last
 
-  -- up to a lasting element
-  module _ (before after : List Report) (m : Report) (s : Stamp) (parts : accepted ≡ before ++ m ∷ after) (makes : lasting_made p m ≡ Some s)
+  -- up to a stable element
+  module _ (before after : List Report) (m : Report) (s : Stamp) (parts : accepted ≡ before ++ m ∷ after) (makes : stable_made p m ≡ Some s)
       (here : limits p ≡ number_for p m) (births : BirthsAre true limits accepted p) where
     is_parts : IsFolded (before ++ m ∷ after)
     is_parts = subst (λ (l : List Report). IsFolded l) parts folded
@@ -243,12 +243,12 @@ module _ (accepted : List Report) (folded : IsFolded accepted) (limits : Limits)
         ap (settled_by limits) parts ∙ (filter-append (is_settled limits) before (m ∷ after)
         ∙ ap (λ l. settled_by limits before ++ l) (cond-true (is_settled limits m) (m ∷ settled_by limits after) (settled_by limits after) middle_kept))
 
-    lasts : lasting_of p (settled_by limits accepted) ≡ lasting_of p before ++ s ∷ []
+    lasts : stable_of p (settled_by limits accepted) ≡ stable_of p before ++ s ∷ []
     lasts =
-        ap (lasting_of p) list_parts ∙ (filter_map-append (lasting_made p) (settled_by limits before) (m ∷ settled_by limits after)
-        ∙ (ap (λ l. l ++ lasting_of p (m ∷ settled_by limits after)) (all_made_kept (lasting_made p) (is_settled limits) before (λ y t at made. front_kept y at (made_by p y t made)))
-        ∙ ap (λ l. lasting_of p before ++ l) (ap (λ o. cons_option o (lasting_of p (settled_by limits after))) makes
-        ∙ ap (λ l. s ∷ l) (none_made_kept (lasting_made p) (is_settled limits) after (λ y t at made. behind_left y at (made_by p y t made))))))
+        ap (stable_of p) list_parts ∙ (filter_map-append (stable_made p) (settled_by limits before) (m ∷ settled_by limits after)
+        ∙ (ap (λ l. l ++ stable_of p (m ∷ settled_by limits after)) (all_made_kept (stable_made p) (is_settled limits) before (λ y t at made. front_kept y at (made_by p y t made)))
+        ∙ ap (λ l. stable_of p before ++ l) (ap (λ o. cons_option o (stable_of p (settled_by limits after))) makes
+        ∙ ap (λ l. s ∷ l) (none_made_kept (stable_made p) (is_settled limits) after (λ y t at made. behind_left y at (made_by p y t made))))))
       where
         behind_left : (y : Report) → Contains after y → (is_birth_of p y ≡ true) ⊎ (is_numbered_of p y ≡ true) → is_settled limits y ≡ false
         behind_left y at (inl birth) = absurd (no_birth_behind y at birth)
@@ -271,26 +271,26 @@ module _ (accepted : List Report) (folded : IsFolded accepted) (limits : Limits)
         first_left (Begin q) at own none = absurd (true≢false (sym own))
         first_left (Numbered r) at own none = own_left limits p r own (let more : 1 ≤ r.number = one_at_least accepted folded p r at own in omega arith)
 
-        no_present_by : (x : Report) → lasting_made p x ≡ Some s → present_in (Some x) ≡ []
+        no_present_by : (x : Report) → stable_made p x ≡ Some s → present_in (Some x) ≡ []
         no_present_by (Begin q) is = refl
         no_present_by (Numbered r) is = present_not p r r.action s is
 
-    whole_lasts : lasting_of p accepted ≡ lasting_of p before ++ s ∷ lasting_of p after
+    whole_lasts : stable_of p accepted ≡ stable_of p before ++ s ∷ stable_of p after
     whole_lasts =
-        ap (lasting_of p) parts ∙ (filter_map-append (lasting_made p) before (m ∷ after) ∙ ap (λ o. lasting_of p before ++ cons_option o (lasting_of p after)) makes)
+        ap (stable_of p) parts ∙ (filter_map-append (stable_made p) before (m ∷ after) ∙ ap (λ o. stable_of p before ++ cons_option o (stable_of p after)) makes)
 
-    first_ones : (k : ℕ) → length (filter (makes_lasting p) before) ≡ k → elements_of p (settled_by limits accepted) ≡ take (suc k) (elements_of p accepted)
+    first_ones : (k : ℕ) → length (filter (makes_stable p) before) ≡ k → elements_of p (settled_by limits accepted) ≡ take (suc k) (elements_of p accepted)
     first_ones k count =
-        let rest : List Stamp = lasting_of p after ++ present_in (last_report p accepted) in
-        let same : elements_of p accepted ≡ (lasting_of p before ++ s ∷ []) ++ (lasting_of p after ++ present_in (last_report p accepted)) =
+        let rest : List Stamp = stable_of p after ++ present_in (last_report p accepted) in
+        let same : elements_of p accepted ≡ (stable_of p before ++ s ∷ []) ++ (stable_of p after ++ present_in (last_report p accepted)) =
         ap (λ l. l ++ present_in (last_report p accepted)) whole_lasts
-        ∙ (append_assoc (lasting_of p before) (s ∷ lasting_of p after) (present_in (last_report p accepted))
-        ∙ sym (append_assoc (lasting_of p before) (s ∷ []) (lasting_of p after ++ present_in (last_report p accepted)))) in
-        let many : length (filter (makes_lasting p) before) ≡ length (lasting_of p before) = as_many (lasting_made p) before in
-        let sum : length (lasting_of p before ++ s ∷ []) ≡ length (lasting_of p before) + 1 = length-append (lasting_of p before) (s ∷ []) in
+        ∙ (append_assoc (stable_of p before) (s ∷ stable_of p after) (present_in (last_report p accepted))
+        ∙ sym (append_assoc (stable_of p before) (s ∷ []) (stable_of p after ++ present_in (last_report p accepted)))) in
+        let many : length (filter (makes_stable p) before) ≡ length (stable_of p before) = as_many (stable_made p) before in
+        let sum : length (stable_of p before ++ s ∷ []) ≡ length (stable_of p before) + 1 = length-append (stable_of p before) (s ∷ []) in
         ap (λ l. l ++ present_in (last_report p (settled_by limits accepted))) lasts
-        ∙ (ap (λ l. (lasting_of p before ++ s ∷ []) ++ l) no_present ∙ append-nil (lasting_of p before ++ s ∷ [])
-        ∙ sym (ap (take (suc k)) same ∙ take_at (lasting_of p before ++ s ∷ []) (lasting_of p after ++ present_in (last_report p accepted)) (suc k) (omega arith)))
+        ∙ (ap (λ l. (stable_of p before ++ s ∷ []) ++ l) no_present ∙ append-nil (stable_of p before ++ s ∷ [])
+        ∙ sym (ap (take (suc k)) same ∙ take_at (stable_of p before ++ s ∷ []) (stable_of p after ++ present_in (last_report p accepted)) (suc k) (omega arith)))
 
 -- ---- the positions of a line
 
@@ -333,10 +333,10 @@ module _ (accepted : List Report) (failed : List ℕ) (line : List Position) (i 
           let m : Report = maker.0 in
           let count : limits_of accepted line p ≡ number_for p m = limit_is ∙ (ap (limit accepted p) at ∙ ap (λ o. option_map_or (number_for p) o 0) maker.1) in
           let births = births_settled (λ unborn. not_zero j (sym at ∙ unborn)) in
-          elim (at_append (filter (makes_lasting p) accepted) (present_report (last_report p accepted)) j m maker.1) [
-            | inl lasting ↦
-                (let stands = stands_at (makes_lasting p) accepted j m lasting in
-                let made = makes_some (lasting_made p m) stands.passing in
+          elim (at_append (filter (makes_stable p) accepted) (present_report (last_report p accepted)) j m maker.1) [
+            | inl stable ↦
+                (let stands = stands_at (makes_stable p) accepted j m stable in
+                let made = makes_some (stable_made p m) stands.passing in
                 first_ones accepted folded (limits_of accepted line) p stands.before stands.after m made.0 stands.parts made.1 count births j stands.count)
             | inr present ↦
                 (let by = present_maker accepted p (last_report p accepted) present.0 m refl present.2 in
@@ -344,23 +344,23 @@ module _ (accepted : List Report) (failed : List ℕ) (line : List Position) (i 
                 let number : r.number ≡ reports_of p accepted = last_number accepted p r folded by.last in
                 let own : bytes_eq p r.process ≡ true = passes (is_numbered_of p) accepted (Numbered r) by.last in
                 let value : number_for p m ≡ r.number = ap (number_for p) by.is ∙ number_own p r own in
-                let index : j ≡ length (filter (makes_lasting p) accepted) + present.0 = present.1 in
-                let many : length (filter (makes_lasting p) accepted) ≡ length (lasting_of p accepted) = as_many (lasting_made p) accepted in
+                let index : j ≡ length (filter (makes_stable p) accepted) + present.0 = present.1 in
+                let many : length (filter (makes_stable p) accepted) ≡ length (stable_of p accepted) = as_many (stable_made p) accepted in
                 let one : length (present_in (last_report p accepted)) ≤ 1 = one_present (last_report p accepted) in
-                let sum : length (elements_of p accepted) ≡ length (lasting_of p accepted) + length (present_in (last_report p accepted)) =
-                length-append (lasting_of p accepted) (present_in (last_report p accepted)) in
+                let sum : length (elements_of p accepted) ≡ length (stable_of p accepted) + length (present_in (last_report p accepted)) =
+                length-append (stable_of p accepted) (present_in (last_report p accepted)) in
                 all_left accepted folded (limits_of accepted line) p (omega arith) births
                 ∙ sym (take_all (suc j) (elements_of p accepted) (omega arith)))
           ]
 
   -- what lasts and is at or before the position lasts in the settled list
-  enough_at : (k : Position) → position_in line i ≡ k → IsChosen accepted failed i k → (n : ℕ) → n ≤ length (lasting_of p accepted) → ((j : ℕ) → position_in line i ≡ At j → n ≤ j)
-      → n ≤ length (lasting_of p (settled accepted line))
+  enough_at : (k : Position) → position_in line i ≡ k → IsChosen accepted failed i k → (n : ℕ) → n ≤ length (stable_of p accepted) → ((j : ℕ) → position_in line i ≡ At j → n ≤ j)
+      → n ≤ length (stable_of p (settled accepted line))
   enough_at (At zero) is chosen n few_enough up = (let none : n ≤ 0 = up 0 is in omega arith)
   enough_at Retired is chosen n few_enough up =
       let count : limits_of accepted line p ≡ reports_of p accepted = limit_is ∙ ap (limit accepted p) is in
-      let same : length (lasting_of p (settled accepted line)) ≡ length (lasting_of p accepted) =
-      ap (λ (l : List Stamp). length l) (all_lasting accepted folded (limits_of accepted line) p (omega arith) (births_settled (λ unborn. retired_at (sym is ∙ unborn)))) in
+      let same : length (stable_of p (settled accepted line)) ≡ length (stable_of p accepted) =
+      ap (λ (l : List Stamp). length l) (all_stable accepted folded (limits_of accepted line) p (omega arith) (births_settled (λ unborn. retired_at (sym is ∙ unborn)))) in
       omega arith
     where
       retired_at : Retired ≡ At 0 → ⊥
@@ -370,29 +370,29 @@ module _ (accepted : List Report) (failed : List ℕ) (line : List Position) (i 
       let few : suc k ≤ length (elements accepted i) = w.1 in
       elim (slice_get_cases (elements accepted i) k).1 [
         | inr past ↦ (let out : length (elements accepted i) ≤ k = past.0 in absurd (omega arith))
-        | inl there ↦ at_lasting k is there.0 (sym (ap (λ l. slice_get l k) (elements_named accepted i p named)) ∙ there.2) (up (suc k) is)
+        | inl there ↦ at_stable k is there.0 (sym (ap (λ l. slice_get l k) (elements_named accepted i p named)) ∙ there.2) (up (suc k) is)
       ]
     where
       not_zero : (j : ℕ) → At (suc j) ≡ At 0 → ⊥
       not_zero j e = cc
 
-      at_lasting : (j : ℕ) → position_in line i ≡ At (suc j) → (s : Stamp) → slice_get (elements_of p accepted) j ≡ Some s → n ≤ suc j
-          → n ≤ length (lasting_of p (settled accepted line))
-      at_lasting j at s found within_position =
+      at_stable : (j : ℕ) → position_in line i ≡ At (suc j) → (s : Stamp) → slice_get (elements_of p accepted) j ≡ Some s → n ≤ suc j
+          → n ≤ length (stable_of p (settled accepted line))
+      at_stable j at s found within_position =
           let maker = has_maker p accepted j s found in
           let m : Report = maker.0 in
           let count : limits_of accepted line p ≡ number_for p m = limit_is ∙ (ap (limit accepted p) at ∙ ap (λ o. option_map_or (number_for p) o 0) maker.1) in
           let births = births_settled (λ unborn. not_zero j (sym at ∙ unborn)) in
-          elim (at_append (filter (makes_lasting p) accepted) (present_report (last_report p accepted)) j m maker.1) [
-            | inl lasting ↦
-                (let stands = stands_at (makes_lasting p) accepted j m lasting in
-                let makes = makes_some (lasting_made p m) stands.passing in
-                let all : lasting_of p (settled accepted line) ≡ lasting_of p stands.before ++ makes.0 ∷ [] =
+          elim (at_append (filter (makes_stable p) accepted) (present_report (last_report p accepted)) j m maker.1) [
+            | inl stable ↦
+                (let stands = stands_at (makes_stable p) accepted j m stable in
+                let makes = makes_some (stable_made p m) stands.passing in
+                let all : stable_of p (settled accepted line) ≡ stable_of p stands.before ++ makes.0 ∷ [] =
                 lasts accepted folded (limits_of accepted line) p stands.before stands.after m makes.0 stands.parts makes.1 count births in
-                let same : length (lasting_of p (settled accepted line)) ≡ length (lasting_of p stands.before ++ makes.0 ∷ []) = ap (λ (l : List Stamp). length l) all in
-                let sum : length (lasting_of p stands.before ++ makes.0 ∷ []) ≡ length (lasting_of p stands.before) + 1 = length-append (lasting_of p stands.before) (makes.0 ∷ []) in
-                let many : length (filter (makes_lasting p) stands.before) ≡ length (lasting_of p stands.before) = as_many (lasting_made p) stands.before in
-                let index : length (filter (makes_lasting p) stands.before) ≡ j = stands.count in
+                let same : length (stable_of p (settled accepted line)) ≡ length (stable_of p stands.before ++ makes.0 ∷ []) = ap (λ (l : List Stamp). length l) all in
+                let sum : length (stable_of p stands.before ++ makes.0 ∷ []) ≡ length (stable_of p stands.before) + 1 = length-append (stable_of p stands.before) (makes.0 ∷ []) in
+                let many : length (filter (makes_stable p) stands.before) ≡ length (stable_of p stands.before) = as_many (stable_made p) stands.before in
+                let index : length (filter (makes_stable p) stands.before) ≡ j = stands.count in
                 omega arith)
             | inr present ↦
                 (let by = present_maker accepted p (last_report p accepted) present.0 m refl present.2 in
@@ -400,13 +400,13 @@ module _ (accepted : List Report) (failed : List ℕ) (line : List Position) (i 
                 let number : r.number ≡ reports_of p accepted = last_number accepted p r folded by.last in
                 let own : bytes_eq p r.process ≡ true = passes (is_numbered_of p) accepted (Numbered r) by.last in
                 let value : number_for p m ≡ r.number = ap (number_for p) by.is ∙ number_own p r own in
-                let same : length (lasting_of p (settled accepted line)) ≡ length (lasting_of p accepted) =
-                ap (λ (l : List Stamp). length l) (all_lasting accepted folded (limits_of accepted line) p (omega arith) births) in
+                let same : length (stable_of p (settled accepted line)) ≡ length (stable_of p accepted) =
+                ap (λ (l : List Stamp). length l) (all_stable accepted folded (limits_of accepted line) p (omega arith) births) in
                 omega arith)
           ]
 
-  pub lasting_enough : (n : ℕ) → n ≤ length (lasting_of p accepted) → ((j : ℕ) → position_in line i ≡ At j → n ≤ j) → n ≤ length (lasting_of p (settled accepted line))
-  lasting_enough n few up = enough_at (position_in line i) refl (greatest.is_one.is_cut.chosen i (slice_get_within (known accepted) i p named)) n few up
+  pub stable_enough : (n : ℕ) → n ≤ length (stable_of p accepted) → ((j : ℕ) → position_in line i ≡ At j → n ≤ j) → n ≤ length (stable_of p (settled accepted line))
+  stable_enough n few up = enough_at (position_in line i) refl (greatest.is_one.is_cut.chosen i (slice_get_within (known accepted) i p named)) n few up
 
 pub settled_elements : SettledElements
 settled_elements accepted failed line i p folded greatest named =

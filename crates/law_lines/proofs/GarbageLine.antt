@@ -14,7 +14,7 @@ use Rattle.report_line.specs.declared.report.Report.TheVariants.{Numbered}
 use Rattle.chains.specs.declared.position.Position.{Position}
 use Rattle.chains.specs.declared.position.Position.TheVariants.{At, Retired}
 use Rattle.chains.specs.Processes.{known, last_report, birth_report, first_of, events_after, last_events, target_in, target_after, target_of}
-use Rattle.chains.specs.Elements.{lasting_of, present_in, elements_of, name_of, elements, lasting, element}
+use Rattle.chains.specs.Elements.{stable_of, present_in, elements_of, name_of, elements, stable, element}
 use Rattle.chains.specs.Positions.{is_retired, rank, position_in, IsChosen, IsCut}
 use Rattle.chains.specs.Knowledge.{retired_events}
 use Rattle.chains.specs.Folded.{IsFolded, nothing_folded}
@@ -30,7 +30,7 @@ use Rattle.law_lines.proofs.Listed.{at_append, at_front}
 use Rattle.law_lines.proofs.Placed.{element_of}
 use Rattle.law_lines.proofs.Ordered.{one_event, element_at, retired_by_report, same_name}
 use Rattle.law_lines.proofs.Closing.{chosen_event, closed_is_consistent}
-use Rattle.law_lines.proofs.Longer.{LeadsTo, EachIsFit, leads_on, front_folded, folded_on, agrees_back, name_on, lasting_on, retirement_on}
+use Rattle.law_lines.proofs.Longer.{LeadsTo, EachIsFit, leads_on, front_folded, folded_on, agrees_back, name_on, stable_on, retirement_on}
 
 -- ---- a cut with more processes, which are unborn
 
@@ -58,8 +58,8 @@ retired_from_last accepted p name r q is last retires =
           ∙ ap (λ (o : Option Report). Some (events_after (first_of o (birth_report name accepted)))) last,
     )
 
-lasting_is : (accepted : List Report) (p : ℕ) (name : Name) → name_of accepted p ≡ Some name → lasting accepted p ≡ lasting_of name accepted
-lasting_is accepted p name is = ap (λ (o : Option Name). option_map_or (λ x. lasting_of x accepted) o []) is
+stable_is : (accepted : List Report) (p : ℕ) (name : Name) → name_of accepted p ≡ Some name → stable accepted p ≡ stable_of name accepted
+stable_is accepted p name is = ap (λ (o : Option Name). option_map_or (λ x. stable_of x accepted) o []) is
 
 elements_are : (accepted : List Report) (p : ℕ) (name : Name) → name_of accepted p ≡ Some name → elements accepted p ≡ elements_of name accepted
 elements_are accepted p name is = ap (λ (o : Option Name). option_map_or (λ x. elements_of x accepted) o []) is
@@ -73,26 +73,26 @@ module _ (root : Name) (h : History) (front accepted : List Report) (folded : Is
   after = record { folded = folded_on folded way; lawful = lawful; agrees = agrees }
 
   -- an element that lasts
-  lasting_element : (p i : ℕ) (s : Stamp) → element front p (suc i) ≡ Some s → suc i ≤ length (lasting front p) → (name : Name) × (name_of front p ≡ Some name) × (slice_get (lasting_of name front) i ≡ Some s)
-  lasting_element p i s is within =
+  stable_element : (p i : ℕ) (s : Stamp) → element front p (suc i) ≡ Some s → suc i ≤ length (stable front p) → (name : Name) × (name_of front p ≡ Some name) × (slice_get (stable_of name front) i ≡ Some s)
+  stable_element p i s is within =
       let w = element_of front p (suc i) s is in
       let index : suc i ≡ suc w.index = w.is_index in
       let same : w.index ≡ i = omega arith in
-      let long : length (lasting front p) ≡ length (lasting_of w.name front) = ap (λ (l : List Stamp). length l) (lasting_is front p w.name w.is_name) in
+      let long : length (stable front p) ≡ length (stable_of w.name front) = ap (λ (l : List Stamp). length l) (stable_is front p w.name w.is_name) in
       let there : slice_get (elements_of w.name front) i ≡ Some s = ap (λ (j : ℕ). slice_get (elements_of w.name front) j) (sym same) ∙ w.is_element in
-      elim (at_append (lasting_of w.name front) (present_in (last_report w.name front)) i s there) [
+      elim (at_append (stable_of w.name front) (present_in (last_report w.name front)) i s there) [
         | inl lasts ↦ (w.name, w.is_name, lasts)
-        | inr past ↦ (let out : i ≡ length (lasting_of w.name front) + past.0 = past.1 in absurd (omega arith))
+        | inr past ↦ (let out : i ≡ length (stable_of w.name front) + past.0 = past.1 in absurd (omega arith))
       ]
 
-  element_on : (p i : ℕ) (s : Stamp) → element front p (suc i) ≡ Some s → suc i ≤ length (lasting front p) → (element accepted p (suc i) ≡ Some s) × (suc i ≤ length (lasting accepted p))
+  element_on : (p i : ℕ) (s : Stamp) → element front p (suc i) ≡ Some s → suc i ≤ length (stable front p) → (element accepted p (suc i) ≡ Some s) × (suc i ≤ length (stable accepted p))
   element_on p i s is within =
-      let w = lasting_element p i s is within in
+      let w = stable_element p i s is within in
       let name = name_on way p w.0 w.1 in
-      let there = lasting_on way w.0 i s w.2 in
-      let inside : i < length (lasting_of w.0 accepted) = slice_get_within (lasting_of w.0 accepted) i s there in
-      let long : length (lasting accepted p) ≡ length (lasting_of w.0 accepted) = ap (λ (l : List Stamp). length l) (lasting_is accepted p w.0 name) in
-      (ap (λ (l : List Stamp). slice_get l i) (elements_are accepted p w.0 name) ∙ at_front (lasting_of w.0 accepted) (present_in (last_report w.0 accepted)) i s there, omega arith)
+      let there = stable_on way w.0 i s w.2 in
+      let inside : i < length (stable_of w.0 accepted) = slice_get_within (stable_of w.0 accepted) i s there in
+      let long : length (stable accepted p) ≡ length (stable_of w.0 accepted) = ap (λ (l : List Stamp). length l) (stable_is accepted p w.0 name) in
+      (ap (λ (l : List Stamp). slice_get l i) (elements_are accepted p w.0 name) ∙ at_front (stable_of w.0 accepted) (present_in (last_report w.0 accepted)) i s there, omega arith)
 
   retired_on : (p : ℕ) → is_retired front p ≡ true → (is_retired accepted p ≡ true) × (retired_events accepted p ≡ retired_events front p)
   retired_on p is =
@@ -124,7 +124,7 @@ module _ (root : Name) (h : History) (front accepted : List Report) (folded : Is
         | inl s ↦
             (let on = element_on p i s.0 s.2 (w.2 there) in
             let inside : i < length (elements accepted p) = slice_get_within (elements accepted p) i s.0 on.0 in
-            let lasts : suc i ≤ length (lasting accepted p) = on.1 in
+            let lasts : suc i ≤ length (stable accepted p) = on.1 in
             inr (omega arith, omega arith, λ is_failed. lasts))
         | inr past ↦ (let out : length (elements front p) ≤ i = past.0 in absurd (omega arith))
       ]

@@ -14,7 +14,7 @@ use Rattle.report_line.specs.histories.History.{Name, History}
 use Rattle.chains.specs.declared.position.Position.{Position}
 use Rattle.chains.specs.declared.position.Position.TheVariants.{At, Retired}
 use Rattle.chains.specs.Processes.{known, is_birth_of, target_after, target_of}
-use Rattle.chains.specs.Elements.{name_of, lasting, lasting_of}
+use Rattle.chains.specs.Elements.{name_of, stable, stable_of}
 use Rattle.chains.specs.Positions.{position_in, IsChosen}
 use Rattle.chains.specs.Knowledge.{Knows}
 use Rattle.chains.specs.Folded.{IsFolded}
@@ -52,10 +52,10 @@ in_range n p less =
 
 -- what is chosen where the process failed lasts
 chosen_lasts : (xs : List Report) (all : List ℕ) (i : ℕ) (p : Name) → name_of xs i ≡ Some p → Contains all i → (k : Position) → IsChosen xs all i k → Lasts xs p k
-chosen_lasts xs all i p is there k (inl unborn) = subst (λ (j : Position). Lasts xs p j) (sym unborn) (let least : 0 ≤ length (lasting_of p xs) = omega arith in least)
+chosen_lasts xs all i p is there k (inl unborn) = subst (λ (j : Position). Lasts xs p j) (sym unborn) (let least : 0 ≤ length (stable_of p xs) = omega arith in least)
 chosen_lasts xs all i p is there (At k) (inr w) =
-    let few : k ≤ length (lasting xs i) = w.2 there in
-    let same : length (lasting xs i) ≡ length (lasting_of p xs) = ap (λ (l : List Stamp). length l) (ap (λ (o : Option Name). option_map_or (λ name. lasting_of name xs) o []) is) in
+    let few : k ≤ length (stable xs i) = w.2 there in
+    let same : length (stable xs i) ≡ length (stable_of p xs) = ap (λ (l : List Stamp). length l) (ap (λ (o : Option Name). option_map_or (λ name. stable_of name xs) o []) is) in
     omega arith
 chosen_lasts xs all i p is there Retired (inr w) = sym (ap (λ (o : Option Name). option_map_or (λ name. is_some (target_of name xs)) o false) is) ∙ w
 
@@ -63,7 +63,7 @@ chosen_lasts xs all i p is there Retired (inr w) = sym (ap (λ (o : Option Name)
 unknown_at_zero : (xs : List Report) → IsFolded xs → (p : Name) → list_any (is_birth_of p) xs ≡ false → (k : Position) → Lasts xs p k → k ≡ At 0
 unknown_at_zero xs folded p unknown (At zero) lasts = refl
 unknown_at_zero xs folded p unknown (At (suc k)) lasts =
-    let none : length (lasting_of p xs) ≡ 0 = ap (λ (l : List Stamp). length l) (unknown_lasts_not folded p unknown) in absurd (omega arith)
+    let none : length (stable_of p xs) ≡ 0 = ap (λ (l : List Stamp). length l) (unknown_lasts_not folded p unknown) in absurd (omega arith)
 unknown_at_zero xs folded p unknown Retired lasts =
     let none : is_some (target_of p xs) ≡ false = ap (λ o. is_some (target_after o)) (unknown_has_nothing folded p unknown).last in absurd (true≢false (sym lasts ∙ none))
 
@@ -143,7 +143,7 @@ module _ (root : Name) (h : History) (front : List Report) (r : Report) (cut : N
               (subst (λ (k : Position). IsChosen (front ++ r ∷ []) (range_with_len 0 (length (known (front ++ r ∷ [])))) i.0 k) (same_cut i.0 p i.1) (longer_one.is_cut.chosen i.0 less)))
           | inr unknown ↦
               subst (λ (k : Position). Lasts (front ++ r ∷ []) p k) (sym (unborn_if_new p (unknown_before p unknown)))
-              (let least : 0 ≤ length (lasting_of p (front ++ r ∷ [])) = omega arith in least)
+              (let least : 0 ≤ length (stable_of p (front ++ r ∷ [])) = omega arith in least)
         ];
     consistent = λ i j p q is is' knows.
         longer_one.consistent i j (slice_get_within (known (front ++ r ∷ [])) i p is) (slice_get_within (known (front ++ r ∷ [])) j q is')
@@ -181,7 +181,7 @@ garbage_is_safe xs folded all garbage each greatest = record {
         | inr unknown ↦
             subst (λ (k : Position). Lasts xs p k)
             (sym (position_none (known xs) garbage p (λ j there. true≢false (sym (known_any xs p (known_from xs j p there)) ∙ unknown))))
-            (let least : 0 ≤ length (lasting_of p xs) = omega arith in least)
+            (let least : 0 ≤ length (stable_of p xs) = omega arith in least)
       ];
   consistent = λ i j p q is is' knows.
       greatest.is_one.consistent i j (slice_get_within (known xs) i p is) (slice_get_within (known xs) j q is')

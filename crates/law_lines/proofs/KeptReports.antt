@@ -243,13 +243,13 @@ unreported root h g s (Absorb q) is = absurd (cc)
 -- a step that is kept is reported as it was
 same_report : (root : Name) (h : History) (cut : Cut) (s : Step) (b : Event) → IsLawful root (s ∷ h) → IsLawful root h → IsClosed root (s ∷ h) cut → status root h s.process ≡ Living b
     → cut (event_of h s) ≡ true → (o : Option Report) → report_of root h s ≡ o → report_of root (kept cut h) s ≡ o
-same_report root h cut s b whole lawful is_closed living reached None is = unreported root h (kept cut h) s s.deed is
-same_report root h cut s b whole lawful is_closed living reached (Some (Begin q)) is = absurd (no_begin root h s q s.deed is)
+same_report root h cut s b whole lawful is_closed living reached None is = unreported root h (kept cut h) s s.step_kind is
+same_report root h cut s b whole lawful is_closed living reached (Some (Begin q)) is = absurd (no_begin root h s q s.step_kind is)
 same_report root h cut s b whole lawful is_closed living reached (Some (Numbered r)) is =
     let there = each_report_is_kept root (s ∷ h) cut (Numbered r) (event_of h s) whole is_closed (newest is) reached in
-    let made = own_step h s s.deed r refl (says root h s r s.deed is) in
+    let made = own_step h s s.step_kind r refl (says root h s r s.step_kind is) in
     let number : r.number ≡ reporting_steps r.process h + 1 = made.0 in
-    let of_step_process : r.process ≡ s.process = (says root h s r s.deed is).process in
+    let of_step_process : r.process ≡ s.process = (says root h s r s.step_kind is).process in
     let steps : reporting_steps s.process (kept cut h) ≡ reporting_steps s.process h =
     steps_kept lawful cut (closed_before root cut h s is_closed) s.process b living (is_closed b (event_of h s) (to_next living) reached) in
     let own_steps : reporting_steps r.process (kept cut h) ≡ reporting_steps r.process h =

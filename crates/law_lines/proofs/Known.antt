@@ -18,7 +18,7 @@ use Rattle.chains.specs.declared.position.Place.{Place}
 use Rattle.chains.specs.declared.position.Position.{Position}
 use Rattle.chains.specs.declared.position.Position.TheVariants.{At, Retired}
 use Rattle.chains.specs.Processes.{child_of, newborn, known, last_report}
-use Rattle.chains.specs.Elements.{lasting_by, lasting_made, lasting_of, present_in, elements_of, name_of, elements, element}
+use Rattle.chains.specs.Elements.{stable_by, stable_made, stable_of, present_in, elements_of, name_of, elements, element}
 use Rattle.chains.specs.Positions.{IsChosen}
 use Rattle.chains.specs.Knowledge.{Knows}
 use Rattle.chains.specs.Folded.{IsFolded}
@@ -46,7 +46,7 @@ pub record IsBirthEvent (root : Name) (h : History) (p : Name) (s : Stamp) (e : 
   pub kind : e.kind ≡ Birth
 
 born_by : (root : Name) (h : History) (accepted : List Report) → Agrees root h accepted → (p : Name) (r : Report) → Contains accepted r → newborn r ≡ Some p
-    → (s : Stamp) × (e : Event) × (lasting_made p r ≡ Some s) × IsBirthEvent root h p s e
+    → (s : Stamp) × (e : Event) × (stable_made p r ≡ Some s) × IsBirthEvent root h p s e
 born_by root h accepted agrees p (Begin q) at is =
     let s : Stamp = record { id = One; events = Leaf 0 } in
     let same : q ≡ p = same_name q p is in (
@@ -57,7 +57,7 @@ born_by root h accepted agrees p (Begin q) at is =
     )
 born_by root h accepted agrees p (Numbered r) at is = by r.action refl is
   where
-    by : (b : ReportKind) → r.action ≡ b → child_of b ≡ Some p → (s : Stamp) × (e : Event) × (lasting_by p r b ≡ Some s) × IsBirthEvent root h p s e
+    by : (b : ReportKind) → r.action ≡ b → child_of b ≡ Some p → (s : Stamp) × (e : Event) × (stable_by p r b ≡ Some s) × IsBirthEvent root h p s e
     by (reported.Fork f) forks born_is =
         let s : Stamp = record { id = f.given; events = r.stamp.events } in
         let same : f.child ≡ p = same_name f.child p born_is in
@@ -75,12 +75,12 @@ pub birth_element : (root : Name) (h : History) (accepted : List Report) → Agr
 birth_element root h accepted agrees q p is =
     let made = made_in newborn accepted q p is in
     let born = born_by root h accepted agrees p made.0 made.1 made.2 in
-    let there = in_made (lasting_made p) accepted made.0 born.0 made.1 born.2 in (
+    let there = in_made (stable_made p) accepted made.0 born.0 made.1 born.2 in (
       there.0,
       born.0,
       born.1,
       ap (λ (o : Option Name). slice_get (option_map_or (λ name. elements_of name accepted) o []) there.0) is
-          ∙ at_front (lasting_of p accepted) (present_in (last_report p accepted)) there.0 born.0 there.1,
+          ∙ at_front (stable_of p accepted) (present_in (last_report p accepted)) there.0 born.0 there.1,
       born.3,
     )
 

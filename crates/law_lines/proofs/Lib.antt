@@ -24,7 +24,7 @@ pub mod SettledClosing
 pub mod Runs
 pub mod Logs
 pub mod Unborn
-pub mod Lasting
+pub mod Stable
 pub mod Elements
 pub mod Written
 pub mod Standing

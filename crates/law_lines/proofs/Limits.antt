@@ -14,7 +14,7 @@ use Rattle.report_line.specs.declared.report.Report.TheVariants.{Begin, Numbered
 use Rattle.chains.specs.declared.position.Position.{Position}
 use Rattle.chains.specs.declared.position.Position.TheVariants.{At}
 use Rattle.chains.specs.Processes.{Name, known, first_of, last_report}
-use Rattle.chains.specs.Elements.{only_if, lasting_by, present_by, present_report_by, present_report, makes_lasting, makers_of, elements_of, element_made, name_of}
+use Rattle.chains.specs.Elements.{only_if, stable_by, present_by, present_report_by, present_report, makes_stable, makers_of, elements_of, element_made, name_of}
 use Rattle.chains.specs.Positions.{position_in}
 use Rattle.chains.specs.Folded.{IsFolded}
 use Rattle.chains.proofs.Making.{makers_make}
@@ -61,8 +61,8 @@ last_maker (Some (Numbered x)) j m is = ap Some (one_present x x.action j m is)
 
 pub maker_in : (accepted : List Report) (p : Name) (k : ℕ) (m : Report) → slice_get (makers_of p accepted) k ≡ Some m → Contains accepted m
 maker_in accepted p k m is =
-    elim (at_append (filter (makes_lasting p) accepted) (present_report (last_report p accepted)) k m is) [
-      | inl there ↦ (in_filter (makes_lasting p) accepted m (in_at (filter (makes_lasting p) accepted) k m there)).0
+    elim (at_append (filter (makes_stable p) accepted) (present_report (last_report p accepted)) k m is) [
+      | inl there ↦ (in_filter (makes_stable p) accepted m (in_at (filter (makes_stable p) accepted) k m there)).0
       | inr there ↦ last_in _ accepted m (last_maker (last_report p accepted) there.0 m there.2)
     ]
 
@@ -103,7 +103,7 @@ only_is true x y is = sym (same_Some x y is)
 only_is false x y is = absurd (cc)
 
 -- an element has the events of the report that made it
-events_by : (p : Name) (r : NumberedReport) (b : ReportKind) (s : Stamp) → first_of (lasting_by p r b) (slice_get (present_by r.stamp b) 0) ≡ Some s → s.events ≡ r.stamp.events
+events_by : (p : Name) (r : NumberedReport) (b : ReportKind) (s : Stamp) → first_of (stable_by p r b) (slice_get (present_by r.stamp b) 0) ≡ Some s → s.events ≡ r.stamp.events
 events_by p r Check s is = ap (λ (u : Stamp). u.events) (only_is (bytes_eq p r.process) r.stamp s is)
 events_by p r Present s is = ap (λ (u : Stamp). u.events) (sym (same_Some r.stamp s is))
 events_by p r (Fork f) s is = ap (λ (u : Stamp). u.events) (only_is (bytes_eq p f.child) (record { id = f.given; events = r.stamp.events }) s is)

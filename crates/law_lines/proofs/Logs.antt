@@ -30,7 +30,7 @@ log_obeyed nothing = log_nothing
 log_obeyed {root} (made {run = run} {s = s} {before = b} obeyed newest obeys) =
     subst (λ (n : ℕ). IsObeyedLog root (LogMade n s ∷ log_of run)) (epoch_same run)
     (log_made (log_obeyed obeyed) (subst (λ (h : History). IsNewest root h s.process b) (sym (current_same run)) newest)
-    (subst (λ (h : History). Obeys root h b s s.deed) (sym (current_same run)) obeys))
+    (subst (λ (h : History). Obeys root h b s s.step_kind) (sym (current_same run)) obeys))
 log_obeyed (left_behind {run = run} {e = e} obeyed old) = log_left_behind (log_obeyed obeyed) (subst (λ (n : ℕ). e < n) (sym (epoch_same run)) old)
 log_obeyed (begins obeyed empty) = log_obeyed obeyed
 log_obeyed (reports obeyed marked fit) = log_obeyed obeyed

@@ -8,7 +8,7 @@ use Rattle.report_line.specs.declared.report.Report.{Report}
 use Rattle.report_line.specs.declared.report.Report.TheVariants.{Begin, Numbered}
 use Rattle.report_line.specs.histories.History.{History}
 use Rattle.chains.specs.Processes.{Name, newborn, known, last_report, target_after, target_of}
-use Rattle.chains.specs.Elements.{lasting_made, lasting_of, name_of}
+use Rattle.chains.specs.Elements.{stable_made, stable_of, name_of}
 use Rattle.chains.specs.Folded.{IsFit, IsFolded, one_folded}
 use Rattle.chains.specs.Agrees.{Agrees}
 use Rattle.chains.proofs.Stepping.{same_or_other, other_report, known-push}
@@ -56,11 +56,11 @@ name_on no_more p name is = is
 name_on (one_further {accepted = accepted} r way fit) p name is =
     ap (λ (ks : List Name). slice_get ks p) (known-push accepted r) ∙ at_front (known accepted) (cons_option (newborn r) []) p name (name_on way p name is)
 
-pub lasting_on : {front accepted : List Report} → LeadsTo front accepted → (p : Name) (i : ℕ) (s : Stamp) → slice_get (lasting_of p front) i ≡ Some s → slice_get (lasting_of p accepted) i ≡ Some s
-lasting_on no_more p i s is = is
-lasting_on (one_further {accepted = accepted} r way fit) p i s is =
-    ap (λ (l : List Stamp). slice_get l i) (filter_map-append (lasting_made p) accepted (r ∷ []))
-    ∙ at_front (lasting_of p accepted) (cons_option (lasting_made p r) []) i s (lasting_on way p i s is)
+pub stable_on : {front accepted : List Report} → LeadsTo front accepted → (p : Name) (i : ℕ) (s : Stamp) → slice_get (stable_of p front) i ≡ Some s → slice_get (stable_of p accepted) i ≡ Some s
+stable_on no_more p i s is = is
+stable_on (one_further {accepted = accepted} r way fit) p i s is =
+    ap (λ (l : List Stamp). slice_get l i) (filter_map-append (stable_made p) accepted (r ∷ []))
+    ∙ at_front (stable_of p accepted) (cons_option (stable_made p r) []) i s (stable_on way p i s is)
 
 -- a retirement is the last report of its process
 none_target : (q : Name) → let o : Option Name = None in o ≢ Some q

@@ -26,7 +26,7 @@ told p n s a = record { process = p; number = n; stamp = s; action = a }
 abbrev pub is_born_by : Name → ReportKind → Bool
 is_born_by p a = option_map_or (λ q. bytes_eq p q) (child_of a) false
 
--- the lasting element of p that a report makes, with the report's number: 0 for a birth
+-- the stable element of p that a report makes, with the report's number: 0 for a birth
 abbrev pub numbered_by : Name → NumberedReport → ReportKind → Option (ℕ × Stamp)
 numbered_by p r Check = only_if (bytes_eq p r.process) (r.number, r.stamp)
 numbered_by p r (Fork f) = only_if (bytes_eq p f.child) (0, record { id = f.given; events = r.stamp.events })
@@ -36,7 +36,7 @@ abbrev pub numbered_made : Name → Report → Option (ℕ × Stamp)
 numbered_made p (Begin q) = only_if (bytes_eq p q) (0, record { id = One; events = Leaf 0 })
 numbered_made p (Numbered r) = numbered_by p r r.action
 
--- The report of this number made this element of p: a lasting one, or a present state that is its last report.
+-- The report of this number made this element of p: a stable one, or a present state that is its last report.
 abbrev pub IsMadeBy : List Report → Name → ℕ → Stamp → Type 0
 IsMadeBy accepted p n s =
     Contains (filter_map (numbered_made p) accepted) (n, s) ⊎ (last_report p accepted ≡ Some (Numbered (told p n s Present)))

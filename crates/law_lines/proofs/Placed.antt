@@ -15,7 +15,7 @@ use Rattle.report_line.specs.declared.report.Report.{Report}
 use Rattle.report_line.specs.declared.report.Report.TheVariants.{Begin, Numbered}
 use Rattle.chains.specs.declared.position.Position.TheVariants.{At}
 use Rattle.chains.specs.Processes.{is_numbered_of, last_report}
-use Rattle.chains.specs.Elements.{only_if, lasting_by, lasting_made, lasting_of, present_by, present_in, elements_of, name_of, element}
+use Rattle.chains.specs.Elements.{only_if, stable_by, stable_made, stable_of, present_by, present_in, elements_of, name_of, element}
 use Rattle.chains.proofs.Keeps.{passes}
 use Rattle.report_line.specs.declared.step.StepKind.TheVariants.{Check, Present}
 use Rattle.report_line.specs.histories.History.{Name, History, EventKind, Birth, Does, Event, birth_of_root}
@@ -50,7 +50,7 @@ restorable : (e : Event) (k : EventKind) → IsRestorable k → e.kind ≡ k →
 restorable e k w is = subst IsRestorable (sym is) w
 
 module _ (root : Name) (h : History) (accepted : List Report) (agrees : Agrees root h accepted) where
-  root_event : (p q : Name) (s : Stamp) → Contains accepted (Begin q) → lasting_made p (Begin q) ≡ Some s → (e : Event) × IsEventOf root h accepted p s e
+  root_event : (p q : Name) (s : Stamp) → Contains accepted (Begin q) → stable_made p (Begin q) ≡ Some s → (e : Event) × IsEventOf root h accepted p s e
   root_event p q s at made =
       let w = cond_some (bytes_eq p q) (record { id = One; events = Leaf 0 }) s made in (
         birth_of_root root,
@@ -115,12 +115,12 @@ module _ (root : Name) (h : History) (accepted : List Report) (agrees : Agrees r
         },
       )
 
-  made_by : (p : Name) (r : NumberedReport) (s : Stamp) → Contains accepted (Numbered r) → (b : ReportKind) → r.action ≡ b → lasting_by p r b ≡ Some s → (e : Event) × IsEventOf root h accepted p s e
+  made_by : (p : Name) (r : NumberedReport) (s : Stamp) → Contains accepted (Numbered r) → (b : ReportKind) → r.action ≡ b → stable_by p r b ≡ Some s → (e : Event) × IsEventOf root h accepted p s e
   made_by p r s at reported.Check is made = check_event p r s at is made
   made_by p r s at (reported.Fork f) is made = child_event p r s f at is made
   made_by p r s at _ is made = absurd (cc)
 
-  made_event : (p : Name) (r : Report) (s : Stamp) → Contains accepted r → lasting_made p r ≡ Some s → (e : Event) × IsEventOf root h accepted p s e
+  made_event : (p : Name) (r : Report) (s : Stamp) → Contains accepted r → stable_made p r ≡ Some s → (e : Event) × IsEventOf root h accepted p s e
   made_event p (Begin q) s at made = root_event p q s at made
   made_event p (Numbered r) s at made = made_by p r s at r.action refl made
 
@@ -141,8 +141,8 @@ module _ (root : Name) (h : History) (accepted : List Report) (agrees : Agrees r
 
   pub event_of_element : (p : Name) (i : ℕ) (s : Stamp) → slice_get (elements_of p accepted) i ≡ Some s → (e : Event) × IsEventOf root h accepted p s e
   event_of_element p i s is =
-      elim (at_append (lasting_of p accepted) (present_in (last_report p accepted)) i s is) [
-        | inl front ↦ (let made = made_in (lasting_made p) accepted i s front in made_event p made.0 s made.1 made.2)
+      elim (at_append (stable_of p accepted) (present_in (last_report p accepted)) i s is) [
+        | inl front ↦ (let made = made_in (stable_made p) accepted i s front in made_event p made.0 s made.1 made.2)
         | inr back ↦ one_present p (last_report p accepted) back.0 s (last_there p) back.2
       ]
 

@@ -17,7 +17,7 @@ use Rattle.report_line.specs.declared.report.ReportKind.TheVariants.{Check, Pres
 use Rattle.report_line.specs.declared.report.Report.{Report}
 use Rattle.report_line.specs.declared.report.Report.TheVariants.{Begin, Numbered}
 use Rattle.chains.specs.Processes.{Name, first_of, last_passing, is_numbered_of, is_birth_of, reports_of, last_report, birth_report, last_events}
-use Rattle.chains.specs.Elements.{only_if, lasting_by, lasting_made, lasting_of, present_in, elements_of}
+use Rattle.chains.specs.Elements.{only_if, stable_by, stable_made, stable_of, present_in, elements_of}
 use Rattle.chains.proofs.Stepping.{same_bytes, failing, passing}
 use Rattle.report_line.specs.declared.report.NumberedReport.{NumberedReport}
 use Rattle.chains.specs.Folded.{IsFitReport, IsFit, IsFolded, nothing_folded, one_folded}
@@ -208,11 +208,11 @@ both b s is = (s, ap (λ c. only_if c s) is, ap (λ c. only_if c (let x : ℕ ×
 -- what a birth makes: an element with the number 0 and the events of the birth
 pub record IsMadeByBirth (p : Name) (r : Report) : Type 0 where
   pub stamp : Stamp
-  pub lasts : lasting_made p r ≡ Some stamp
+  pub lasts : stable_made p r ≡ Some stamp
   pub numbered : numbered_made p r ≡ Some (0, stamp)
   pub events : stamp.events ≡ events_after (Some r)
 
-both_by : (p : Name) (r : NumberedReport) (a : ReportKind) → is_born_by p a ≡ true → (s : Stamp) × (lasting_by p r a ≡ Some s) × (numbered_by p r a ≡ Some (0, s)) × (s.events ≡ r.stamp.events)
+both_by : (p : Name) (r : NumberedReport) (a : ReportKind) → is_born_by p a ≡ true → (s : Stamp) × (stable_by p r a ≡ Some s) × (numbered_by p r a ≡ Some (0, s)) × (s.events ≡ r.stamp.events)
 both_by p r (Fork f) is = (let w = both (bytes_eq p f.child) (record { id = f.given; events = r.stamp.events }) is in (w.0, w.1, w.2, ap (λ (u : Stamp). u.events) w.3))
 both_by p r Check is = absurd (true≢false (sym is))
 both_by p r Present is = absurd (true≢false (sym is))
@@ -227,7 +227,7 @@ birth_both p (Numbered r) is = (let w = both_by p r r.action is in record { stam
 record HasFirst (accepted : List Report) (p : Name) : Type 0 where
   pub first : Stamp
   pub rest : List Stamp
-  pub lasts : lasting_of p accepted ≡ first ∷ rest
+  pub lasts : stable_of p accepted ≡ first ∷ rest
   pub made : Contains (filter_map (numbered_made p) accepted) (0, first)
   pub birth : Report
   pub is_birth : birth_report p accepted ≡ Some birth
@@ -236,8 +236,8 @@ record HasFirst (accepted : List Report) (p : Name) : Type 0 where
 first_next : (before : List Report) (r : Report) (p : Name) → IsFit before r → HasFirst before p → HasFirst (before ++ r ∷ []) p
 first_next before r p fit old = record {
   first = old.first;
-  rest = old.rest ++ cons_option (lasting_made p r) [];
-  lasts = filter_map-append (lasting_made p) before (r ∷ []) ∙ ap (λ l. l ++ cons_option (lasting_made p r) []) old.lasts;
+  rest = old.rest ++ cons_option (stable_made p r) [];
+  lasts = filter_map-append (stable_made p) before (r ∷ []) ∙ ap (λ l. l ++ cons_option (stable_made p r) []) old.lasts;
   made = subst (λ l. Contains l (0, old.first)) (sym (filter_map-append (numbered_made p) before (r ∷ [])))
       (Contains-append_left (filter_map (numbered_made p) before) (filter_map (numbered_made p) (r ∷ [])) (0, old.first) old.made);
   birth = old.birth;
@@ -252,7 +252,7 @@ first_now before r p folded fit birth =
     record {
       first = s;
       rest = [];
-      lasts = filter_map-append (lasting_made p) before (r ∷ []) ∙ (ap (λ l. l ++ cons_option (lasting_made p r) []) (unknown_lasts_not folded p (birth_is_new p before r fit birth))
+      lasts = filter_map-append (stable_made p) before (r ∷ []) ∙ (ap (λ l. l ++ cons_option (stable_made p r) []) (unknown_lasts_not folded p (birth_is_new p before r fit birth))
           ∙ ap (λ o. cons_option o []) made.lasts);
       made = subst (λ l. Contains l (0, s)) (sym (filter_map-append (numbered_made p) before (r ∷ []) ∙ ap (λ o. filter_map (numbered_made p) before ++ cons_option o []) made.numbered))
           (Contains-push (filter_map (numbered_made p) before) (0, s));

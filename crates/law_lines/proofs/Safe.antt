@@ -13,7 +13,7 @@ use Rattle.report_line.specs.declared.report.Report.TheVariants.{Numbered}
 use Rattle.chains.specs.declared.position.Position.{Position}
 use Rattle.chains.specs.declared.position.Position.TheVariants.{At, Retired}
 use Rattle.chains.specs.Processes.{Name, known, first_of, is_birth_of, reports_of, last_report, birth_report, events_after, last_events, target_after, target_of}
-use Rattle.chains.specs.Elements.{name_of, elements, element, elements_of, lasting, lasting_of, present_in}
+use Rattle.chains.specs.Elements.{name_of, elements, element, elements_of, stable, stable_of, present_in}
 use Rattle.chains.specs.Positions.{rank, position_in, is_retired, IsChosen, IsCut}
 use Rattle.chains.specs.Knowledge.{events_at, Knows, KnowsAfter, IsStampConsistent}
 use Rattle.chains.specs.Folded.{IsFolded}
@@ -30,7 +30,7 @@ use Rattle.law_lines.proofs.Looking.{any_known}
 use Rattle.law_lines.proofs.Born.{unknown_lasts_not}
 use Rattle.law_lines.proofs.Made.{unknown_has_nothing}
 use Rattle.law_lines.proofs.SettledClosing.{known_number, elements_named, retired_named}
-use Rattle.law_lines.proofs.Elements.{settled_elements, lasting_enough}
+use Rattle.law_lines.proofs.Elements.{settled_elements, stable_enough}
 use Rattle.law_lines.proofs.Standing.{limit_at, born_in, retirement_of, settled_retired, stays_retired}
 use Rattle.law_lines.proofs.SettledClosing.{settled_is_folded}
 
@@ -50,8 +50,8 @@ module _ (accepted : List Report) (cut : Name → Position) (folded : IsFolded a
   chosen_by failed i p is (At zero) lasts = inl refl
   chosen_by failed i p is (At (suc k)) lasts =
       let many : length (elements accepted i) ≡ length (elements_of p accepted) = ap (λ (l : List Stamp). length l) (elements_named accepted i p is) in
-      let sum : length (elements_of p accepted) ≡ length (lasting_of p accepted) + length (present_in (last_report p accepted)) = length-append (lasting_of p accepted) (present_in (last_report p accepted)) in
-      let same : length (lasting accepted i) ≡ length (lasting_of p accepted) = ap (λ (l : List Stamp). length l) (ap (λ (o : Option Name). option_map_or (λ name. lasting_of name accepted) o []) is) in
+      let sum : length (elements_of p accepted) ≡ length (stable_of p accepted) + length (present_in (last_report p accepted)) = length-append (stable_of p accepted) (present_in (last_report p accepted)) in
+      let same : length (stable accepted i) ≡ length (stable_of p accepted) = ap (λ (l : List Stamp). length l) (ap (λ (o : Option Name). option_map_or (λ name. stable_of name accepted) o []) is) in
       inr (omega arith, omega arith, λ failing. omega arith)
   chosen_by failed i p is Retired lasts = inr (ap (λ (o : Option Name). option_map_or (λ name. is_some (target_of name accepted)) o false) is ∙ lasts)
 
@@ -110,10 +110,10 @@ module _ (accepted : List Report) (cut : Name → Position) (failed : List ℕ) 
   lasts_by p (At n) at lasts =
       elim (cases_Bool (list_any (is_birth_of p) accepted)) [
         | inr unknown ↦
-            (let none : length (lasting_of p accepted) ≡ 0 = ap (λ (l : List Stamp). length l) (unknown_lasts_not folded p unknown) in omega arith)
+            (let none : length (stable_of p accepted) ≡ 0 = ap (λ (l : List Stamp). length l) (unknown_lasts_not folded p unknown) in omega arith)
         | inl is_known ↦
             (let i = number_in p is_known in
-            lasting_enough accepted failed line i.0 p folded greatest i.1 n lasts
+            stable_enough accepted failed line i.0 p folded greatest i.1 n lasts
             (not_after (position_in line i.0) (subst (λ (j : Position). IsNotAfter j (position_in line i.0)) at (is_below accepted cut folded safe failed line i.0 p greatest i.1))))
       ]
     where

@@ -45,7 +45,7 @@ pub number_first : (root : Name) (h : History) (e : Event) (r : NumberedReport) 
 number_first root [] e r is = absurd (none_at_first is)
 number_first root (s ∷ h) e r is =
     elim (report_entry is) [
-      | of_step made event ↦ (let w = own_step h s s.deed r refl (says root h s r s.deed made) in let number : r.number ≡ reporting_steps r.process h + 1 = w.0 in omega arith)
+      | of_step made event ↦ (let w = own_step h s s.step_kind r refl (says root h s r s.step_kind made) in let number : r.number ≡ reporting_steps r.process h + 1 = w.0 in omega arith)
       | of_earlier before ↦ number_first root h e r before
     ]
 
@@ -58,7 +58,7 @@ numbers_in_order root (s ∷ h) r r' e e' same is is' less =
     elim (report_entry is) [
       | of_step made event ↦
           (let number : e.number ≡ length (s ∷ h) = ap (λ (x : Event). x.number) event in
-          let w = own_step h s s.deed r refl (says root h s r s.deed made) in
+          let w = own_step h s s.step_kind r refl (says root h s r s.step_kind made) in
           let mine : r.number ≡ reporting_steps r.process h + 1 = w.0 in
           elim (report_entry is') [
             | of_step made' event' ↦ (let number' : e'.number ≡ length (s ∷ h) = ap (λ (x : Event). x.number) event' in omega arith)

@@ -31,7 +31,7 @@ use Rattle.std.proofs.lemmas.Option.{same_Some, slice_get_cases}
 use Rattle.std.proofs.lemmas.List.Elements.{Contains-append_cases}
 use Rattle.id_tree.specs.IdTree.{One}
 use Rattle.event_tree.specs.EventTree.{Leaf}
-use Rattle.chains.specs.Elements.{only_if, lasting_by, lasting_made, makes_lasting, makers_of, element_made, present_by, present_in, present_report_by, present_report}
+use Rattle.chains.specs.Elements.{only_if, stable_by, stable_made, makes_stable, makers_of, element_made, present_by, present_in, present_report_by, present_report}
 use Rattle.chains.specs.Positions.{IsChosen, IsCut}
 use Rattle.chains.specs.Processes.{Waits}
 use Rattle.chains.specs.Folded.{IsFitAction, IsFitReport, IsFit, IsFolded, nothing_folded, one_folded}
@@ -188,7 +188,7 @@ module _ (accepted : List Report) (cut : List Position) (limits : Limits) (folde
 
 -- ---- the limits of a cut are those of its elements
 
-numbered_as : (p : Name) (r : NumberedReport) (a : ReportKind) (s : Stamp) → is_born_by p a ≡ false ⊎ (bytes_eq p r.process ≡ false) → lasting_by p r a ≡ Some s
+numbered_as : (p : Name) (r : NumberedReport) (a : ReportKind) (s : Stamp) → is_born_by p a ≡ false ⊎ (bytes_eq p r.process ≡ false) → stable_by p r a ≡ Some s
     → numbered_by p r a ≡ Some (cond (bytes_eq p r.process) r.number 0, s)
 numbered_as p r Check s apart is = check (bytes_eq p r.process) is
   where
@@ -227,7 +227,7 @@ apart_at _ (one_folded before x folded fit) p r at =
     ]
 
 -- the element of a maker, with its number
-made_numbered : (accepted : List Report) → IsFolded accepted → (p : Name) (m : Report) (s : Stamp) → Contains accepted m → lasting_made p m ≡ Some s → numbered_made p m ≡ Some (number_for p m, s)
+made_numbered : (accepted : List Report) → IsFolded accepted → (p : Name) (m : Report) (s : Stamp) → Contains accepted m → stable_made p m ≡ Some s → numbered_made p m ≡ Some (number_for p m, s)
 made_numbered accepted folded p (Begin q) s at is = begins (bytes_eq p q) is
   where
     begins : (b : Bool) → only_if b (let t : Stamp = record { id = One; events = Leaf 0 } in t) ≡ Some s → only_if b (let x : ℕ × Stamp = (0, record { id = One; events = Leaf 0 }) in x) ≡ Some (0, s)
@@ -273,7 +273,7 @@ present_number : (accepted : List Report) (p : Name) (r : NumberedReport) (s : S
 present_number accepted p r s last presents made =
     let own : bytes_eq p r.process ≡ true = passes (is_numbered_of p) accepted (Numbered r) last in
     let number : number_for p (Numbered r) ≡ r.number = cond-true (bytes_eq p r.process) r.number 0 own in
-    let stamp : r.stamp ≡ s = same_Some r.stamp s (sym (ap (λ (b : ReportKind). first_of (lasting_by p r b) (slice_get (present_by r.stamp b) 0)) presents) ∙ made) in
+    let stamp : r.stamp ≡ s = same_Some r.stamp s (sym (ap (λ (b : ReportKind). first_of (stable_by p r b) (slice_get (present_by r.stamp b) 0)) presents) ∙ made) in
     inr (last ∙ (ap (λ (a : ReportKind). Some (Numbered (told r.process r.number r.stamp a))) presents
     ∙ (ap (λ (q : Name). Some (Numbered (told q r.number r.stamp Present))) (sym ((bytes_eq-Decides p r.process).0 own))
     ∙ (ap (λ (n : ℕ). Some (Numbered (told p n r.stamp Present))) (sym number)
@@ -282,11 +282,11 @@ present_number accepted p r s last presents made =
 pub maker_number : (accepted : List Report) → IsFolded accepted → (p : Name) (k : ℕ) (m : Report) (s : Stamp) → slice_get (makers_of p accepted) k ≡ Some m → element_made p m ≡ Some s
     → IsMadeBy accepted p (number_for p m) s
 maker_number accepted folded p k m s is made =
-    elim (at_append (filter (makes_lasting p) accepted) (present_report (last_report p accepted)) k m is) [
+    elim (at_append (filter (makes_stable p) accepted) (present_report (last_report p accepted)) k m is) [
       | inl there ↦
-          (let w = in_filter (makes_lasting p) accepted m (in_at (filter (makes_lasting p) accepted) k m there) in
-          let lasts = makes_some (lasting_made p m) w.1 in
-          let same : lasts.0 ≡ s = first_there (lasting_made p m) (slice_get (present_in (Some m)) 0) lasts.0 s lasts.1 made in
+          (let w = in_filter (makes_stable p) accepted m (in_at (filter (makes_stable p) accepted) k m there) in
+          let lasts = makes_some (stable_made p m) w.1 in
+          let same : lasts.0 ≡ s = first_there (stable_made p m) (slice_get (present_in (Some m)) 0) lasts.0 s lasts.1 made in
           let at = in_made (numbered_made p) accepted m (number_for p m, s) w.0 (made_numbered accepted folded p m s w.0 (lasts.1 ∙ ap Some same)) in
           inl (in_at (filter_map (numbered_made p) accepted) at.0 (number_for p m, s) at.1))
       | inr there ↦

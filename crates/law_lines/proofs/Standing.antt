@@ -16,7 +16,7 @@ use Rattle.report_line.specs.declared.report.Report.TheVariants.{Begin, Numbered
 use Rattle.chains.specs.declared.position.Position.{Position}
 use Rattle.chains.specs.declared.position.Position.TheVariants.{At, Retired}
 use Rattle.chains.specs.Processes.{Name, newborn, known, IsKnown, first_of, is_numbered_of, is_birth_of, reports_by, reports_of, last_report, target_in, target_after, target_of}
-use Rattle.chains.specs.Elements.{name_of, lasting_by, present_by, element_made}
+use Rattle.chains.specs.Elements.{name_of, stable_by, present_by, element_made}
 use Rattle.chains.specs.Positions.{position_in, IsChosen}
 use Rattle.chains.specs.Greatest.{IsGreatestCut}
 use Rattle.chains.specs.Folded.{IsFit, IsFolded, nothing_folded, one_folded}
@@ -110,7 +110,7 @@ retirement_of (Some (Begin p)) is = absurd (cc)
 retirement_of (Some (Numbered r)) is = (let w = retirement_by r r.action refl is in record { report = r; is = refl; target = w.0; retires = w.1 })
 
 makes_nothing : (p : Name) (r : NumberedReport) (q : Name) (s : Stamp) → r.action ≡ Retire q → element_made p (Numbered r) ≡ Some s → ⊥
-makes_nothing p r q s is made = none (sym (ap (λ (a : ReportKind). first_of (lasting_by p r a) (slice_get (present_by r.stamp a) 0)) is) ∙ made)
+makes_nothing p r q s is made = none (sym (ap (λ (a : ReportKind). first_of (stable_by p r a) (slice_get (present_by r.stamp a) 0)) is) ∙ made)
   where
     none : (let o : Option Stamp = None in o) ≡ Some s → ⊥
     none e = cc

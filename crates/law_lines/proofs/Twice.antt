@@ -20,7 +20,7 @@ use Rattle.report_line.specs.histories.History.{Name, History, Event, event_of, 
 use Rattle.report_line.specs.histories.Lawful.{IsOwnWork, IsAllowed, IsLawful, next}
 use Rattle.report_line.specs.histories.Events.{step, earlier as occurred}
 use Rattle.report_line.specs.histories.StepReports.{report_of}
-use Rattle.law_histories.specs.Example.{a, b, left, right, halves, act}
+use Rattle.law_histories.specs.Example.{a, b, left, right, halves, act, told, forked}
 use Rattle.law_histories.specs.Rules.{IsNewest, Obeys}
 use Rattle.law_histories.proofs.Bytes.{bytes_same, bytes_are}
 use Rattle.law_histories.proofs.Example.{Has, leaf, has, apart, both, some_left, some_right, above}
@@ -28,13 +28,12 @@ use Rattle.law_histories.proofs.Rules.{rules_are_the_law}
 use Rattle.chains.specs.declared.position.Position.{Position}
 use Rattle.chains.specs.declared.position.Position.TheVariants.{At, Retired}
 use Rattle.chains.specs.Processes.{known, expected_id}
-use Rattle.chains.specs.Elements.{name_of, elements, lasting, element}
+use Rattle.chains.specs.Elements.{name_of, elements, stable, element}
 use Rattle.chains.specs.Positions.{rank, position_in, is_retired, IsChosen, IsCut}
 use Rattle.chains.specs.Knowledge.{Knows, KnowsAfter}
 use Rattle.chains.specs.Folded.{IsFitAction, IsFitReport}
 use Rattle.chains.specs.Greatest.{IsConsistentCut, IsGreatestCut}
 use Rattle.law_histories.specs.Kept.{Cut, kept}
-use Rattle.law_lines.specs.Example.{told, forked}
 use Rattle.law_lines.specs.Places.{IsPremise, IsEventAt, place, IsUpTo, IsInCut}
 use Rattle.law_lines.proofs.Accepted.{filled, more_left, more_right, halved, unknown_b}
 use Rattle.law_lines.proofs.Ordered.{one_event}
@@ -47,12 +46,12 @@ use Rattle.law_lines.proofs.Runs.{agrees_now, epoch_made}
 -- ---- an entry more, over what is current
 
 stepped_on : (root : Name) (run : Run) (e : ℕ) (h : History) (s : Step) (b : Event) → epoch run ≡ e → current run ≡ h → IsObeyed root run
-    → status root h s.process ≡ Living b → IsAllowed root h b s s.deed → IsObeyed root (Made e s ∷ run)
+    → status root h s.process ≡ Living b → IsAllowed root h b s s.step_kind → IsObeyed root (Made e s ∷ run)
 stepped_on root run e h s b now is obeyed living allowed =
     let lawful : IsLawful root h = subst (λ (g : History). IsLawful root g) is (agrees_now obeyed).lawful in
     let w = (rules_are_the_law root h s lawful).0 (next lawful living allowed) in
     let newest : IsNewest root (current run) s.process w.0 = subst (λ (g : History). IsNewest root g s.process w.0) (sym is) w.1 in
-    let obeys : Obeys root (current run) w.0 s s.deed = subst (λ (g : History). Obeys root g w.0 s s.deed) (sym is) w.2 in
+    let obeys : Obeys root (current run) w.0 s s.step_kind = subst (λ (g : History). Obeys root g w.0 s s.step_kind) (sym is) w.2 in
     subst (λ (k : ℕ). IsObeyed root (Made k s ∷ run)) now (made obeyed newest obeys)
 
 accepted_on : (root : Name) (run : Run) (e : ℕ) (h : History) (list : List Report) (s : Step) (r : NumberedReport) → epoch run ≡ e → current run ≡ h → accepted (Made e s ∷ run) ≡ list
@@ -194,11 +193,11 @@ child_fit = record {
 
 -- ---- the lines
 
--- a failed process that did not retire is at its second lasting element at most
-two_at_most : (list : List Report) (p : ℕ) → length (lasting list p) ≤ 2 → is_retired list p ≡ false → Contains {X = ℕ} (0 ∷ []) p → (k : Position) → IsChosen list (0 ∷ []) p k
+-- a failed process that did not retire is at its second stable element at most
+two_at_most : (list : List Report) (p : ℕ) → length (stable list p) ≤ 2 → is_retired list p ≡ false → Contains {X = ℕ} (0 ∷ []) p → (k : Position) → IsChosen list (0 ∷ []) p k
     → (j : ℕ) × (k ≡ At j) × (j ≤ 2)
 two_at_most list p few lives failed k (inl unborn) = (0, unborn, omega arith)
-two_at_most list p few lives failed (At k) (inr w) = (let up : k ≤ length (lasting list p) = w.2 failed in (k, refl, omega arith))
+two_at_most list p few lives failed (At k) (inr w) = (let up : k ≤ length (stable list p) = w.2 failed in (k, refl, omega arith))
 two_at_most list p few lives failed Retired (inr w) = (let both : true ≡ false = sym w ∙ lives in absurd (cc))
 
 first_failed : Contains {X = ℕ} (0 ∷ []) 0
@@ -421,13 +420,13 @@ twice_run : IsObeyed a settled_twice
 unfolding epoch current accepted kept
 twice_run = settled_on a once_settled born l4 (0 ∷ []) (At 2 ∷ At 0 ∷ []) up_to_checkpoint refl refl once_settled_run two_greatest twice_events
 
-last_run : IsObeyed a (Made 2 (act a Check One (Leaf 2)) ∷ settled_twice)
+same_id_from : IsObeyed a (Made 2 (act a Check One (Leaf 2)) ∷ settled_twice)
 unfolding epoch current status kept
-last_run = stepped_on a settled_twice 2 checked (act a Check One (Leaf 2)) _ refl refl twice_run refl (own _ _ refl (grown_leaf 1 2 (omega arith)))
+same_id_from = stepped_on a settled_twice 2 checked (act a Check One (Leaf 2)) _ refl refl twice_run refl (own _ _ refl (grown_leaf 1 2 (omega arith)))
 
 pub twice_settled_is_obeyed : TwiceSettledIsObeyed
 unfolding epoch current accepted status kept
-twice_settled_is_obeyed = accepted_on a settled_twice 2 checked l1 (act a Check One (Leaf 2)) _ refl refl refl last_run refl (second_fit reported.Check refl tt)
+twice_settled_is_obeyed = accepted_on a settled_twice 2 checked l1 (act a Check One (Leaf 2)) _ refl refl refl same_id_from refl (second_fit reported.Check refl tt)
 
 pub checkpoints_are_current : CheckpointsAreCurrent
 unfolding epoch current kept

@@ -17,7 +17,7 @@ use Rattle.chains.specs.declared.position.Place.{Place}
 use Rattle.chains.specs.declared.position.Position.{Position}
 use Rattle.chains.specs.declared.position.Position.TheVariants.{At, Retired}
 use Rattle.chains.specs.Processes.{Name, known, is_birth_of, reports_of, birth_report, events_after}
-use Rattle.chains.specs.Elements.{name_of, elements, element, lasting, lasting_of}
+use Rattle.chains.specs.Elements.{name_of, elements, element, stable, stable_of}
 use Rattle.chains.specs.Positions.{rank, position_in, IsChosen, IsCut, IsSurviving}
 use Rattle.chains.specs.Knowledge.{events_at, Knows, KnowsAfter, IsStampConsistent}
 use Rattle.chains.specs.Greatest.{IsConsistentCut, IsGreatestCut}
@@ -134,9 +134,9 @@ module _ (accepted : List Report) (failed : List ℕ) (line : List Position) (fo
     birth_survives =
         let first = first_events folded p (known_any accepted p (known_from accepted i p named)) in
         let in_elements : 0 < length (elements accepted i) = slice_get_within (elements accepted i) 0 first.0 (ap (λ l. slice_get l 0) (elements_named accepted i p named) ∙ first.1) in
-        let lasts : 1 ≤ length (lasting_of p accepted) = birth_there accepted i p named in
-        let same : length (lasting accepted i) ≡ length (lasting_of p accepted) =
-        ap (λ (l : List Stamp). length l) (ap (λ (o : Option Name). option_map_or (λ name. lasting_of name accepted) o []) named) in
+        let lasts : 1 ≤ length (stable_of p accepted) = birth_there accepted i p named in
+        let same : length (stable accepted i) ≡ length (stable_of p accepted) =
+        ap (λ (l : List Stamp). length l) (ap (λ (o : Option Name). option_map_or (λ name. stable_of name accepted) o []) named) in
         (omega arith, omega arith, λ failing. omega arith)
 
     raised_is_cut : IsCut accepted failed raised

@@ -142,8 +142,8 @@ fork_report root (s ∷ h) w c i occurs kind =
           (let r = fork_report root h w c i there kind in
           record { report = r.report; of_process = r.of_process; forked = r.forked; forks = r.forks; is_child = r.is_child; is_report = before_step r.is_report })
       | stepped is ↦
-          (let both : Does s.deed ≡ Does (Fork c i) = sym (kind_of is) ∙ kind in
-          let forks : s.deed ≡ Fork c i = cc in
+          (let both : Does s.step_kind ≡ Does (Fork c i) = sym (kind_of is) ∙ kind in
+          let forks : s.step_kind ≡ Fork c i = cc in
           let r : IsForkReport root (s ∷ h) (event_of h s) c =
           record { report = _; of_process = refl; forked = _; forks = refl; is_child = refl; is_report = newest (ap (report_by root h s) forks) } in
           subst (λ (e : Event). IsForkReport root (s ∷ h) e c) (sym is) r)

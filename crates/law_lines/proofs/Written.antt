@@ -8,8 +8,8 @@ use Rattle.report_line.specs.declared.report.Report.TheVariants.{Begin}
 use Rattle.chains.specs.Processes.{Name}
 use Rattle.chains.specs.Folded.{IsFit, IsFolded}
 use Rattle.chains.proofs.Reaching.{fit_before}
-use Rattle.law_histories.specs.Example.{a, b, c, left, right, halves}
-use Rattle.law_lines.specs.Example.{told, forked, accepted_reports}
+use Rattle.law_histories.specs.Example.{a, b, c, left, right, halves, told, forked}
+use Rattle.law_lines.specs.Example.{accepted_reports}
 use Rattle.law_lines.specs.Settled.{settled}
 use Rattle.law_lines.specs.SettledExample.{AllIsKept, OnlyBeginIsKept, is_open, kept_of_open, OpenDoesNotFold}
 

@@ -7,14 +7,7 @@ use Rattle.report_line.specs.declared.report.ReportKind.TheVariants.{Check, Pres
 use Rattle.report_line.specs.declared.report.Report.{Report}
 use Rattle.report_line.specs.declared.report.Report.TheVariants.{Begin, Numbered}
 use Rattle.report_line.specs.histories.History.{Name}
-use Rattle.law_histories.specs.Example.{a, b, c, left, right, halves}
-
-abbrev pub told : Name → ℕ → IdTree → EventTree → ReportKind → Report
-told process number id values action =
-    Numbered (record { process = process; number = number; stamp = record { id = id; events = values }; action = action })
-
-abbrev pub forked : Name → ReportKind
-forked child = Fork (record { kept = left; child = child; given = right })
+use Rattle.law_histories.specs.Example.{a, b, c, left, right, halves, told, forked}
 
 -- the reports of the history but the last one, as they are accepted
 abbrev pub accepted_reports : List Report

@@ -4,7 +4,7 @@ use Rattle.report_line.specs.declared.report.Report.{Report}
 use Rattle.chains.specs.declared.position.Position.{Position}
 use Rattle.chains.specs.declared.position.Position.TheVariants.{At, Retired}
 use Rattle.chains.specs.Processes.{Name, known, IsKnown, target_of}
-use Rattle.chains.specs.Elements.{name_of, lasting_of}
+use Rattle.chains.specs.Elements.{name_of, stable_of}
 use Rattle.chains.specs.Positions.{before_birth, position_in}
 use Rattle.chains.specs.Knowledge.{Knows}
 use Rattle.chains.specs.Folded.{IsFolded}
@@ -16,7 +16,7 @@ use Rattle.law_lines.specs.Runs.{Run, accepted as accepted_in, IsObeyed}
 
 -- The position survives whoever fails: an element that lasts, or a retirement. (Who is not known has none, and is at 0.)
 abbrev pub Lasts : List Report → Name → Position → Type 0
-Lasts accepted p (At k) = k ≤ length (lasting_of p accepted)
+Lasts accepted p (At k) = k ≤ length (stable_of p accepted)
 Lasts accepted p Retired = is_some (target_of p accepted) ≡ true
 
 -- Positions by name that survive whoever fails, and of which none knows another process after its position. Those of a garbage

@@ -64,7 +64,7 @@ pub data IsObeyed (root : Name) : Run → Type 0 where
   -- A step of a process that has returned is made from the process's newest event in the current history, which right after
   -- a settlement is its position; what it receives was sent, and what it absorbs was retired, by an event of the current
   -- history: not by an undone step, nor by one made after the settlement and before its process returned.
-  made : {run : Run} {s : Step} {before : Event} → IsObeyed root run → IsNewest root (current run) s.process before → Obeys root (current run) before s s.deed
+  made : {run : Run} {s : Step} {before : Event} → IsObeyed root run → IsNewest root (current run) s.process before → Obeys root (current run) before s s.step_kind
       → IsObeyed root (Made (epoch run) s ∷ run)
   -- of the steps of the others nothing is asked
   left_behind : {run : Run} {e : ℕ} {s : Step} → IsObeyed root run → e < epoch run → IsObeyed root (Made e s ∷ run)

@@ -10,8 +10,8 @@ use Rattle.chains.specs.declared.position.Position.{Position}
 use Rattle.chains.specs.declared.position.Position.TheVariants.{At, Retired}
 use Rattle.chains.specs.Positions.{before_birth}
 use Rattle.chains.specs.Folded.{IsFolded}
-use Rattle.law_histories.specs.Example.{a, b, c, left, right, halves}
-use Rattle.law_lines.specs.Example.{told, forked, accepted_reports}
+use Rattle.law_histories.specs.Example.{a, b, c, left, right, halves, told, forked}
+use Rattle.law_lines.specs.Example.{accepted_reports}
 use Rattle.law_lines.specs.Settled.{settled}
 
 -- a at its checkpoint, b retired, c at its birth: all is kept

@@ -8,9 +8,8 @@ use Rattle.report_line.specs.declared.report.Report.TheVariants.{Begin}
 use Rattle.report_line.specs.declared.step.StepKind.TheVariants.{Work, Check, Present, Fork}
 use Rattle.chains.specs.declared.position.Position.TheVariants.{At}
 use Rattle.chains.specs.Positions.{before_birth}
-use Rattle.law_histories.specs.Example.{a, b, left, right, halves, act}
+use Rattle.law_histories.specs.Example.{a, b, left, right, halves, act, told, forked}
 use Rattle.law_histories.specs.Kept.{Cut}
-use Rattle.law_lines.specs.Example.{told, forked}
 use Rattle.law_lines.specs.Runs.{Run, Made, Accepts, Settles, IsObeyed, current, accepted}
 
 -- the events of a up to its checkpoint

@@ -31,7 +31,7 @@ pub fn knowledge_is_the_past()
 /// A cut is closed exactly where it is stamp-consistent, and so the greatest cut of the one kind is that of the other, in
 /// every lawful history that agrees.
 pub fn closed_is_consistent()
-    ensures same { ClosedIsConsistent }
+    ensures equivalent { ClosedIsConsistent }
     ensures greatest { GreatestIsGreatestClosed }
     ensures line { (accepted : List Report) (failed : List ℕ) (line : List Position) → IsFolded accepted → IsGreatestCut accepted failed line → IsLineOfHistories accepted failed line }
 {}

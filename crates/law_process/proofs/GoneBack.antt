@@ -9,16 +9,15 @@ use Rattle.report_line.specs.declared.marked.MarkedReport.{MarkedReport}
 use Rattle.report_line.specs.declared.reply.Reply.TheVariants.{Accepted}
 use Rattle.report_line.specs.declared.report.ReportKind.TheVariants as reported
 use Rattle.report_line.specs.declared.report.Report.TheVariants as reports
-use Rattle.report_line.specs.declared.step.StepKind.TheVariants as deeds
+use Rattle.report_line.specs.declared.step.StepKind.TheVariants as step_kinds
 use Rattle.report_line.specs.histories.History.{History, Event, event_of, Living, status}
 use Rattle.report_line.specs.histories.Lawful.{IsLawful, start, next}
 use Rattle.report_line.specs.histories.StepReports.{reporting_steps}
-use Rattle.law_histories.specs.Example.{a, b, right, halves, act}
+use Rattle.law_histories.specs.Example.{a, b, right, halves, act, told, forked}
 use Rattle.law_histories.specs.Rules.{IsNewest}
 use Rattle.law_histories.proofs.Example.{above}
 use Rattle.law_histories.proofs.Status.{root_holds}
 use Rattle.law_histories.proofs.Rules.{living_is_newest}
-use Rattle.law_lines.specs.Example.{told, forked}
 use Rattle.law_lines.proofs.Listed.{first_in, later_in}
 use Rattle.law_histories.specs.Kept.{kept}
 use Rattle.law_lines.specs.Runs.{Run, Accepts, epoch, current}
@@ -29,7 +28,8 @@ use Rattle.process.specs.Steps.{Works, Tells, Forks}
 use Rattle.law_process.specs.Accounts.{Work, Check, Present, Fork, Begin, Return, Doing, Took, Account, made}
 use Rattle.law_process.specs.Handing.{Past, newest, WasOnce, IsNewName, IsUnbegun, IsAtPosition, IsHandedIn, AreHandedOver}
 use Rattle.law_process.specs.Example.{line_of, a0, c1, c2, c3, c4, c5, d0, d1, start_again, returned, AReturnIsPossible}
-use Rattle.law_process.proofs.Written.{name_a, name_b, on_one, on_left, on_right, flat, halved, spells, grows, grown_of, counts, one_some, right_some, halves_it, each_is, unbegun}
+use Rattle.law_histories.proofs.ExampleForms.{name_a, name_b, on_one, on_left, on_right, flat, halved}
+use Rattle.law_process.proofs.Written.{spells, grows, grown_of, counts, one_some, right_some, halves_it, each_is, unbegun}
 
 -- ---- what the calls do
 
@@ -147,7 +147,7 @@ from6 = refl
 
 -- ---- the return
 
-history_7 : current run7 ≡ act a deeds.Check One (Leaf 1) ∷ []
+history_7 : current run7 ≡ act a step_kinds.Check One (Leaf 1) ∷ []
 unfolding epoch current kept
 history_7 = refl
 
@@ -156,12 +156,12 @@ unfolding epoch
 epoch_7 = refl
 
 abbrev at_checkpoint : Event
-at_checkpoint = event_of [] (act a deeds.Check One (Leaf 1))
+at_checkpoint = event_of [] (act a step_kinds.Check One (Leaf 1))
 
-lawful_7 : IsLawful a (act a deeds.Check One (Leaf 1) ∷ [])
+lawful_7 : IsLawful a (act a step_kinds.Check One (Leaf 1) ∷ [])
 lawful_7 = next start (root_holds a) (record { same_id = λ t. refl; grown = grown_of One (Leaf 0) (Leaf 1) on_one one_some tt step_1 })
 
-lives_7 : status a (act a deeds.Check One (Leaf 1) ∷ []) a ≡ Living at_checkpoint
+lives_7 : status a (act a step_kinds.Check One (Leaf 1) ∷ []) a ≡ Living at_checkpoint
 unfolding status
 lives_7 = refl
 

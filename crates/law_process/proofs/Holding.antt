@@ -5,7 +5,7 @@ use Rattle.std.proofs.lemmas.Bool.{cases_Bool, cond-true, cond-false}
 use Rattle.id_tree.specs.IdTree.{IdTree}
 use Rattle.law_lines.proofs.Listed.{first_in, later_in, in_cases, none_in}
 use Rattle.law_histories.proofs.Status.{root_holds}
-use Rattle.report_line.specs.declared.step.StepKind.TheVariants as deeds
+use Rattle.report_line.specs.declared.step.StepKind.TheVariants as step_kinds
 use Rattle.report_line.specs.declared.step.Step.{Step}
 use Rattle.report_line.specs.histories.History.{Name, History, Event, event_of, birth_of_root, Retired, Absorbed, status}
 use Rattle.law_histories.specs.Kept.{Cut, kept}
@@ -13,7 +13,7 @@ use Rattle.process.specs.declared.process.Process.{Process}
 use Rattle.process.specs.declared.handed.Message.{Message}
 use Rattle.process.specs.declared.handed.Start.{Start}
 use Rattle.process.specs.declared.handed.Retirement.{Retirement}
-use Rattle.law_process.specs.Accounts.{Act, Send, Fork, Retire, Doing, DoesSo, begun_by, deed_of}
+use Rattle.law_process.specs.Accounts.{Act, Send, Fork, Retire, Doing, DoesSo, begun_by, step_kind_of}
 use Rattle.law_process.specs.Handing.{Past, first, newest, IsCall, IsUnbegun, IsUnabsorbed, stamp_of}
 use Rattle.law_process.specs.EachCall.{LivesAs, IsSent}
 use Rattle.law_process.proofs.Calls.{call_within, GaveMessage, GaveAgain, GaveStart, GaveRetirement, IsForked, first_is, newest_is}
@@ -26,8 +26,8 @@ HasRetired root h past n r =
 
 pub record AreCurrent (root : Name) (past : Past) (h : History) (e : ℕ) : Type 0 where
   pub lives : (p : Name) (s : Process) → newest root past p ≡ Some s → s.epoch ≡ e → LivesAs root h s
-  pub forked : (s : Step) (c : Name) (i : IdTree) → Contains h s → s.deed ≡ deeds.Fork c i → IsForked past c
-  pub numbered : (s : Step) (m : Name) → Contains h s → s.deed ≡ deeds.Send m → (k : ℕ) × (m ≡ k ∷ []) × (k < length past)
+  pub forked : (s : Step) (c : Name) (i : IdTree) → Contains h s → s.step_kind ≡ step_kinds.Fork c i → IsForked past c
+  pub numbered : (s : Step) (m : Name) → Contains h s → s.step_kind ≡ step_kinds.Send m → (k : ℕ) × (m ≡ k ∷ []) × (k < length past)
   pub sent : (n : ℕ) (m : Message) → GaveMessage past n m → m.epoch ≡ e → IsSent h n m
   pub again : (n : ℕ) (m : Message) → GaveAgain past n m → m.epoch ≡ e → IsSent h n m
   pub started : (n : ℕ) (s : Start) → GaveStart past n s → s.epoch ≡ e → IsUnbegun past n → LivesAs root h (begun_by s)
@@ -84,25 +84,25 @@ current_settled root past h e cut order holds = record {
   once = λ n m r q gave_r gave_q same also equal. absurd (none_newer r.epoch e (retirement_within root past e order n r gave_r) same);
 }
 
--- ---- what a call gives out is of the epoch of its process, and has a deed
+-- ---- what a call gives out is of the epoch of its process, and has a kind of step
 
-pub message_of : (n : ℕ) (a : Act) (m : Message) (old new : Process) → DoesSo a old new → a ≡ Send m → (deed_of n a ≡ Some (deeds.Send (n ∷ []))) × (m.epoch ≡ old.epoch) × (m.events ≡ new.stamp.events)
+pub message_of : (n : ℕ) (a : Act) (m : Message) (old new : Process) → DoesSo a old new → a ≡ Send m → (step_kind_of n a ≡ Some (step_kinds.Send (n ∷ []))) × (m.epoch ≡ old.epoch) × (m.events ≡ new.stamp.events)
 message_of n a m old new does is =
     let w : DoesSo (Send m) old new = subst (λ (b : Act). DoesSo b old new) is does in
-    (ap (deed_of n) is, w.epoch, w.events)
+    (ap (step_kind_of n) is, w.epoch, w.events)
 
 pub record GivesStart (n : ℕ) (a : Act) (s : Start) (old new : Process) : Type 0 where
-  pub deed : deed_of n a ≡ Some (deeds.Fork s.child s.stamp.id)
+  pub step_kind : step_kind_of n a ≡ Some (step_kinds.Fork s.child s.stamp.id)
   pub epoch : s.epoch ≡ old.epoch
   pub events : s.stamp.events ≡ new.stamp.events
 
 pub start_of : (n : ℕ) (a : Act) (s : Start) (line : List ℕ) (old new : Process) → DoesSo a old new → a ≡ Fork s line → GivesStart n a s old new
 start_of n a s line old new does is =
     let w : DoesSo (Fork s line) old new = subst (λ (b : Act). DoesSo b old new) is does in
-    record { deed = ap (deed_of n) is; epoch = w.epoch; events = w.same }
+    record { step_kind = ap (step_kind_of n) is; epoch = w.epoch; events = w.same }
 
 pub record GivesRetirement (n : ℕ) (a : Act) (r : Retirement) (old new : Process) : Type 0 where
-  pub deed : deed_of n a ≡ Some (deeds.Retire r.target)
+  pub step_kind : step_kind_of n a ≡ Some (step_kinds.Retire r.target)
   pub epoch : r.epoch ≡ old.epoch
   pub process : r.process ≡ old.name
   pub stamp : new.stamp ≡ r.stamp
@@ -111,7 +111,7 @@ pub retirement_of : (n : ℕ) (a : Act) (target : Name) (r : Retirement) (line :
 retirement_of n a target r line old new does is =
     let w : DoesSo (Retire target r line) old new = subst (λ (b : Act). DoesSo b old new) is does in
     record {
-      deed = ap (deed_of n) is ∙ ap (λ (q : Name). Some (deeds.Retire q)) (sym w.0.target_is);
+      step_kind = ap (step_kind_of n) is ∙ ap (λ (q : Name). Some (step_kinds.Retire q)) (sym w.0.target_is);
       epoch = w.0.epoch;
       process = w.0.process;
       stamp = ap (λ (p : Process). p.stamp) w.1;

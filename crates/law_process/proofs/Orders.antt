@@ -48,7 +48,7 @@ module _ (root : Name) (run : Run) (past : Past) (order : AreInOrder root past (
   old_within old from = order.known old (newest_is root past old.name old from).1
 
   new_within : (a : Act) (old new : Process) → Kind root run past a old new → new.epoch ≤ epoch run
-  new_within a old new (steps deed is name same from) = (let within : old.epoch ≤ epoch run = old_within old from in omega arith)
+  new_within a old new (steps step_kind is name same from) = (let within : old.epoch ≤ epoch run = old_within old from in omega arith)
   new_within a old new (begins n s is new_is gave none) =
       (let within : s.epoch ≤ epoch run = start_within root past (epoch run) order n s gave in
       let same : new.epoch ≡ s.epoch = ap (λ (p : Process). p.epoch) new_is in
@@ -58,7 +58,7 @@ module _ (root : Name) (run : Run) (past : Past) (order : AreInOrder root past (
   new_within a old new (returns now is does once within at) = (let same : new.epoch ≡ now = ap (λ (p : Process). p.epoch) does.new_is in omega arith)
 
   new_named : (a : Act) (old new : Process) → Kind root run past a old new → IsNamed root past new.name
-  new_named a old new (steps deed is name same from) = subst (IsNamed root past) (sym name) (order.named old (newest_is root past old.name old from).1)
+  new_named a old new (steps step_kind is name same from) = subst (IsNamed root past) (sym name) (order.named old (newest_is root past old.name old from).1)
   new_named a old new (begins n s is new_is gave none) = subst (IsNamed root past) (sym (ap (λ (p : Process). p.name) new_is)) (inr (start_named past n s gave))
   new_named a old new (hands n sent again is same does from was) =
       subst (IsNamed root past) (sym (ap (λ (p : Process). p.name) same)) (order.named old (newest_is root past old.name old from).1)
@@ -86,7 +86,7 @@ module _ (root : Name) (run : Run) (past : Past) (order : AreInOrder root past (
 
   -- who stands for a start that nobody began with has another name
   not_begun : (a : Act) (old new : Process) → Kind root run past a old new → (n : ℕ) (s : Start) → GaveStart past n s → IsUnbegun (made a old new ∷ past) n → new.name ≢ s.child
-  not_begun a old new (steps deed is name same from) n s gave none is_child =
+  not_begun a old new (steps step_kind is name same from) n s gave none is_child =
       order.unbegun n s gave (unbegun_before past (made a old new) n none) old (newest_is root past old.name old from).1 (sym name ∙ is_child)
   not_begun a old new (begins m t is new_is gave_t none_t) n s gave none is_child =
       let place : n ≡ m = order.different n m s t gave gave_t (sym is_child ∙ ap (λ (p : Process). p.name) new_is) in

@@ -3,7 +3,7 @@ use Rattle.std.proofs.Common.{◌≡◌, ℕ, ◌<◌, Some, List, [], ◌∷◌
 use Rattle.std.proofs.lemmas.Option.{none-some}
 use Rattle.law_histories.proofs.Rules.{newest_lives}
 use Rattle.report_line.specs.declared.step.StepKind.{StepKind}
-use Rattle.report_line.specs.declared.step.StepKind.TheVariants as deeds
+use Rattle.report_line.specs.declared.step.StepKind.TheVariants as step_kinds
 use Rattle.report_line.specs.histories.History.{Name}
 use Rattle.report_line.specs.histories.Lawful.{IsLawful}
 use Rattle.law_lines.specs.Runs.{Run, epoch, current}
@@ -11,7 +11,7 @@ use Rattle.process.specs.declared.process.Process.{Process}
 use Rattle.process.specs.declared.handed.Message.{Message}
 use Rattle.process.specs.declared.handed.Start.{Start}
 use Rattle.process.specs.declared.handed.Retirement.{Retirement}
-use Rattle.law_process.specs.Accounts.{Act, Again, Begin, Retire, Return, DoesSo, deed_of, made}
+use Rattle.law_process.specs.Accounts.{Act, Again, Begin, Retire, Return, DoesSo, step_kind_of, made}
 use Rattle.law_process.specs.Handing.{Past, IsAtPosition}
 use Rattle.law_process.specs.EachCall.{LivesAs, IsSent}
 use Rattle.law_process.proofs.Calls.{message_cases, again_cases, start_cases, retirement_cases, unbegun_before, unabsorbed_before, forked_later, goes_on_is, newest_cases}
@@ -39,9 +39,9 @@ same_again k n q sent r m is = (cc, cc, cc)
 
 module _ (root : Name) (run : Run) (past : Past) (a : Act) (old new : Process) (lawful : IsLawful root (current run))
     (holds : AreCurrent root past (current run) (epoch run)) (does : DoesSo a old new) (kind : Kind root run past a old new)
-    (rests : (deed : StepKind) → deed_of (length past) a ≡ Some deed → old.epoch < epoch run) where
+    (rests : (step_kind : StepKind) → step_kind_of (length past) a ≡ Some step_kind → old.epoch < epoch run) where
   still_lives : Kind root run past a old new → new.epoch ≡ epoch run → LivesAs root (current run) new
-  still_lives (steps deed is name same from) now = (let less : old.epoch < epoch run = rests deed is in absurd (omega arith))
+  still_lives (steps step_kind is name same from) now = (let less : old.epoch < epoch run = rests step_kind is in absurd (omega arith))
   still_lives (begins n s is new_is gave none) now =
       subst (λ (p : Process). LivesAs root (current run) p) (sym new_is)
       (holds.started n s gave (sym (ap (λ (p : Process). p.epoch) new_is) ∙ now) none)
@@ -50,12 +50,12 @@ module _ (root : Name) (run : Run) (past : Past) (a : Act) (old new : Process) (
   still_lives (returns now_at is does_so once within at) now =
       at_position root run old new now_at lawful does_so.new_is (at (sym (ap (λ (p : Process). p.epoch) does_so.new_is) ∙ now))
 
-  not_now : (deed : StepKind) (k : ℕ) → deed_of (length past) a ≡ Some deed → k ≡ old.epoch → k ≡ epoch run → ⊥
-  not_now deed k is same now = (let less : old.epoch < epoch run = rests deed is in omega arith)
+  not_now : (step_kind : StepKind) (k : ℕ) → step_kind_of (length past) a ≡ Some step_kind → k ≡ old.epoch → k ≡ epoch run → ⊥
+  not_now step_kind k is same now = (let less : old.epoch < epoch run = rests step_kind is in omega arith)
 
   -- what it hands over once more now was sent in the current history
   handed_now : Kind root run past a old new → (n : ℕ) (sent m : Message) → a ≡ Again n sent m → m.epoch ≡ epoch run → IsSent (current run) n m
-  handed_now (steps deed is name same from) n sent m act now = absurd (none-some deed (sym (ap (deed_of (length past)) act) ∙ is))
+  handed_now (steps step_kind is name same from) n sent m act now = absurd (none-some step_kind (sym (ap (step_kind_of (length past)) act) ∙ is))
   handed_now (begins k s is new_is gave none) n sent m act now = absurd (again_no_begin n sent m k s (sym act ∙ is))
   handed_now (returns k is does_so once within at) n sent m act now = absurd (again_no_return n sent m k (sym act ∙ is))
   handed_now (hands k q r is same does_so from was) n sent m act now =
@@ -76,7 +76,7 @@ module _ (root : Name) (run : Run) (past : Past) (a : Act) (old new : Process) (
     numbered = λ s m at is. (let w = holds.numbered s m at is in let lt : w.0 < length past = w.2 in (w.0, w.1, omega arith));
     sent = λ n m gave now.
         elim (message_cases past (made a old new) n m gave) [
-          | inl w ↦ (let g = message_of (length past) a m old new does w.0 in absurd (not_now (deeds.Send (length past ∷ [])) m.epoch g.0 g.1 now))
+          | inl w ↦ (let g = message_of (length past) a m old new does w.0 in absurd (not_now (step_kinds.Send (length past ∷ [])) m.epoch g.0 g.1 now))
           | inr before ↦ holds.sent n m before now
         ];
     again = λ n m gave now.
@@ -86,7 +86,7 @@ module _ (root : Name) (run : Run) (past : Past) (a : Act) (old new : Process) (
         ];
     started = λ n s gave now none.
         elim (start_cases past (made a old new) n s gave) [
-          | inl w ↦ (let g = start_of (length past) a s w.0 old new does w.1 in absurd (not_now (deeds.Fork s.child s.stamp.id) s.epoch g.deed g.epoch now))
+          | inl w ↦ (let g = start_of (length past) a s w.0 old new does w.1 in absurd (not_now (step_kinds.Fork s.child s.stamp.id) s.epoch g.step_kind g.epoch now))
           | inr before ↦ holds.started n s before now (unbegun_before past (made a old new) n none)
         ];
     retired = λ n r gave now.
@@ -108,4 +108,4 @@ module _ (root : Name) (run : Run) (past : Past) (a : Act) (old new : Process) (
   }
     where
       not_retired : (target : Name) (r : Retirement) (line : List ℕ) → a ≡ Retire target r line → r.epoch ≡ epoch run → ⊥
-      not_retired target r line is now = (let g = retirement_of (length past) a target r line old new does is in not_now (deeds.Retire r.target) r.epoch g.deed g.epoch now)
+      not_retired target r line is now = (let g = retirement_of (length past) a target r line old new does is in not_now (step_kinds.Retire r.target) r.epoch g.step_kind g.epoch now)

@@ -11,10 +11,10 @@ use Rattle.report_line.specs.histories.Lawful.{IsAllowed, IsLawful, start, next}
 use Rattle.law_lines.specs.Runs.{Run, Made, epoch, current, earlier}
 use Rattle.law_turns.specs.Traces.{IsRightStep}
 use Rattle.process.specs.declared.process.Process.{Process}
-use Rattle.law_process.specs.Accounts.{Act, Doing, DoesSo, deed_of, made}
+use Rattle.law_process.specs.Accounts.{Act, Doing, DoesSo, step_kind_of, made}
 use Rattle.law_process.specs.Handing.{Past, GoesFromNewest, MayDo, run_with}
-use Rattle.law_process.specs.EachCall.{step_of, IsTold}
-use Rattle.law_process.proofs.CallKinds.{on_deed, Kind, steps, begins, hands, returns, kind_of}
+use Rattle.law_process.specs.EachCall.{step_of, IsReportLine}
+use Rattle.law_process.proofs.CallKinds.{on_step_kind, Kind, steps, begins, hands, returns, kind_of}
 use Rattle.law_process.proofs.Orders.{AreInOrder, order_next, first_order, old_within}
 use Rattle.law_process.proofs.Holding.{AreCurrent, first_current}
 use Rattle.law_process.proofs.Resting.{current_still}
@@ -74,33 +74,33 @@ first_holds root = holds_as root [] [] [] 0 first_history first_epoch start (fir
 -- the step of a call is right
 abbrev pub IsRight : Name → Run → Option StepKind → Doing → Type 0
 IsRight root run None d = ⊤
-IsRight root run (Some deed) d = IsRightStep root run d.old.epoch (step_of d.old deed d.new)
+IsRight root run (Some step_kind) d = IsRightStep root run d.old.epoch (step_of d.old step_kind d.new)
 
-own_step : (root : Name) (run : Run) (past : Past) (a : Act) (old new : Process) (deed : StepKind) → deed_of (length past) a ≡ Some deed → Kind root run past a old new
+own_step : (root : Name) (run : Run) (past : Past) (a : Act) (old new : Process) (step_kind : StepKind) → step_kind_of (length past) a ≡ Some step_kind → Kind root run past a old new
     → (new.name ≡ old.name) × GoesFromNewest root past old
-own_step root run past a old new deed is (steps other as_deed name epoch from) = (name, from)
-own_step root run past a old new deed is (begins n s act new_is gave none) = absurd (none-some deed (sym (ap (deed_of (length past)) act) ∙ is))
-own_step root run past a old new deed is (hands n sent again act same does from was) = absurd (none-some deed (sym (ap (deed_of (length past)) act) ∙ is))
-own_step root run past a old new deed is (returns now act does once within at) = absurd (none-some deed (sym (ap (deed_of (length past)) act) ∙ is))
+own_step root run past a old new step_kind is (steps other as_step_kind name epoch from) = (name, from)
+own_step root run past a old new step_kind is (begins n s act new_is gave none) = absurd (none-some step_kind (sym (ap (step_kind_of (length past)) act) ∙ is))
+own_step root run past a old new step_kind is (hands n sent again act same does from was) = absurd (none-some step_kind (sym (ap (step_kind_of (length past)) act) ∙ is))
+own_step root run past a old new step_kind is (returns now act does once within at) = absurd (none-some step_kind (sym (ap (step_kind_of (length past)) act) ∙ is))
 
 module _ (root : Name) (run : Run) (past : Past) (a : Act) (old new : Process) (w : Holds root run past) (does : DoesSo a old new) (may : MayDo root run past a old) where
   kind : Kind root run past a old new
   kind = kind_of root run past a old new does may
 
-  pub own_within : (deed : StepKind) → deed_of (length past) a ≡ Some deed → old.epoch ≤ epoch run
-  own_within deed is = old_within root run past w.order old (own_step root run past a old new deed is kind).1
+  pub own_within : (step_kind : StepKind) → step_kind_of (length past) a ≡ Some step_kind → old.epoch ≤ epoch run
+  own_within step_kind is = old_within root run past w.order old (own_step root run past a old new step_kind is kind).1
 
-  pub step_now : (deed : StepKind) → deed_of (length past) a ≡ Some deed → old.epoch ≡ epoch run → IsStepNow root run past a old new deed
-  step_now deed is now =
-      let own = own_step root run past a old new deed is kind in
+  pub step_now : (step_kind : StepKind) → step_kind_of (length past) a ≡ Some step_kind → old.epoch ≡ epoch run → IsStepNow root run past a old new step_kind
+  step_now step_kind is now =
+      let own = own_step root run past a old new step_kind is kind in
       let living = w.holding.lives old.name old own.1 now in
       record {
-        is_deed = is;
+        is_step_kind = is;
         now = now;
         from = own.1;
         living = living;
         allowed =
-            on_deed (deed_of (length past) a) deed (λ c. IsAllowed root (current run) living.event (step_of old c new) c) is
+            on_step_kind (step_kind_of (length past) a) step_kind (λ c. IsAllowed root (current run) living.event (step_of old c new) c) is
             (is_allowed root run past w.lawful w.holding a old new living.event does may now living.stamp);
       }
 
@@ -108,59 +108,59 @@ module _ (root : Name) (run : Run) (past : Past) (a : Act) (old new : Process) (
   order = order_next root run past w.order a old new does may kind
 
   -- no step
-  none_on : deed_of (length past) a ≡ None → Holds root run (made a old new ∷ past)
+  none_on : step_kind_of (length past) a ≡ None → Holds root run (made a old new ∷ past)
   none_on is = record {
     lawful = w.lawful;
     order = order;
-    holding = current_still root run past a old new w.lawful w.holding does kind (λ deed other. absurd (none-some deed (sym is ∙ other)));
+    holding = current_still root run past a old new w.lawful w.holding does kind (λ step_kind other. absurd (none-some step_kind (sym is ∙ other)));
     marked = marked_more root run run past (made a old new) w.marked (λ mark r was. was) (marked_silent root run (length past) a is);
   }
 
   -- a step of a process that has not returned
-  left_on : (deed : StepKind) → deed_of (length past) a ≡ Some deed → old.epoch < epoch run → Holds root (Made old.epoch (step_of old deed new) ∷ run) (made a old new ∷ past)
-  left_on deed is less =
-      let s = step_of old deed new in
+  left_on : (step_kind : StepKind) → step_kind_of (length past) a ≡ Some step_kind → old.epoch < epoch run → Holds root (Made old.epoch (step_of old step_kind new) ∷ run) (made a old new ∷ past)
+  left_on step_kind is less =
+      let s = step_of old step_kind new in
       holds_as root (Made old.epoch s ∷ run) (made a old new ∷ past) (current run) (epoch run) (current_left run old.epoch s less) (epoch_made run old.epoch s) w.lawful order
       (current_still root run past a old new w.lawful w.holding does kind (λ other also. less))
-      (marked_more root run (Made old.epoch s ∷ run) past (made a old new) w.marked (λ mark r was. earlier was) (marked_left root run a old new deed does less))
+      (marked_more root run (Made old.epoch s ∷ run) past (made a old new) w.marked (λ mark r was. earlier was) (marked_left root run a old new step_kind does less))
 
   -- a step of a process that has returned
-  next_on : (deed : StepKind) → deed_of (length past) a ≡ Some deed → old.epoch ≡ epoch run → Holds root (Made old.epoch (step_of old deed new) ∷ run) (made a old new ∷ past)
-  next_on deed is now =
-      let s = step_of old deed new in
-      let own = own_step root run past a old new deed is kind in
-      let step = step_now deed is now in
+  next_on : (step_kind : StepKind) → step_kind_of (length past) a ≡ Some step_kind → old.epoch ≡ epoch run → Holds root (Made old.epoch (step_of old step_kind new) ∷ run) (made a old new ∷ past)
+  next_on step_kind is now =
+      let s = step_of old step_kind new in
+      let own = own_step root run past a old new step_kind is kind in
+      let step = step_now step_kind is now in
       holds_as root (Made old.epoch s ∷ run) (made a old new ∷ past) (s ∷ current run) (epoch run) (current_made run old.epoch s now) (epoch_made run old.epoch s)
       (next w.lawful step.living.lives step.allowed) order
-      (current_next root run past a old new deed w.order w.holding does may own.0 step)
+      (current_next root run past a old new step_kind w.order w.holding does may own.0 step)
       (marked_more root run (Made old.epoch s ∷ run) past (made a old new) w.marked (λ mark r was. earlier was)
-      (marked_now root run a old new deed now
-      (on_deed (deed_of (length past) a) deed (λ c. IsTold old.epoch (report_of root (current run) (step_of old c new)) (line_given a)) is
+      (marked_now root run a old new step_kind now
+      (on_step_kind (step_kind_of (length past) a) step_kind (λ c. IsReportLine old.epoch (report_of root (current run) (step_of old c new)) (line_given a)) is
       (tells root (current run) (length past) a old new does step.living))))
 
-  right_now : (deed : StepKind) → deed_of (length past) a ≡ Some deed → old.epoch ≡ epoch run → IsRightStep root run old.epoch (step_of old deed new)
-  right_now deed is now =
-      let step = step_now deed is now in
+  right_now : (step_kind : StepKind) → step_kind_of (length past) a ≡ Some step_kind → old.epoch ≡ epoch run → IsRightStep root run old.epoch (step_of old step_kind new)
+  right_now step_kind is now =
+      let step = step_now step_kind is now in
       inl (
         now,
         (
           step.living.event,
           living_is_newest w.lawful old.name step.living.event step.living.lives,
-          law_obeys root (current run) step.living.event (step_of old deed new) w.lawful deed step.allowed,
+          law_obeys root (current run) step.living.event (step_of old step_kind new) w.lawful step_kind step.allowed,
         ),
       )
 
-  some_on : (deed : StepKind) → deed_of (length past) a ≡ Some deed
-      → IsRight root run (Some deed) (made a old new) × Holds root (Made old.epoch (step_of old deed new) ∷ run) (made a old new ∷ past)
-  some_on deed is =
+  some_on : (step_kind : StepKind) → step_kind_of (length past) a ≡ Some step_kind
+      → IsRight root run (Some step_kind) (made a old new) × Holds root (Made old.epoch (step_of old step_kind new) ∷ run) (made a old new ∷ past)
+  some_on step_kind is =
       elim (cases_lt old.epoch (epoch run)) [
-        | inl less ↦ (inr less, left_on deed is less)
+        | inl less ↦ (inr less, left_on step_kind is less)
         | inr least ↦
-            (let within : old.epoch ≤ epoch run = own_within deed is in
+            (let within : old.epoch ≤ epoch run = own_within step_kind is in
             let now : old.epoch ≡ epoch run = omega arith in
-            (right_now deed is now, next_on deed is now))
+            (right_now step_kind is now, next_on step_kind is now))
       ]
 
-  pub call_on : (o : Option StepKind) → deed_of (length past) a ≡ o → IsRight root run o (made a old new) × Holds root (run_with o (made a old new) run) (made a old new ∷ past)
+  pub call_on : (o : Option StepKind) → step_kind_of (length past) a ≡ o → IsRight root run o (made a old new) × Holds root (run_with o (made a old new) run) (made a old new ∷ past)
   call_on None is = (tt, none_on is)
-  call_on (Some deed) is = some_on deed is
+  call_on (Some step_kind) is = some_on step_kind is

@@ -34,9 +34,9 @@ others_stay h s p (Fork c i) before forks absorbs = cond-false (bytes_eq p c) _ 
 others_stay h s p (Absorb r) before forks absorbs = cond-false (bytes_eq p r) _ _ (bytes_other p r (λ same. absorbs (ap Absorb (sym same))))
 
 -- who does not act, is not born and is not absorbed stands as before
-stays : (root : Name) (h : History) (s : Step) (p : Name) → p ≢ s.process → ((i : IdTree) → s.deed ≢ Fork p i) → s.deed ≢ Absorb p
+stays : (root : Name) (h : History) (s : Step) (p : Name) → p ≢ s.process → ((i : IdTree) → s.step_kind ≢ Fork p i) → s.step_kind ≢ Absorb p
     → status root (s ∷ h) p ≡ status root h p
-stays root h s p differs forks absorbs = status_others root h s p differs ∙ others_stay h s p s.deed (status root h p) forks absorbs
+stays root h s p differs forks absorbs = status_others root h s p differs ∙ others_stay h s p s.step_kind (status root h p) forks absorbs
 
 retired_not_unborn : (x : Event) (q : Name) → Retired x q ≢ Unborn
 retired_not_unborn x q is = cc
@@ -53,11 +53,11 @@ unborn_not_absorbed is = cc
 pub absorbed_not_living : (x : Event) → Absorbed ≢ Living x
 absorbed_not_living x is = cc
 
-module _ (root : Name) (h : History) (b : Event) (s : Step) (living : status root h s.process ≡ Living b) (allowed : IsAllowed root h b s s.deed) where
-  forks_unborn : (p : Name) (i : IdTree) → s.deed ≡ Fork p i → status root h p ≡ Unborn
+module _ (root : Name) (h : History) (b : Event) (s : Step) (living : status root h s.process ≡ Living b) (allowed : IsAllowed root h b s s.step_kind) where
+  forks_unborn : (p : Name) (i : IdTree) → s.step_kind ≡ Fork p i → status root h p ≡ Unborn
   forks_unborn p i is = (fork_of root h b s p i allowed is).new_name
 
-  absorbs_retired : (p : Name) → s.deed ≡ Absorb p → (x : Event) × (status root h p ≡ Retired x s.process)
+  absorbs_retired : (p : Name) → s.step_kind ≡ Absorb p → (x : Event) × (status root h p ≡ Retired x s.process)
   absorbs_retired p is = (let w = subst (λ (a : StepKind). IsAllowed root h b s a) is allowed in (w.retirement, w.into_this))
 
   pub living_stays : (p : Name) (x : Event) → p ≢ s.process → status root h p ≡ Living x → status root (s ∷ h) p ≡ Living x
@@ -66,7 +66,7 @@ module _ (root : Name) (h : History) (b : Event) (s : Step) (living : status roo
       (λ is. let w = absorbs_retired p is in retired_not_living w.0 x s.process (sym w.1 ∙ there))
       ∙ there
 
-  unborn_stays : (p : Name) → ((i : IdTree) → s.deed ≢ Fork p i) → status root h p ≡ Unborn → status root (s ∷ h) p ≡ Unborn
+  unborn_stays : (p : Name) → ((i : IdTree) → s.step_kind ≢ Fork p i) → status root h p ≡ Unborn → status root (s ∷ h) p ≡ Unborn
   unborn_stays p forks there =
       stays root h s p (λ same. unborn_not_living b (sym there ∙ (ap (status root h) same ∙ living))) forks
       (λ is. let w = absorbs_retired p is in retired_not_unborn w.0 s.process (sym w.1 ∙ there))
@@ -75,11 +75,11 @@ module _ (root : Name) (h : History) (b : Event) (s : Step) (living : status roo
   retired_not_actor : (p q : Name) (x : Event) → status root h p ≡ Retired x q → p ≢ s.process
   retired_not_actor p q x there same = retired_not_living x b q (sym there ∙ (ap (status root h) same ∙ living))
 
-  pub retired_stays : (p q : Name) (x : Event) → s.deed ≢ Absorb p → status root h p ≡ Retired x q → status root (s ∷ h) p ≡ Retired x q
+  pub retired_stays : (p q : Name) (x : Event) → s.step_kind ≢ Absorb p → status root h p ≡ Retired x q → status root (s ∷ h) p ≡ Retired x q
   retired_stays p q x absorbs there =
       stays root h s p (retired_not_actor p q x there) (λ i is. retired_not_unborn x q (sym there ∙ forks_unborn p i is)) absorbs ∙ there
 
-  pub retired_ends : (p q : Name) (x : Event) → s.deed ≡ Absorb p → status root h p ≡ Retired x q → status root (s ∷ h) p ≡ Absorbed
+  pub retired_ends : (p q : Name) (x : Event) → s.step_kind ≡ Absorb p → status root h p ≡ Retired x q → status root (s ∷ h) p ≡ Absorbed
   retired_ends p q x absorbs there =
       status_others root h s p (retired_not_actor p q x there)
       ∙ (ap (λ (a : StepKind). status_of_other h s a p (status root h p)) absorbs ∙ cond-true (bytes_eq p p) _ _ (bytes_same p p refl))
@@ -96,7 +96,7 @@ unfolding status
 first_unborn root p differs = cond-false (bytes_eq p root) _ _ (bytes_other p root differs)
 
 -- who is not the root and is forked by no step is not born
-pub unforked_is_unborn : {root : Name} {h : History} → IsLawful root h → (p : Name) → p ≢ root → ((s : Step) (i : IdTree) → Contains h s → s.deed ≢ Fork p i) → status root h p ≡ Unborn
+pub unforked_is_unborn : {root : Name} {h : History} → IsLawful root h → (p : Name) → p ≢ root → ((s : Step) (i : IdTree) → Contains h s → s.step_kind ≢ Fork p i) → status root h p ≡ Unborn
 unforked_is_unborn {root} start p differs forks = first_unborn root p differs
 unforked_is_unborn {root} (next {h = h} {s = s} {before = b} lawful living allowed) p differs forks =
     unborn_stays root h b s living allowed p (λ i. forks s i (first_in s h)) (unforked_is_unborn lawful p differs (λ t i at. forks t i (later_in s t h at)))
@@ -104,7 +104,7 @@ unforked_is_unborn {root} (next {h = h} {s = s} {before = b} lawful living allow
 -- ---- a process that lives
 
 -- it lives on where another one acts
-pub lives_on : (root : Name) (h : History) (b : Event) (s : Step) (p : Process) → status root h s.process ≡ Living b → IsAllowed root h b s s.deed → p.name ≢ s.process
+pub lives_on : (root : Name) (h : History) (b : Event) (s : Step) (p : Process) → status root h s.process ≡ Living b → IsAllowed root h b s s.step_kind → p.name ≢ s.process
     → LivesAs root h p → LivesAs root (s ∷ h) p
 lives_on root h b s p living allowed differs w = record {
   event = w.event;
@@ -119,26 +119,26 @@ both_true a b e f = grind (arith, cases_Bool)
 right_false : (a b : Bool) → b ≡ false → (a && b) ≡ false
 right_false a b e = grind (arith, cases_Bool)
 
-pub counted : (h : History) (s : Step) → is_reported s.deed ≡ true → reporting_steps s.process (s ∷ h) ≡ reporting_steps s.process h + 1
+pub counted : (h : History) (s : Step) → is_reported s.step_kind ≡ true → reporting_steps s.process (s ∷ h) ≡ reporting_steps s.process h + 1
 counted h s is =
     let up : reporting_steps s.process h + 1 ≡ suc (reporting_steps s.process h) = omega arith in
-    cond-true (bytes_eq s.process s.process && is_reported s.deed) (suc (reporting_steps s.process h)) (reporting_steps s.process h)
-    (both_true (bytes_eq s.process s.process) (is_reported s.deed) (bytes_same s.process s.process refl) is)
+    cond-true (bytes_eq s.process s.process && is_reported s.step_kind) (suc (reporting_steps s.process h)) (reporting_steps s.process h)
+    (both_true (bytes_eq s.process s.process) (is_reported s.step_kind) (bytes_same s.process s.process refl) is)
     ∙ sym up
 
-pub uncounted : (h : History) (s : Step) → is_reported s.deed ≡ false → reporting_steps s.process (s ∷ h) ≡ reporting_steps s.process h + 0
+pub uncounted : (h : History) (s : Step) → is_reported s.step_kind ≡ false → reporting_steps s.process (s ∷ h) ≡ reporting_steps s.process h + 0
 uncounted h s is =
     let up : reporting_steps s.process h + 0 ≡ reporting_steps s.process h = omega arith in
-    cond-false (bytes_eq s.process s.process && is_reported s.deed) (suc (reporting_steps s.process h)) (reporting_steps s.process h)
-    (right_false (bytes_eq s.process s.process) (is_reported s.deed) is)
+    cond-false (bytes_eq s.process s.process && is_reported s.step_kind) (suc (reporting_steps s.process h)) (reporting_steps s.process h)
+    (right_false (bytes_eq s.process s.process) (is_reported s.step_kind) is)
     ∙ sym up
 
 -- it lives by its own step
-pub lives_by : (root : Name) (h : History) (old new : Process) (deed : StepKind) (k : ℕ) → ((x : Event) → status_of_actor deed x ≡ Living x)
-    → reporting_steps old.name (step_of old deed new ∷ h) ≡ reporting_steps old.name h + k → GoesOn old new k → LivesAs root h old
-    → LivesAs root (step_of old deed new ∷ h) new
-lives_by root h old new deed k actor count goes w =
-    let s = step_of old deed new in
+pub lives_by : (root : Name) (h : History) (old new : Process) (step_kind : StepKind) (k : ℕ) → ((x : Event) → status_of_actor step_kind x ≡ Living x)
+    → reporting_steps old.name (step_of old step_kind new ∷ h) ≡ reporting_steps old.name h + k → GoesOn old new k → LivesAs root h old
+    → LivesAs root (step_of old step_kind new ∷ h) new
+lives_by root h old new step_kind k actor count goes w =
+    let s = step_of old step_kind new in
     let name : old.name ≡ new.name = sym goes.name in
     record {
       event = event_of h s;
@@ -149,7 +149,7 @@ lives_by root h old new deed k actor count goes w =
     }
 
 -- the child of a fork lives by its birth
-pub child_lives : (root : Name) (h : History) (b : Event) (s : Step) (c : Process) (i : IdTree) → status root h s.process ≡ Living b → IsAllowed root h b s s.deed → s.deed ≡ Fork c.name i
+pub child_lives : (root : Name) (h : History) (b : Event) (s : Step) (c : Process) (i : IdTree) → status root h s.process ≡ Living b → IsAllowed root h b s s.step_kind → s.step_kind ≡ Fork c.name i
     → stamp_of (birth_by h s c.name i) ≡ c.stamp → c.reports ≡ 0 → LivesAs root (s ∷ h) c
 child_lives root h b s c i living allowed is stamp none =
     let unborn = (fork_of root h b s c.name i allowed is).new_name in
@@ -164,21 +164,21 @@ child_lives root h b s c i living allowed is stamp none =
     }
 
 -- who retires stands retired
-pub retires_by : (root : Name) (h : History) (s : Step) (p q : Name) → p ≡ s.process → s.deed ≡ Retire q → status root (s ∷ h) p ≡ Retired (event_of h s) q
+pub retires_by : (root : Name) (h : History) (s : Step) (p q : Name) → p ≡ s.process → s.step_kind ≡ Retire q → status root (s ∷ h) p ≡ Retired (event_of h s) q
 retires_by root h s p q same is = status_acts root h s p same ∙ ap (λ (a : StepKind). status_of_actor a (event_of h s)) is
 
 -- ---- a message
 
-pub sending_now : (h : History) (s : Step) (m : Name) → sends s.deed m ≡ true → sending (s ∷ h) m ≡ Some (event_of h s)
+pub sending_now : (h : History) (s : Step) (m : Name) → sends s.step_kind m ≡ true → sending (s ∷ h) m ≡ Some (event_of h s)
 unfolding sending
-sending_now h s m is = cond-true (sends s.deed m) (Some (event_of h s)) (sending h m) is
+sending_now h s m is = cond-true (sends s.step_kind m) (Some (event_of h s)) (sending h m) is
 
-pub sends_now : (h : History) (s : Step) (m : Name) → s.deed ≡ Send m → sending (s ∷ h) m ≡ Some (event_of h s)
+pub sends_now : (h : History) (s : Step) (m : Name) → s.step_kind ≡ Send m → sending (s ∷ h) m ≡ Some (event_of h s)
 sends_now h s m is = sending_now h s m (ap (λ (a : StepKind). sends a m) is ∙ bytes_same m m refl)
 
-pub sending_before : (h : History) (s : Step) (m : Name) → sends s.deed m ≡ false → sending (s ∷ h) m ≡ sending h m
+pub sending_before : (h : History) (s : Step) (m : Name) → sends s.step_kind m ≡ false → sending (s ∷ h) m ≡ sending h m
 unfolding sending
-sending_before h s m is = cond-false (sends s.deed m) (Some (event_of h s)) (sending h m) is
+sending_before h s m is = cond-false (sends s.step_kind m) (Some (event_of h s)) (sending h m) is
 
 sends_other : (a : StepKind) (m : Name) → a ≢ Send m → sends a m ≡ false
 sends_other Work m differs = refl
@@ -190,11 +190,11 @@ sends_other (Fork c i) m differs = refl
 sends_other (Retire q) m differs = refl
 sends_other (Absorb r) m differs = refl
 
-pub sent_stays : (h : History) (s : Step) (m : Name) → s.deed ≢ Send m → sending (s ∷ h) m ≡ sending h m
-sent_stays h s m differs = sending_before h s m (sends_other s.deed m differs)
+pub sent_stays : (h : History) (s : Step) (m : Name) → s.step_kind ≢ Send m → sending (s ∷ h) m ≡ sending h m
+sent_stays h s m differs = sending_before h s m (sends_other s.step_kind m differs)
 
 -- who sends in a step that is allowed sends what nobody sent
-pub unsent : (h : History) (m : Name) → ((s : Step) → Contains h s → s.deed ≢ Send m) → sending h m ≡ None
+pub unsent : (h : History) (m : Name) → ((s : Step) → Contains h s → s.step_kind ≢ Send m) → sending h m ≡ None
 unfolding sending
 unsent [] m none = refl
-unsent (s ∷ h) m none = cond-false (sends s.deed m) (Some (event_of h s)) (sending h m) (sends_other s.deed m (none s (first_in s h))) ∙ unsent h m (λ t at. none t (later_in s t h at))
+unsent (s ∷ h) m none = cond-false (sends s.step_kind m) (Some (event_of h s)) (sending h m) (sends_other s.step_kind m (none s (first_in s h))) ∙ unsent h m (λ t at. none t (later_in s t h at))

@@ -12,59 +12,59 @@ use Rattle.report_line.specs.declared.report.ReportKind.TheVariants as actions
 use Rattle.report_line.specs.declared.report.Report.{Report}
 use Rattle.report_line.specs.declared.report.Report.TheVariants.{Numbered}
 use Rattle.report_line.specs.declared.step.StepKind.{StepKind}
-use Rattle.report_line.specs.declared.step.StepKind.TheVariants as deeds
+use Rattle.report_line.specs.declared.step.StepKind.TheVariants as step_kinds
 use Rattle.report_line.specs.histories.History.{Name, History, status}
 use Rattle.report_line.specs.Reading.{Spells}
-use Rattle.report_line.specs.histories.StepReports.{id_of, numbered, report_of}
+use Rattle.report_line.specs.histories.StepReports.{id_of, step_report, report_of}
 use Rattle.report_line.proofs.OneCall.{one_call}
 use Rattle.law_lines.specs.Runs.{Run, Made, epoch, current, IsMarkedReport, of_current, of_left_behind}
 use Rattle.process.specs.declared.process.Process.{Process}
 use Rattle.process.specs.Steps.{next_report}
-use Rattle.law_process.specs.Accounts.{Act, Work, Send, Again, Receive, Check, Present, Fork, Begin, Retire, Absorb, Return, Doing, DoesSo, deed_of}
+use Rattle.law_process.specs.Accounts.{Act, Work, Send, Again, Receive, Check, Present, Fork, Begin, Retire, Absorb, Return, Doing, DoesSo, step_kind_of}
 use Rattle.law_process.specs.Handing.{Past, HasLine}
 use Rattle.law_process.specs.Obeying.{line_given, AreLinesOf}
-use Rattle.law_process.specs.EachCall.{LivesAs, step_of, IsTold}
-use Rattle.law_process.proofs.CallKinds.{OnDeed}
+use Rattle.law_process.specs.EachCall.{LivesAs, step_of, IsReportLine}
+use Rattle.law_process.proofs.CallKinds.{OnStepKind}
 
 -- ---- each call tells its report
 
-numbered_is : (root : Name) (h : History) (old new : Process) (deed : StepKind) (i : IdTree) (action : ReportKind) → LivesAs root h old
-    → numbered h (step_of old deed new) i action ≡ next_report old (record { id = i; events = new.stamp.events }) action
-numbered_is root h old new deed i action w =
+numbered_is : (root : Name) (h : History) (old new : Process) (step_kind : StepKind) (i : IdTree) (action : ReportKind) → LivesAs root h old
+    → step_report h (step_of old step_kind new) i action ≡ next_report old (record { id = i; events = new.stamp.events }) action
+numbered_is root h old new step_kind i action w =
     ap (λ (k : ℕ). Numbered (record { process = old.name; number = k + 1; stamp = record { id = i; events = new.stamp.events }; action = action })) (sym w.reports)
 
 pub tells : (root : Name) (h : History) (n : ℕ) (a : Act) (old new : Process) → DoesSo a old new → LivesAs root h old
-    → OnDeed (deed_of n a) (λ deed. IsTold old.epoch (report_of root h (step_of old deed new)) (line_given a))
+    → OnStepKind (step_kind_of n a) (λ step_kind. IsReportLine old.epoch (report_of root h (step_of old step_kind new)) (line_given a))
 tells root h n Work old new does w = refl
 tells root h n (Send m) old new does w = refl
 tells root h n (Again from sent m) old new does w = tt
 tells root h n (Receive from m) old new does w = refl
 tells root h n (Check line) old new does w =
-    (next_report old new.stamp actions.Check, ap (λ (r : Report). Some r) (numbered_is root h old new deeds.Check new.stamp.id actions.Check w), does.reported)
+    (next_report old new.stamp actions.Check, ap (λ (r : Report). Some r) (numbered_is root h old new step_kinds.Check new.stamp.id actions.Check w), does.reported)
 tells root h n (Present line) old new does w =
-    (next_report old new.stamp actions.Present, ap (λ (r : Report). Some r) (numbered_is root h old new deeds.Present new.stamp.id actions.Present w), does.reported)
+    (next_report old new.stamp actions.Present, ap (λ (r : Report). Some r) (numbered_is root h old new step_kinds.Present new.stamp.id actions.Present w), does.reported)
 tells root h n (Fork s line) old new does w =
     let action = actions.Fork (record { kept = new.stamp.id; child = s.child; given = s.stamp.id }) in
-    let deed = deeds.Fork s.child s.stamp.id in
+    let step_kind = step_kinds.Fork s.child s.stamp.id in
     let before : id_of (status root h old.name) ≡ old.stamp.id = ap id_of w.lives ∙ ap (λ (t : Stamp). t.id) w.stamp in (
       next_report old (record { id = old.stamp.id; events = new.stamp.events }) action,
-      ap (λ (i : IdTree). Some (numbered h (step_of old deed new) i action)) before ∙ ap (λ (r : Report). Some r) (numbered_is root h old new deed old.stamp.id action w),
+      ap (λ (i : IdTree). Some (step_report h (step_of old step_kind new) i action)) before ∙ ap (λ (r : Report). Some r) (numbered_is root h old new step_kind old.stamp.id action w),
       does.reported,
     )
 tells root h n (Begin from s) old new does w = tt
 tells root h n (Retire target r line) old new does w =
     let action = actions.Retire target in (
       next_report old new.stamp action,
-      ap (λ (x : Report). Some x) (numbered_is root h old new (deeds.Retire target) new.stamp.id action w),
+      ap (λ (x : Report). Some x) (numbered_is root h old new (step_kinds.Retire target) new.stamp.id action w),
       subst (λ (t : Stamp). Spells (calls.Report (record { epoch = old.epoch; report = next_report old t action })) line) (sym (ap (λ (p : Process). p.stamp) does.1)) does.0.reported,
     )
 tells root h n (Absorb from r line) old new does w =
     let action = actions.Absorb r.process in
-    (next_report old new.stamp action, ap (λ (x : Report). Some x) (numbered_is root h old new (deeds.Absorb r.process) new.stamp.id action w), does.reported)
+    (next_report old new.stamp action, ap (λ (x : Report). Some x) (numbered_is root h old new (step_kinds.Absorb r.process) new.stamp.id action w), does.reported)
 tells root h n (Return now) old new does w = tt
 
 -- who makes no step tells nothing
-pub silent : (n : ℕ) (a : Act) → deed_of n a ≡ None → line_given a ≡ []
+pub silent : (n : ℕ) (a : Act) → step_kind_of n a ≡ None → line_given a ≡ []
 silent n Work is = absurd (cc)
 silent n (Send m) is = absurd (cc)
 silent n (Again from sent m) is = refl
@@ -144,28 +144,28 @@ marked_more root run later past d marked keeps now x line m at has spells =
       | inr before ↦ keeps m.epoch m.report (marked x line m before has spells)
     ]
 
-pub marked_silent : (root : Name) (run : Run) (n : ℕ) (a : Act) → deed_of n a ≡ None → IsMarkedNow root run a
+pub marked_silent : (root : Name) (run : Run) (n : ℕ) (a : Act) → step_kind_of n a ≡ None → IsMarkedNow root run a
 marked_silent root run n a none line m has spells = (let both : line ∷ [] ≡ [] = sym (line_is a line has) ∙ silent n a none in absurd (cc))
 
-pub marked_left : (root : Name) (run : Run) (a : Act) (old new : Process) (deed : StepKind) → DoesSo a old new → old.epoch < epoch run
-    → IsMarkedNow root (Made old.epoch (step_of old deed new) ∷ run) a
-marked_left root run a old new deed does less line m has spells =
+pub marked_left : (root : Name) (run : Run) (a : Act) (old new : Process) (step_kind : StepKind) → DoesSo a old new → old.epoch < epoch run
+    → IsMarkedNow root (Made old.epoch (step_of old step_kind new) ∷ run) a
+marked_left root run a old new step_kind does less line m has spells =
     let w = epoch_told a old new line does has in
-    subst (λ (k : MarkedReport). IsMarkedReport root (Made old.epoch (step_of old deed new) ∷ run) k.epoch k.report)
+    subst (λ (k : MarkedReport). IsMarkedReport root (Made old.epoch (step_of old step_kind new) ∷ run) k.epoch k.report)
     (sym (one_report m (record { epoch = old.epoch; report = w.0 }) line spells w.1)) (of_left_behind less)
 
-pub marked_now : (root : Name) (run : Run) (a : Act) (old new : Process) (deed : StepKind) → old.epoch ≡ epoch run
-    → IsTold old.epoch (report_of root (current run) (step_of old deed new)) (line_given a) → IsMarkedNow root (Made old.epoch (step_of old deed new) ∷ run) a
-marked_now root run a old new deed now told line m has spells =
-    let s = step_of old deed new in
-    let w : IsTold old.epoch (report_of root (current run) s) (line ∷ []) = subst (IsTold old.epoch (report_of root (current run) s)) (line_is a line has) told in
+pub marked_now : (root : Name) (run : Run) (a : Act) (old new : Process) (step_kind : StepKind) → old.epoch ≡ epoch run
+    → IsReportLine old.epoch (report_of root (current run) (step_of old step_kind new)) (line_given a) → IsMarkedNow root (Made old.epoch (step_of old step_kind new) ∷ run) a
+marked_now root run a old new step_kind now told line m has spells =
+    let s = step_of old step_kind new in
+    let w : IsReportLine old.epoch (report_of root (current run) s) (line ∷ []) = subst (IsReportLine old.epoch (report_of root (current run) s)) (line_is a line has) told in
     subst (λ (k : MarkedReport). IsMarkedReport root (Made old.epoch s ∷ run) k.epoch k.report)
     (sym (one_report m (record { epoch = old.epoch; report = w.0 }) line spells w.2))
     (subst (λ (k : ℕ). IsMarkedReport root (Made k s ∷ run) k w.0) (sym now) (of_current w.1))
 
 -- ---- lists of lines
 
-pub lines_more : (o : Option Report) (given lines : List (List ℕ)) (rest : List Report) → IsTold 0 o given → AreLinesOf lines rest
+pub lines_more : (o : Option Report) (given lines : List (List ℕ)) (rest : List Report) → IsReportLine 0 o given → AreLinesOf lines rest
     → AreLinesOf (given ++ lines) (cons_option o [] ++ rest)
 lines_more o [] lines rest told are = subst (λ (p : Option Report). AreLinesOf lines (cons_option p [] ++ rest)) (sym told) are
 lines_more o (line ∷ []) lines rest told are =

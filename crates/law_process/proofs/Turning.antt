@@ -18,7 +18,7 @@ use Rattle.law_turns.specs.Traces.{Trace, AreTurns, IsRightReport, Adds, IsSettl
 use Rattle.law_turns.specs.Obeyed.{IsHeldAfter}
 use Rattle.law_turns.proofs.Growing.{step_grows, turn_grows}
 use Rattle.law_turns.proofs.Following.{held_at_first}
-use Rattle.law_process.specs.Accounts.{Doing, Did, Took, Account, deed_of, steps_by, traced}
+use Rattle.law_process.specs.Accounts.{Doing, Did, Took, Account, step_kind_of, steps_by, traced}
 use Rattle.law_process.specs.Handing.{Past, IsHandedIn, run_with, AreHandedOver}
 use Rattle.law_process.specs.Obeying.{StepsOfCallsObey}
 use Rattle.law_process.specs.EachCall.{step_of}
@@ -81,29 +81,29 @@ turn_on root run later past _ _ w obeyed adds = same_on root run later past w ad
 
 turns_behind : (o : Option StepKind) (d : Doing) (trace : Trace) (held after : Held) → AreTurns held (steps_by o d ++ trace) after → AreTurns held trace after
 turns_behind None d trace held after turns = turns
-turns_behind (Some deed) d trace held after turns = turns
+turns_behind (Some step_kind) d trace held after turns = turns
 
 obey_from : (root : Name) (run : Run) (o : Option StepKind) (d : Doing) (trace : Trace) → IsRight root run o d → ProcessesObey root (run_with o d run) trace → ProcessesObey root run (steps_by o d ++ trace)
 obey_from root run None d trace right obey = obey
-obey_from root run (Some deed) d trace right obey = (right, obey)
+obey_from root run (Some step_kind) d trace right obey = (right, obey)
 
 -- a run with a step that is right is obeyed, with what is held
 call_grows : (root : Name) (run : Run) (held : Held) (o : Option StepKind) (d : Doing) → IsObeyed root run → IsHeldAfter run held → IsRight root run o d
     → IsObeyed root (run_with o d run) × IsHeldAfter (run_with o d run) held
 call_grows root run held None d obeyed holds right = (obeyed, holds)
-call_grows root run held (Some deed) d obeyed holds right = step_grows root run held d.old.epoch (step_of d.old deed d.new) obeyed holds right
+call_grows root run held (Some step_kind) d obeyed holds right = step_grows root run held d.old.epoch (step_of d.old step_kind d.new) obeyed holds right
 
 calls_obey : (root : Name) (account : Account) (n : ℕ) (run : Run) (past : Past) (held after : Held) → n ≡ length past → IsObeyed root run → IsHeldAfter run held → Holds root run past
     → AreTurns held (traced n account) after → AreHandedOver root run past account → ProcessesObey root run (traced n account)
 calls_obey root [] n run past held after count obeyed holds w turns handed = tt
 calls_obey root (Did d ∷ account) n run past held after count obeyed holds w turns handed =
-    let o = deed_of (length past) d.act in
+    let o = step_kind_of (length past) d.act in
     let on = call_on root run past d.act d.old d.new w handed.0 handed.1 o refl in
     let grown = call_grows root run held o d obeyed holds on.0 in
     let more : n + 1 ≡ length (d ∷ past) = omega arith in
-    let behind = turns_behind (deed_of n d.act) d (traced (n + 1) account) held after turns in
+    let behind = turns_behind (step_kind_of n d.act) d (traced (n + 1) account) held after turns in
     let rest = calls_obey root account (n + 1) (run_with o d run) (d ∷ past) held after more grown.0 grown.1 on.1 behind handed.2 in
-    subst (λ (k : ℕ). ProcessesObey root run (steps_by (deed_of k d.act) d ++ traced (n + 1) account)) (sym count)
+    subst (λ (k : ℕ). ProcessesObey root run (steps_by (step_kind_of k d.act) d ++ traced (n + 1) account)) (sym count)
     (obey_from root run o d (traced (n + 1) account) on.0 rest)
 calls_obey root (Took call reply ∷ account) n run past held after count obeyed holds w turns handed =
     let right = right_report root run past call reply w.marked handed.0 in (

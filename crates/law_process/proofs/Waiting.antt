@@ -17,13 +17,13 @@ use Rattle.report_line.specs.declared.report.ReportKind.TheVariants as reported
 use Rattle.report_line.specs.declared.report.NumberedReport.{NumberedReport}
 use Rattle.report_line.specs.declared.report.Report.{Report}
 use Rattle.report_line.specs.declared.report.Report.TheVariants.{Begin, Numbered}
-use Rattle.report_line.specs.declared.step.StepKind.TheVariants as deeds
+use Rattle.report_line.specs.declared.step.StepKind.TheVariants as step_kinds
 use Rattle.report_line.specs.declared.step.Step.{Step}
 use Rattle.report_line.specs.histories.History.{Name, History, Event, event_of, Living, Retired, status, sending}
 use Rattle.report_line.specs.histories.Lawful.{IsLawful, start, next}
 use Rattle.report_line.specs.histories.Events.{step, earlier}
 use Rattle.report_line.specs.histories.StepReports.{reporting_steps}
-use Rattle.law_histories.specs.Example.{a, b, left, right, halves, act}
+use Rattle.law_histories.specs.Example.{a, b, left, right, halves, act, told, forked}
 use Rattle.law_histories.specs.Rules.{IsNewest, IsWaiting}
 use Rattle.law_histories.proofs.Bytes.{bytes_same, bytes_are}
 use Rattle.law_histories.proofs.Example.{leaf, has, apart, both, some_left, some_right, above, below}
@@ -41,7 +41,6 @@ use Rattle.chains.specs.Folded.{IsFitReport, IsFolded, nothing_folded, one_folde
 use Rattle.chains.specs.Greatest.{IsGreatestCut}
 use Rattle.chains.specs.Settled.{kept_at, IsSettled}
 use Rattle.chains.specs.Turns.{fine, IsTurn}
-use Rattle.law_lines.specs.Example.{told, forked}
 use Rattle.law_lines.specs.Places.{IsEventAt, place, IsUpTo, IsInCut}
 use Rattle.law_lines.proofs.Accepted.{filled, more_left, more_right, first_fork_fit}
 use Rattle.law_lines.proofs.Listed.{first_in, later_in, none_in}
@@ -61,7 +60,8 @@ use Rattle.law_process.specs.Handing.{Past, newest, WasOnce, IsUnbegun, IsAtPosi
 use Rattle.law_process.specs.Example.{line_of, a0, a1, b0, start_of_b, a_at_checkpoint, a_there_again, a_with_b, a_behind_receipt, b_behind_sending, b_ended, message_of_b, message_again, early_end_of_b, kept, AKeptRetirementIsPossible}
 use Rattle.law_process.proofs.GoneBack.{told_on}
 use Rattle.law_process.proofs.Standing.{sends_now, sent_stays}
-use Rattle.law_process.proofs.Written.{name_a, name_b, on_one, on_left, on_right, flat, halved, spells, grows, grown_of, counts, left_some, right_some, one_some, normal, work_step, send_step, forks_b, b_is_new, each_is, unbegun}
+use Rattle.law_histories.proofs.ExampleForms.{name_a, name_b, on_one, on_left, on_right, flat, halved}
+use Rattle.law_process.proofs.Written.{spells, grows, grown_of, counts, left_some, right_some, one_some, normal, work_step, send_step, forks_b, b_is_new, each_is, unbegun}
 
 -- ---- what the calls do
 
@@ -297,19 +297,19 @@ line_is_greatest = record {
 -- ---- the history, of which all is kept
 
 abbrev fork_step : Step
-fork_step = act a (deeds.Fork b right) left (Leaf 1)
+fork_step = act a (step_kinds.Fork b right) left (Leaf 1)
 
 abbrev check_step : Step
-check_step = act a deeds.Check left (halves 1 1 0)
+check_step = act a step_kinds.Check left (halves 1 1 0)
 
 abbrev sending_step : Step
-sending_step = act b (deeds.Send (3 ∷ [])) right (halves 1 0 1)
+sending_step = act b (step_kinds.Send (3 ∷ [])) right (halves 1 0 1)
 
 abbrev retire_step : Step
-retire_step = act b (deeds.Retire a) right (halves 1 0 2)
+retire_step = act b (step_kinds.Retire a) right (halves 1 0 2)
 
 abbrev absorb_step : Step
-absorb_step = act a (deeds.Absorb b) One (Leaf 3)
+absorb_step = act a (step_kinds.Absorb b) One (Leaf 3)
 
 abbrev before_sending : History
 before_sending = check_step ∷ fork_step ∷ []

@@ -1,11 +1,11 @@
 -- The account of every kind of call but a return, step by step.
-use Rattle.std.proofs.Common.{◌≡◌, ◌≢◌, ℕ, ◌+◌, ◌≤◌, ◌<◌, min, max, true, false, Some, List, [], ◌∷◌, inl, inr, refl, sym, ◌∙◌, ap, subst, arith}
+use Rattle.std.proofs.Common.{◌≡◌, ◌≢◌, ℕ, ◌<◌, min, true, false, Some, List, [], ◌∷◌, inl, inr, refl, sym, ◌∙◌, ap, subst, arith}
 use Rattle.std.specs.Prelude.{Contains, IsTrue, ◌==◌, ◌^◌, ⊤}
 use Rattle.id_tree.specs.IdTree.{IdTree, Zero, One}
 use Rattle.id_tree.specs.NormalForm.{IsId}
 use Rattle.id_tree.specs.Split.{IsSplit}
 use Rattle.event_tree.specs.EventTree.{EventTree, Leaf, Node}
-use Rattle.event_tree.specs.NormalForm.{IsNormal, IsEvents, value_limit}
+use Rattle.event_tree.specs.NormalForm.{IsNormal, IsEvents}
 use Rattle.event_tree.specs.Norm.{normal_node}
 use Rattle.event_tree.specs.Event.{fill, grow, IsEventStep}
 use Rattle.event_tree.specs.Grown.{IsGrown}
@@ -15,14 +15,14 @@ use Rattle.stamp.specs.declared.stamp.Stamp.{Stamp}
 use Rattle.report_line.specs.declared.call.Call.TheVariants as calls
 use Rattle.report_line.specs.declared.report.ReportKind.{ReportKind}
 use Rattle.report_line.specs.declared.report.ReportKind.TheVariants as reported
-use Rattle.report_line.specs.Names.{is_letter, is_name_byte, is_name}
+use Rattle.report_line.specs.Names.{is_name}
 use Rattle.report_line.specs.Spelling.{IsCount, IsAction}
-use Rattle.report_line.specs.declared.step.StepKind.TheVariants as deeds
+use Rattle.report_line.specs.declared.step.StepKind.TheVariants as step_kinds
 use Rattle.report_line.specs.histories.History.{Name, History, event_of, sending}
 use Rattle.report_line.specs.Reading.{Spells}
-use Rattle.law_histories.specs.Example.{a, b, left, right, halves, act}
+use Rattle.law_histories.specs.Example.{a, b, left, right, halves, act, told, forked}
+use Rattle.law_histories.proofs.ExampleForms.{name_a, name_b, on_one, on_left, on_right, flat, halved}
 use Rattle.law_histories.proofs.Example.{apart, both, some_left, some_right, above, below}
-use Rattle.law_lines.specs.Example.{told, forked}
 use Rattle.law_lines.proofs.Listed.{first_in, in_cases, none_in}
 use Rattle.law_lines.specs.Runs.{Run, Made, epoch, current}
 use Rattle.process.specs.declared.handed.Start.{Start}
@@ -34,29 +34,6 @@ use Rattle.law_process.proofs.Standing.{sends_now}
 use Rattle.law_process.specs.Example.{line_of, a0, a1, a2, a3, a4, a5, b0, b1, b2, b3, start_of_b, message, end_of_b, AFamilyIsPossible}
 
 -- ---- lines
-
-pub name_a : IsTrue (is_name a)
-unfolding is_letter is_name_byte is_name
-name_a = refl
-
-pub name_b : IsTrue (is_name b)
-unfolding is_letter is_name_byte is_name
-name_b = refl
-
-pub on_one : IsId One
-on_one = record { normal = tt; shallow = omega arith }
-
-pub on_left : IsId left
-on_left = record { normal = (tt, tt, refl); shallow = omega arith }
-
-pub on_right : IsId right
-on_right = record { normal = (tt, tt, refl); shallow = omega arith }
-
-pub flat : (n : ℕ) → n ≤ value_limit → IsEvents (Leaf n)
-flat n few = record { normal = tt; shallow = omega arith; small = few }
-
-pub halved : (n x y : ℕ) → min x y ≡ 0 → (x == y) ≡ false → n + max x y ≤ value_limit → IsEvents (halves n x y)
-halved n x y least differs few = record { normal = (tt, tt, least, differs); shallow = omega arith; small = few }
 
 pub spells : (epoch : ℕ) (p : Name) (n : ℕ) (i : IdTree) (e : EventTree) (x : ReportKind) → epoch < 2 ^ 32 → IsTrue (is_name p) → IsCount n → IsId i → IsEvents e → IsAction x
     → Spells (calls.Report (record { epoch = epoch; report = told p n i e x })) (line_of epoch (told p n i e x))
@@ -314,23 +291,23 @@ unabsorbed_9 =
 -- the steps of the calls up to the sending
 abbrev steps_so_far : Run
 steps_so_far =
-    Made 0 (act a (deeds.Send (3 ∷ [])) left (halves 1 2 0))
-    ∷ Made 0 (act a deeds.Work left (halves 1 1 0))
-    ∷ Made 0 (act a (deeds.Fork b right) left (Leaf 1))
+    Made 0 (act a (step_kinds.Send (3 ∷ [])) left (halves 1 2 0))
+    ∷ Made 0 (act a step_kinds.Work left (halves 1 1 0))
+    ∷ Made 0 (act a (step_kinds.Fork b right) left (Leaf 1))
     ∷ []
 
 abbrev before_sending : History
-before_sending = act a deeds.Work left (halves 1 1 0) ∷ act a (deeds.Fork b right) left (Leaf 1) ∷ []
+before_sending = act a step_kinds.Work left (halves 1 1 0) ∷ act a (step_kinds.Fork b right) left (Leaf 1) ∷ []
 
-history_so_far : current steps_so_far ≡ act a (deeds.Send (3 ∷ [])) left (halves 1 2 0) ∷ before_sending
+history_so_far : current steps_so_far ≡ act a (step_kinds.Send (3 ∷ [])) left (halves 1 2 0) ∷ before_sending
 unfolding epoch current
 history_so_far = refl
 
 was_sent : WasSent steps_so_far 3 (halves 1 2 0)
 was_sent = (
-  event_of before_sending (act a (deeds.Send (3 ∷ [])) left (halves 1 2 0)),
+  event_of before_sending (act a (step_kinds.Send (3 ∷ [])) left (halves 1 2 0)),
   ap (λ (h : History). sending h (3 ∷ [])) history_so_far
-      ∙ sends_now before_sending (act a (deeds.Send (3 ∷ [])) left (halves 1 2 0)) (3 ∷ []) refl,
+      ∙ sends_now before_sending (act a (step_kinds.Send (3 ∷ [])) left (halves 1 2 0)) (3 ∷ []) refl,
   refl,
 )
 

@@ -4,7 +4,7 @@ use Rattle.report_line.specs.declared.call.Call.{Call}
 use Rattle.report_line.specs.declared.reply.Reply.{Reply}
 use Rattle.report_line.specs.declared.report.ReportKind.TheVariants as actions
 use Rattle.report_line.specs.declared.step.StepKind.{StepKind}
-use Rattle.report_line.specs.declared.step.StepKind.TheVariants as deeds
+use Rattle.report_line.specs.declared.step.StepKind.TheVariants as step_kinds
 use Rattle.report_line.specs.histories.History.{Name}
 use Rattle.law_turns.specs.Traces.{Trace, Stepped, Turned}
 use Rattle.process.specs.declared.process.Process.{Process}
@@ -61,24 +61,24 @@ DoesSo (Return epoch) old new = Returns old new epoch
 abbrev pub IsDone : Doing → Type 0
 IsDone d = DoesSo d.act d.old d.new
 
--- The deed of a call behind so many others, where it is a step of the history. A message is named by the number of the call that sent it.
-abbrev pub deed_of : ℕ → Act → Option StepKind
-deed_of n Work = Some deeds.Work
-deed_of n (Send message) = Some (deeds.Send (n ∷ []))
-deed_of n (Again from message again) = None
-deed_of n (Receive from message) = Some (deeds.Receive (from ∷ []))
-deed_of n (Check line) = Some deeds.Check
-deed_of n (Present line) = Some deeds.Present
-deed_of n (Fork start line) = Some (deeds.Fork start.child start.stamp.id)
-deed_of n (Begin from start) = None
-deed_of n (Retire target retirement line) = Some (deeds.Retire target)
-deed_of n (Absorb from retirement line) = Some (deeds.Absorb retirement.process)
-deed_of n (Return epoch) = None
+-- The kind of step of a call after so many others, if it is a step of the history. A message is named by the number of the call that sent it.
+abbrev pub step_kind_of : ℕ → Act → Option StepKind
+step_kind_of n Work = Some step_kinds.Work
+step_kind_of n (Send message) = Some (step_kinds.Send (n ∷ []))
+step_kind_of n (Again from message again) = None
+step_kind_of n (Receive from message) = Some (step_kinds.Receive (from ∷ []))
+step_kind_of n (Check line) = Some step_kinds.Check
+step_kind_of n (Present line) = Some step_kinds.Present
+step_kind_of n (Fork start line) = Some (step_kinds.Fork start.child start.stamp.id)
+step_kind_of n (Begin from start) = None
+step_kind_of n (Retire target retirement line) = Some (step_kinds.Retire target)
+step_kind_of n (Absorb from retirement line) = Some (step_kinds.Absorb retirement.process)
+step_kind_of n (Return epoch) = None
 
 -- its step, with the epoch of the process
 abbrev pub steps_by : Option StepKind → Doing → Trace
 steps_by None d = []
-steps_by (Some deed) d = Stepped d.old.epoch (record { process = d.old.name; deed = deed; stamp = d.new.stamp }) ∷ []
+steps_by (Some step_kind) d = Stepped d.old.epoch (record { process = d.old.name; step_kind = step_kind; stamp = d.new.stamp }) ∷ []
 
 -- A call of a process, or a turn of the coordinator.
 pub data Moment : Type 0 where
@@ -92,5 +92,5 @@ Account = List Moment
 -- the trace of an account behind so many calls
 abbrev pub traced : ℕ → Account → Trace
 traced n [] = []
-traced n (Did d ∷ account) = steps_by (deed_of n d.act) d ++ traced (n + 1) account
+traced n (Did d ∷ account) = steps_by (step_kind_of n d.act) d ++ traced (n + 1) account
 traced n (Took call reply ∷ account) = Turned call reply ∷ traced n account

@@ -12,7 +12,7 @@ use Rattle.process.specs.declared.process.Process.{Process}
 use Rattle.process.specs.declared.handed.Message.{Message}
 use Rattle.process.specs.declared.handed.Retirement.{Retirement}
 use Rattle.process.specs.Steps.{HandsOver}
-use Rattle.law_process.specs.Accounts.{Act, Send, Receive, Fork, Retire, Absorb, Doing, IsDone, deed_of, begun_by}
+use Rattle.law_process.specs.Accounts.{Act, Send, Receive, Fork, Retire, Absorb, Doing, IsDone, step_kind_of, begun_by}
 use Rattle.law_process.specs.Handing.{stamp_of, goes_on}
 use Rattle.law_process.specs.Obeying.{line_given}
 
@@ -25,7 +25,7 @@ pub record LivesAs (root : Name) (h : History) (s : Process) : Type 0 where
 
 -- the step of a call
 abbrev pub step_of : Process → StepKind → Process → Step
-step_of old deed new = record { process = old.name; deed = deed; stamp = new.stamp }
+step_of old step_kind new = record { process = old.name; step_kind = step_kind; stamp = new.stamp }
 
 -- the message of this call is sent, with what it tells
 abbrev pub IsSent : History → ℕ → Message → Type 0
@@ -52,23 +52,23 @@ IsGiven root h n (Retire target retirement line) = Waits root h retirement
 IsGiven root h n act = ⊤
 
 -- There is one line where there is a report, and it is read as this report of this epoch.
-abbrev pub IsTold : ℕ → Option Report → List (List ℕ) → Type 0
-IsTold e o [] = o ≡ None
-IsTold e o (line ∷ []) = (r : Report) × (o ≡ Some r) × Spells (calls.Report (record { epoch = e; report = r })) line
-IsTold e o (line ∷ other ∷ lines) = ⊥
+abbrev pub IsReportLine : ℕ → Option Report → List (List ℕ) → Type 0
+IsReportLine e o [] = o ≡ None
+IsReportLine e o (line ∷ []) = (r : Report) × (o ≡ Some r) × Spells (calls.Report (record { epoch = e; report = r })) line
+IsReportLine e o (line ∷ other ∷ lines) = ⊥
 
 -- The step is allowed from the process's last event; its line is that of the report; and the process lives on as the call left it, if it does.
-pub record IsAllowedCall (root : Name) (h : History) (n : ℕ) (d : Doing) (deed : StepKind) (before : Event) : Type 0 where
-  pub allowed : IsAllowed root h before (step_of d.old deed d.new) deed
-  pub told : IsTold d.old.epoch (report_of root h (step_of d.old deed d.new)) (line_given d.act)
-  pub lives : (s : Process) → goes_on d.act d.new ≡ Some s → LivesAs root (step_of d.old deed d.new ∷ h) s
-  pub gives : IsGiven root (step_of d.old deed d.new ∷ h) n d.act
-  pub others : (s : Process) → s.name ≢ d.old.name → LivesAs root h s → LivesAs root (step_of d.old deed d.new ∷ h) s
+pub record IsAllowedCall (root : Name) (h : History) (n : ℕ) (d : Doing) (step_kind : StepKind) (before : Event) : Type 0 where
+  pub allowed : IsAllowed root h before (step_of d.old step_kind d.new) step_kind
+  pub told : IsReportLine d.old.epoch (report_of root h (step_of d.old step_kind d.new)) (line_given d.act)
+  pub lives : (s : Process) → goes_on d.act d.new ≡ Some s → LivesAs root (step_of d.old step_kind d.new ∷ h) s
+  pub gives : IsGiven root (step_of d.old step_kind d.new ∷ h) n d.act
+  pub others : (s : Process) → s.name ≢ d.old.name → LivesAs root h s → LivesAs root (step_of d.old step_kind d.new ∷ h) s
 
 abbrev pub EachCallIsAllowed : Type 0
 EachCallIsAllowed =
-    (root : Name) (h : History) (n : ℕ) (d : Doing) (deed : StepKind) (w : LivesAs root h d.old) → IsDone d → deed_of n d.act ≡ Some deed → IsFrom root h n d.act d.old
-    → IsAllowedCall root h n d deed w.event
+    (root : Name) (h : History) (n : ℕ) (d : Doing) (step_kind : StepKind) (w : LivesAs root h d.old) → IsDone d → step_kind_of n d.act ≡ Some step_kind → IsFrom root h n d.act d.old
+    → IsAllowedCall root h n d step_kind w.event
 
 -- A message that is handed over once more is sent where the one that was handed in is: it may be received over the same histories.
 abbrev pub HandedOverIsSent : Type 0

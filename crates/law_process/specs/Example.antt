@@ -12,8 +12,7 @@ use Rattle.report_line.specs.declared.report.Report.{Report}
 use Rattle.report_line.specs.histories.History.{Name}
 use Rattle.report_line.specs.Spelling.{spelling}
 use Rattle.chains.specs.Held.{Held, counting}
-use Rattle.law_histories.specs.Example.{a, b, left, right, halves}
-use Rattle.law_lines.specs.Example.{told, forked}
+use Rattle.law_histories.specs.Example.{a, b, left, right, halves, told, forked}
 use Rattle.law_turns.specs.Traces.{AreTurns}
 use Rattle.law_turns.specs.Example.{marked, held_then}
 use Rattle.process.specs.declared.process.Process.{Process}

@@ -21,7 +21,7 @@ use Rattle.process.specs.declared.process.Process.{Process}
 use Rattle.process.specs.declared.handed.Message.{Message}
 use Rattle.process.specs.declared.handed.Start.{Start}
 use Rattle.process.specs.declared.handed.Retirement.{Retirement}
-use Rattle.law_process.specs.Accounts.{Act, Work, Send, Again, Receive, Check, Present, Fork, Begin, Retire, Absorb, Return, Doing, IsDone, Did, Took, Account, deed_of}
+use Rattle.law_process.specs.Accounts.{Act, Work, Send, Again, Receive, Check, Present, Fork, Begin, Retire, Absorb, Return, Doing, IsDone, Did, Took, Account, step_kind_of}
 
 -- calls that were made, the newest first
 abbrev pub Past : Type 0
@@ -139,12 +139,12 @@ IsHandedIn root past call reply = ⊤
 -- the run with the step of a call
 abbrev pub run_with : Option StepKind → Doing → Run → Run
 run_with None d run = run
-run_with (Some deed) d run = Made d.old.epoch (record { process = d.old.name; deed = deed; stamp = d.new.stamp }) ∷ run
+run_with (Some step_kind) d run = Made d.old.epoch (record { process = d.old.name; step_kind = step_kind; stamp = d.new.stamp }) ∷ run
 
 -- So it is of each call and of each accepted report of the account, over the run that there was by then.
 abbrev pub AreHandedOver : Name → Run → Past → Account → Type 0
 AreHandedOver root run past [] = ⊤
 AreHandedOver root run past (Did d ∷ account) =
-    IsDone d × MayDo root run past d.act d.old × AreHandedOver root (run_with (deed_of (length past) d.act) d run) (d ∷ past) account
+    IsDone d × MayDo root run past d.act d.old × AreHandedOver root (run_with (step_kind_of (length past) d.act) d run) (d ∷ past) account
 AreHandedOver root run past (Took call reply ∷ account) =
     IsHandedIn root past call reply × ((between : Run) → Adds root run call reply between → AreHandedOver root between past account)

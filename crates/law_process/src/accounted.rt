@@ -191,7 +191,7 @@ pub fn return_to(
     epoch: u32,
 ) -> Result<(), (ProcessFault, Process)>
     ensures done { OnOk result (IsDone (made (Return epoch) kept process.new)) }
-    ensures same { OnOk result (kept.name ≡ process.old.name) }
+    ensures same_name { OnOk result (kept.name ≡ process.old.name) }
     ensures later { OnOk result (process.old.epoch < epoch) }
     ensures err { IfErr result (λ refused. RefusesReturn refused.0 process.old kept epoch) }
     ensures unchanged { OnErr result (process.new ≡ process.old) }

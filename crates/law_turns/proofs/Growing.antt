@@ -65,7 +65,7 @@ no_begin root h s (Absorb retired) p e = cc
 
 -- so a BEGIN that is marked as the report of a step has an older mark
 begin_is_old : {root : Name} {run : Run} {mark : ℕ} {r : Report} → IsMarkedReport root run mark r → (p : Name) → r ≡ Begin p → mark < epoch run
-begin_is_old {root} (of_current {run = run} {s = s} {r = r} is) p same = absurd (no_begin root (current run) s s.deed p (is ∙ ap Some same))
+begin_is_old {root} (of_current {run = run} {s = s} {r = r} is) p same = absurd (no_begin root (current run) s s.step_kind p (is ∙ ap Some same))
 begin_is_old (of_left_behind {run = run} {e = e} {s = s} old) p same = (let is = epoch_made run e s in omega arith)
 begin_is_old (earlier {run = run} {x = Made e s} there) p same = (let lower = begin_is_old there p same in let is = epoch_made run e s in omega arith)
 begin_is_old (earlier {run = run} {x = Accepts m r} there) p same = (let lower = begin_is_old there p same in let is = epoch_accepts run m r in omega arith)

@@ -18,7 +18,7 @@ use Rattle.report_line.specs.declared.report.Report.TheVariants.{Begin, Numbered
 use Rattle.report_line.specs.declared.step.StepKind.TheVariants.{Work, Check, Present, Fork}
 use Rattle.report_line.specs.declared.step.Step.{Step}
 use Rattle.report_line.specs.histories.History.{Name}
-use Rattle.law_histories.specs.Example.{a, b, left, right, halves, act}
+use Rattle.law_histories.specs.Example.{a, b, left, right, halves, act, forked}
 use Rattle.chains.specs.declared.position.Position.{Position}
 use Rattle.chains.specs.declared.position.Position.TheVariants.{At}
 use Rattle.chains.specs.Processes.{known, IsKnown, target_of}
@@ -30,7 +30,6 @@ use Rattle.chains.specs.Folded.{IsFitReport, IsReached}
 use Rattle.chains.specs.Greatest.{IsGreatestCut}
 use Rattle.chains.specs.Settled.{kept_at, IsSettled}
 use Rattle.chains.specs.Turns.{fine, IsTurn}
-use Rattle.law_lines.specs.Example.{forked}
 use Rattle.law_lines.proofs.Listed.{in_cases, none_in}
 use Rattle.law_histories.specs.Kept.{Cut}
 use Rattle.law_lines.specs.Agreeing.{HasEventsOf}
@@ -44,8 +43,8 @@ use Rattle.law_turns.proofs.Following.{one_settlement}
 
 -- ---- what the run asked for
 
-abbrev IsMade : Run → ℕ → Step → Type 0
-IsMade run e s = IsObeyed a run × IsRightStep a run e s
+abbrev IsStepOfRun : Run → ℕ → Step → Type 0
+IsStepOfRun run e s = IsObeyed a run × IsRightStep a run e s
 
 abbrev IsAccepted : Run → ℕ → NumberedReport → Type 0
 IsAccepted run m r = IsObeyed a run × IsMarkedReport a run m (Numbered r) × IsFitReport (accepted run) r
@@ -53,7 +52,7 @@ IsAccepted run m r = IsObeyed a run × IsMarkedReport a run m (Numbered r) × Is
 abbrev IsSettlement : Run → List ℕ → List Position → Cut → Type 0
 IsSettlement run failed line cut = IsObeyed a run × IsGreatestCut (accepted run) failed line × HasEventsOf a (current run) (accepted run) line cut
 
-made_parts : {run : Run} {e : ℕ} {s : Step} → IsObeyed a (Made e s ∷ run) → IsMade run e s
+made_parts : {run : Run} {e : ℕ} {s : Step} → IsObeyed a (Made e s ∷ run) → IsStepOfRun run e s
 made_parts (made {before = x} obeyed newest obeys) = (obeyed, inl (refl, (x, newest, obeys)))
 made_parts (left_behind obeyed old) = (obeyed, inr old)
 
@@ -113,16 +112,16 @@ run11 = Accepts 1 (Numbered child_check) ∷ run10
 w11 : IsAccepted run10 1 child_check
 w11 = accepts_parts (settles_parts (made_parts (accepts_parts twice_settled_is_obeyed).0).0).0
 
-w10 : IsMade run9 1 (act b Check right (halves 2 0 1))
+w10 : IsStepOfRun run9 1 (act b Check right (halves 2 0 1))
 w10 = made_parts w11.0
 
 w9 : IsAccepted run8 1 fork
 w9 = accepts_parts w10.0
 
-w8 : IsMade run7 1 (act a (Fork b right) left (Leaf 2))
+w8 : IsStepOfRun run7 1 (act a (Fork b right) left (Leaf 2))
 w8 = made_parts w9.0
 
-w7 : IsMade run6 0 (act a Work One (Leaf 3))
+w7 : IsStepOfRun run6 0 (act a Work One (Leaf 3))
 w7 = made_parts w8.0
 
 w6 : IsSettlement run5 (0 ∷ []) (At 2 ∷ []) up_to_checkpoint
@@ -131,13 +130,13 @@ w6 = settles_parts w7.0
 w5 : IsAccepted run4 0 show
 w5 = accepts_parts w6.0
 
-w4 : IsMade run3 0 (act a Present One (Leaf 2))
+w4 : IsStepOfRun run3 0 (act a Present One (Leaf 2))
 w4 = made_parts w5.0
 
 w3 : IsAccepted run2 0 check
 w3 = accepts_parts w4.0
 
-w2 : IsMade run1 0 (act a Check One (Leaf 1))
+w2 : IsStepOfRun run1 0 (act a Check One (Leaf 1))
 w2 = made_parts w3.0
 
 -- ---- the tests let a report pass

@@ -12,10 +12,10 @@ use Rattle.report_line.specs.declared.reply.Reply.TheVariants.{Accepted, No, Set
 use Rattle.report_line.specs.declared.report.ReportKind.TheVariants as reported
 use Rattle.report_line.specs.declared.report.Report.TheVariants.{Begin, Numbered}
 use Rattle.report_line.specs.histories.History.{Name, status}
-use Rattle.law_histories.specs.Example.{a, b, right, halves}
+use Rattle.law_histories.specs.Example.{a, b, right, halves, told, forked}
 use Rattle.law_admission.specs.HandedOver.{IsNext, HasLine}
-use Rattle.law_admission.proofs.Example.{line, name_a, name_b, one, on_left, on_right, leaf, halved}
-use Rattle.law_lines.specs.Example.{told, forked}
+use Rattle.law_histories.proofs.ExampleForms.{name_a, name_b, on_one, on_left, on_right, flat, halved}
+use Rattle.law_admission.proofs.Example.{line}
 use Rattle.law_histories.specs.Kept.{kept}
 use Rattle.law_lines.specs.Runs.{Run, Accepts, epoch, current, accepted}
 use Rattle.law_turns.specs.Traces.{Trace, Turned, IsSettledBy}
@@ -88,9 +88,9 @@ its_lines : All HasLine (Begin a ∷ told a 1 One (Leaf 1) reported.Check ∷ to
 its_lines = All-from_recursion HasLine (Begin a ∷ told a 1 One (Leaf 1) reported.Check ∷ told a 2 One (Leaf 2) (forked b) ∷ told b 1 right (halves 2 0 1) reported.Check ∷ []) (
   (refl, name_a),
   (
-    line a 1 One (Leaf 1) reported.Check name_a (omega arith, omega arith) one (leaf 1 (omega arith)) tt,
+    line a 1 One (Leaf 1) reported.Check name_a (omega arith, omega arith) on_one (flat 1 (omega arith)) tt,
     (
-      line a 2 One (Leaf 2) (forked b) name_a (omega arith, omega arith) one (leaf 2 (omega arith)) (on_left, name_b, on_right),
+      line a 2 One (Leaf 2) (forked b) name_a (omega arith, omega arith) on_one (flat 2 (omega arith)) (on_left, name_b, on_right),
       (line b 1 right (halves 2 0 1) reported.Check name_b (omega arith, omega arith) on_right (halved 2 0 1 refl refl (omega arith)) tt, tt),
     ),
   ),

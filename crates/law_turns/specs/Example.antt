@@ -12,9 +12,8 @@ use Rattle.report_line.specs.declared.report.Report.{Report}
 use Rattle.report_line.specs.declared.report.Report.TheVariants.{Begin}
 use Rattle.report_line.specs.declared.step.StepKind.TheVariants.{Work, Check, Present, Fork}
 use Rattle.chains.specs.Held.{Held, counting}
-use Rattle.law_histories.specs.Example.{a, b, left, right, halves, act}
+use Rattle.law_histories.specs.Example.{a, b, left, right, halves, act, told, forked}
 use Rattle.law_admission.specs.HandedOver.{handed_over, IsNext, IsTargetBorn, HasLine}
-use Rattle.law_lines.specs.Example.{told, forked}
 use Rattle.law_lines.specs.Runs.{Run, current, accepted}
 use Rattle.law_lines.specs.TwoSettlements.{once_settled}
 use Rattle.law_turns.specs.Traces.{Trace, Stepped, Turned, AreTurns, Extends, ProcessesObey}

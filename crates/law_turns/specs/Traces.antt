@@ -70,7 +70,7 @@ Extends root run (Turned call reply ∷ trace) later = (between : Run) × Adds r
 -- A step of a process that has returned obeys the rules over the current history; of the steps of the others nothing is asked.
 abbrev pub IsRightStep : Name → Run → ℕ → Step → Type 0
 IsRightStep root run e s =
-    ((e ≡ epoch run) × ((before : Event) × IsNewest root (current run) s.process before × Obeys root (current run) before s s.deed)) ⊎ (e < epoch run)
+    ((e ≡ epoch run) × ((before : Event) × IsNewest root (current run) s.process before × Obeys root (current run) before s s.step_kind)) ⊎ (e < epoch run)
 
 -- A report that is accepted is BEGIN of the root, or with its mark the report of a step of the run. At every other turn, and so at a
 -- settlement, nothing is asked.

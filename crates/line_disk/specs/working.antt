@@ -1,4 +1,4 @@
-pub mod Known
+pub mod FileShadow
 pub mod Log
 pub mod Noting
 pub mod ReadIsLeft

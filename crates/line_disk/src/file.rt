@@ -7,7 +7,7 @@ ghost use Rattle.std.specs.Prelude.{◌≡◌, ◌≢◌, ◌↔◌, ◌+◌, �
 ghost use Rattle.line_disk.specs.Device.{KeepsModel};
 ghost use Rattle.line_disk.specs.Disk.{Counts, CountsDevice, IsShortened, IsTorn, LeavesOnly, Passes, Rests, written};
 
-use crate::known::Known;
+use crate::file_shadow::FileShadow;
 use crate::trouble::Failures;
 use crate::{Device, Disk, DiskFault, FileCall, FileTrouble, Reach, Unopened};
 use std::alloc::{AllocError, Global};
@@ -33,7 +33,7 @@ const LAST: usize = 16_384;
 /// for what was written, only reads of it and of what stands behind it fail.
 pub struct FileDisk<P: Device> {
     file: File,
-    known: Known,
+    shadow: FileShadow,
     failures: Failures,
     device: PhantomData<P>,
 }
@@ -42,7 +42,7 @@ impl<P: Device> Drop for FileDisk<P> {
     fn drop(self) {
         let FileDisk {
             file: _,
-            known: _,
+            shadow: _,
             failures: _,
             device: _,
         } = self;
@@ -280,7 +280,7 @@ impl<P: Device> FileDisk<P> {
         }
         Ok(FileDisk {
             file,
-            known: Known::new(bytes, len),
+            shadow: FileShadow::new(bytes, len),
             failures: Failures::none(),
             device: PhantomData,
         })
@@ -301,7 +301,7 @@ impl<P: Device> Disk for FileDisk<P> {
     ghost use Rattle.line_disk.specs.FileReadIsLeft.{read_left};
     ghost use Rattle.line_disk.specs.Troubles.{TellsFirst};
     ghost use Rattle.line_disk.specs.declared.trouble.FileCall.TheVariants.{Measure, Read, Write, Cut, Sync};
-    ghost use Rattle.line_disk.specs.working.Known.{first_of, calls_of};
+    ghost use Rattle.line_disk.specs.working.FileShadow.{first_of, calls_of};
 
     ghost view = { λ disk. file_view P.leaves P.unread disk };
 
@@ -309,7 +309,7 @@ impl<P: Device> Disk for FileDisk<P> {
 
     ghost failed = { λ disk. disk.failures.count };
 
-    ghost read_is_left = { λ disk keeps. read_left P.leaves (first_of P.unread disk.known) (calls_of disk.known) keeps };
+    ghost read_is_left = { λ disk keeps. read_left P.leaves (first_of P.unread disk.shadow) (calls_of disk.shadow) keeps };
 
     fn failures(&self) -> u64 {
         self.failures.count
@@ -325,7 +325,7 @@ impl<P: Device> Disk for FileDisk<P> {
     {
         let length = length_of(&self.file);
         match length {
-            Ok(n) if !self.known.failed && n == self.known.len => Ok(n),
+            Ok(n) if !self.shadow.failed && n == self.shadow.len => Ok(n),
             other => Err(self.failures.add(FileCall::Measure, other.err())),
         }
     }
@@ -341,12 +341,12 @@ impl<P: Device> Disk for FileDisk<P> {
         ensures cause { Counts result (file_failures self.old) (file_failures self.new) }
         ensures trouble { TellsFirst Read result (file_trouble self.old) (file_trouble self.new) }
     {
-        if !self.known.covers(at, n) {
+        if !self.shadow.covers(at, n) {
             return Err(self.failures.add(FileCall::Read, None));
         }
         let mut bytes = zeros(alloc, n)?;
         let read = self.file.read_exact_at(&mut bytes, at as u64);
-        if read.is_err() || !self.known.has(at, &bytes) {
+        if read.is_err() || !self.shadow.has(at, &bytes) {
             return Err(self.failures.add(FileCall::Read, read.err()));
         }
         Ok(bytes)
@@ -362,12 +362,12 @@ impl<P: Device> Disk for FileDisk<P> {
         ensures trouble { TellsFirst Write result (file_trouble self.old) (file_trouble self.new) }
     {
         let fits = at.checked_add(bytes.len()).is_some();
-        if self.known.failed || !fits || at > self.known.len {
+        if self.shadow.failed || !fits || at > self.shadow.len {
             return Err(self.failures.add(FileCall::Write, None));
         }
-        let written = write_to(&self.file, bytes, at, self.known.len);
+        let written = write_to(&self.file, bytes, at, self.shadow.len);
         let done = written.is_ok();
-        self.known.wrote(at, bytes, done);
+        self.shadow.wrote(at, bytes, done);
         match written {
             Ok(()) => Ok(()),
             Err(error) => Err(self.failures.add(FileCall::Write, error)),
@@ -382,12 +382,12 @@ impl<P: Device> Disk for FileDisk<P> {
         ensures cause { CountsDevice result (file_failures self.old) (file_failures self.new) }
         ensures trouble { TellsFirst Cut result (file_trouble self.old) (file_trouble self.new) }
     {
-        if self.known.failed || len > self.known.len {
+        if self.shadow.failed || len > self.shadow.len {
             return Err(self.failures.add(FileCall::Cut, None));
         }
-        let cut = cut_to(&self.file, len, self.known.len);
+        let cut = cut_to(&self.file, len, self.shadow.len);
         let done = cut.is_ok();
-        self.known.cut(len, done);
+        self.shadow.cut(len, done);
         match cut {
             Ok(()) => Ok(()),
             Err(error) => Err(self.failures.add(FileCall::Cut, error)),
@@ -401,12 +401,12 @@ impl<P: Device> Disk for FileDisk<P> {
         ensures cause { CountsDevice result (file_failures self.old) (file_failures self.new) }
         ensures trouble { TellsFirst Sync result (file_trouble self.old) (file_trouble self.new) }
     {
-        if self.known.failed {
+        if self.shadow.failed {
             return Err(self.failures.add(FileCall::Sync, None));
         }
-        let synced = sync_present(&self.file, self.known.len);
+        let synced = sync_present(&self.file, self.shadow.len);
         let done = synced.is_ok();
-        self.known.synced(done);
+        self.shadow.synced(done);
         match synced {
             Ok(()) => Ok(()),
             Err(error) => Err(self.failures.add(FileCall::Sync, error)),

@@ -12,7 +12,7 @@ use Rattle.line_explain.specs.declared.kind.Shape.{Shape}
 use Rattle.line_explain.specs.Begun.{AreOfCall, IsBegun, MayFollow}
 use Rattle.line_explain.specs.Wanting.{Fits, Wants}
 use Rattle.line_explain.specs.Reasons.{IsMarked, Says, IsFirstWrong, IsMissing, IsWrongAt}
-use Rattle.line_explain.specs.working.Shapes.{wanted_in, IsKindOf, FitAll, told, IsStampCause, IsIdCause, IsCause, IsNoKind, TellsFit, Stops, TellsOf, IsTold}
+use Rattle.line_explain.specs.working.Shapes.{wanted_in, IsKindOf, FitAll, told, IsStampCause, IsIdCause, IsCause, IsNoKind, TellsFit, Stops, TellsOf, IsFirstWrongWord}
 use Rattle.line_explain.proofs.FitLists.{FitAll-append}
 use Rattle.line_explain.proofs.ShapedCalls.{of_shape, no_call_begins, begun, wants, none_follows, too_few}
 
@@ -162,12 +162,12 @@ stops s kind kinds (wanted ∷ more) fields (word ∷ words) first number reason
     wrong_there s kind kinds (wanted ∷ more) fields words word first number reason is parts fit place here.0 (λ may. here.1 ((wanted_there word).0 may))
     (as_reason (kind ∷ fields) word (told word here.2.0) reason here.2.2 (cause_says (kind ∷ fields) wanted word here.2.0 wanted_there here.2.1))
 
-told_behind : (s : Shape) (kind : List ℕ) (words : List (List ℕ)) (found : Option WrongWord) → IsKindOf s kind → TellsOf (wanted_in s) words 2 found → IsTold (kind ∷ words) found
+told_behind : (s : Shape) (kind : List ℕ) (words : List (List ℕ)) (found : Option WrongWord) → IsKindOf s kind → TellsOf (wanted_in s) words 2 found → IsFirstWrongWord (kind ∷ words) found
 told_behind s kind words None is tells = of_shape s kind words is tells
 told_behind s kind words (Some found) is tells = stops s kind [] (wanted_in s) [] words 2 found.number found.why is refl tt (omega arith) tells
 
-pub all_told : {E : Type 0} (r : Result (Option WrongWord) E) (s : Shape) (old : List (List ℕ)) (kind : List ℕ) (words : List (List ℕ)) → IsKindOf s kind → old ≡ kind ∷ words → IfOk r (TellsOf (wanted_in s) words 2) → IfOk r (IsTold old)
-all_told (Ok found) s old kind words is parts tells = subst (λ (ws : List (List ℕ)). IsTold ws found) (sym parts) (told_behind s kind words found is tells)
+pub all_told : {E : Type 0} (r : Result (Option WrongWord) E) (s : Shape) (old : List (List ℕ)) (kind : List ℕ) (words : List (List ℕ)) → IsKindOf s kind → old ≡ kind ∷ words → IfOk r (TellsOf (wanted_in s) words 2) → IfOk r (IsFirstWrongWord old)
+all_told (Ok found) s old kind words is parts tells = subst (λ (ws : List (List ℕ)). IsFirstWrongWord ws found) (sym parts) (told_behind s kind words found is tells)
 all_told (Err fault) s old kind words is parts tells = tt
 
 -- ---- one word more

@@ -24,14 +24,14 @@ pub record IsMarked (word : List ℕ) : Type 0 where
 
 -- why the text of a stamp, or of an id, is none; of several faults the first of this order is told
 abbrev pub IsStampFault : TreeFault → List ℕ → Type 0
-IsStampFault NoText word = stamps.IsFaultOf stamp_fault.Syntax word
-IsStampFault NotNormal word = stamps.IsFaultOf stamp_fault.NotNormal word
-IsStampFault TooDeep word = stamps.IsFaultOf stamp_fault.TooDeep word
+IsStampFault NoText word = stamps.IsFaultOfStamp stamp_fault.Syntax word
+IsStampFault NotNormal word = stamps.IsFaultOfStamp stamp_fault.NotNormal word
+IsStampFault TooDeep word = stamps.IsFaultOfStamp stamp_fault.TooDeep word
 
 abbrev pub IsIdFault : TreeFault → List ℕ → Type 0
-IsIdFault NoText word = ids.IsFaultOf id_fault.Syntax word
-IsIdFault NotNormal word = ids.IsFaultOf id_fault.NotNormal word
-IsIdFault TooDeep word = ids.IsFaultOf id_fault.TooDeep word
+IsIdFault NoText word = ids.IsFaultOfId id_fault.Syntax word
+IsIdFault NotNormal word = ids.IsFaultOfId id_fault.NotNormal word
+IsIdFault TooDeep word = ids.IsFaultOfId id_fault.TooDeep word
 
 -- what each reason says of a word that may not follow the words in front of it; only an empty word is told to be empty
 abbrev pub Says : Why → List (List ℕ) → List ℕ → Type 0
@@ -44,7 +44,7 @@ Says why.Name front word = (word ≢ []) × Wants front wanted.Name
 Says why.Number front word = (word ≢ []) × Wants front wanted.Number
 Says why.Names front word = (word ≢ []) × Wants front wanted.Names
 Says (why.Stamp fault) front word = (word ≢ []) × Wants front wanted.Stamp × IsStampFault fault word
-Says why.TooLarge front word = (word ≢ []) × Wants front wanted.Stamp × stamps.IsFaultOf stamp_fault.TooLarge word
+Says why.TooLarge front word = (word ≢ []) × Wants front wanted.Stamp × stamps.IsFaultOfStamp stamp_fault.TooLarge word
 Says (why.Id fault) front word = (word ≢ []) × Wants front wanted.Id × IsIdFault fault word
 
 -- The word of this number is the first that is wrong: a call begins with the words in front of it, and none with these and it.

@@ -1,7 +1,7 @@
 //! The words of a line, one by one.
 
 ghost use Rattle.std.specs.Prelude.{◌≡◌, ◌≢◌, ◌+◌, ◌^◌, ◌<◌, [], length, IfOk};
-ghost use Rattle.line_explain.specs.working.Shapes.{wanted_in, TellsOf, IsTold};
+ghost use Rattle.line_explain.specs.working.Shapes.{wanted_in, TellsOf, IsFirstWrongWord};
 
 use crate::fault::{Why, WrongWord};
 use crate::fitting::{misfit, told};
@@ -98,7 +98,7 @@ pub(crate) fn wrong_word(
     words: &mut Words<'_>,
 ) -> Result<Option<WrongWord>, AllocError>
     requires { words.old ≢ [] }
-    ensures { IfOk result (IsTold words.old) }
+    ensures { IfOk result (IsFirstWrongWord words.old) }
 {
     let Some(kind) = words.next() else {
         unreachable!()

@@ -45,7 +45,7 @@ fn stamp_misfit(alloc: Global, word: &[u8]) -> Result<Option<Why>, AllocError>
 {
     match Stamp::parse(alloc, word) {
         Ok(stamp) => {
-            stamp.known();
+            stamp.recall_facts();
             Ok(None)
         }
         Err(fault) => stamp_cause(fault),
@@ -70,7 +70,7 @@ fn id_misfit(alloc: Global, word: &[u8]) -> Result<Option<Why>, AllocError>
 {
     match Id::parse(alloc, word) {
         Ok(id) => {
-            id.known();
+            id.recall_facts();
             Ok(None)
         }
         Err(fault) => id_cause(fault),

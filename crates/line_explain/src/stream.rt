@@ -127,7 +127,7 @@ impl Explanations {
         requires going { self.old.feed ≢ None }
         requires room { self.old.told + length piece.now + 2 < 2 ^ 64 }
         ensures told { (stream : List ℕ) (told : List AnyExplained) → IsAfter stream told self.old → IfOk result (λ text. Goes stream told piece.now self.new text.items) }
-        ensures few { OnOk result (self.new.told ≤ self.old.told + length piece.now + 1) }
+        ensures at_most { OnOk result (self.new.told ≤ self.old.told + length piece.now + 1) }
     {
         let lines = self.feed.push(piece)?;
         let too_long = self.feed.too_long();

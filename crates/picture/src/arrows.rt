@@ -4,11 +4,11 @@ ghost use Rattle.std.specs.Prelude.{◌<◌, ◌≤◌, ◌^◌};
 
 use crate::canvas::Canvas;
 use crate::frame::View;
+use crate::pen::Pen;
 use crate::pen::Piece::{self, Number, Text};
 use crate::scene::{Arrow, Sent, Spot, Tie};
 use crate::shapes::{circle, line};
 use crate::telling::Said;
-use std::alloc::AllocError;
 
 /// What becomes of an arrow.
 #[derive(Clone, Copy, PartialEq, Eq)]
@@ -112,25 +112,15 @@ fn if_told<'a>(view: View<'_>, words: &'a [Piece<'a>]) -> &'a [Piece<'a>] {
 }
 
 /// The arrow of a message.
-fn draw_message(
-    canvas: &mut Canvas,
-    view: View<'_>,
-    arrow: Arrow,
-    class: &[u8],
-) -> Result<(), AllocError> {
+fn draw_message(pen: &mut Pen, view: View<'_>, arrow: Arrow, class: &[u8]) {
     let receiver = [Text(b" to ".as_slice()), Text(name_in(view, arrow.to.lane))];
     let words = words_of_message(view, arrow.said, arrow.from.lane, receiver);
     let (from, to) = (view.frame.at(arrow.from), view.frame.at(arrow.to));
-    line(&mut canvas.svg, class, from, to, if_told(view, &words))
+    line(pen, class, from, to, if_told(view, &words));
 }
 
 /// The arrow of what a report is the first one to know.
-fn draw_knowledge(
-    canvas: &mut Canvas,
-    view: View<'_>,
-    arrow: Arrow,
-    class: &[u8],
-) -> Result<(), AllocError> {
+fn draw_knowledge(pen: &mut Pen, view: View<'_>, arrow: Arrow, class: &[u8]) {
     let told = &[
         Text(name_in(view, arrow.to.lane)),
         Text(b" knows ".as_slice()),
@@ -138,13 +128,8 @@ fn draw_knowledge(
         Text(b" after ".as_slice()),
         Number(arrow.element as u64),
     ];
-    line(
-        &mut canvas.svg,
-        class,
-        begin_behind(view, arrow.from),
-        view.frame.at(arrow.to),
-        told,
-    )
+    let (from, to) = (begin_behind(view, arrow.from), view.frame.at(arrow.to));
+    line(pen, class, from, to, told);
 }
 
 /// Where an arrow begins that comes from behind an element.
@@ -156,33 +141,30 @@ pub(crate) fn begin_behind(view: View<'_>, spot: Spot) -> (u64, u64) {
 }
 
 /// An arrow.
-fn draw_arrow(canvas: &mut Canvas, view: View<'_>, arrow: Arrow) -> Result<(), AllocError> {
+fn draw_arrow(canvas: &mut Canvas, view: View<'_>, arrow: Arrow) {
     let fate = fate_of(view, arrow);
     let class = class_of(arrow, fate);
     show(canvas, arrow.tie, fate);
+    let pen = &mut canvas.pen;
     match arrow.tie {
-        Tie::Message => draw_message(canvas, view, arrow, class),
-        Tie::Knowledge => draw_knowledge(canvas, view, arrow, class),
-        Tie::Fork | Tie::Absorption => line(
-            &mut canvas.svg,
-            class,
-            view.frame.at(arrow.from),
-            view.frame.at(arrow.to),
-            &[],
-        ),
+        Tie::Message => draw_message(pen, view, arrow, class),
+        Tie::Knowledge => draw_knowledge(pen, view, arrow, class),
+        Tie::Fork | Tie::Absorption => {
+            let (from, to) = (view.frame.at(arrow.from), view.frame.at(arrow.to));
+            line(pen, class, from, to, &[]);
+        }
     }
 }
 
 /// The arrows between processes.
-pub(crate) fn draw_arrows(canvas: &mut Canvas, view: View<'_>) -> Result<(), AllocError> {
+pub(crate) fn draw_arrows(canvas: &mut Canvas, view: View<'_>) {
     for arrow in &view.scene.arrows {
-        draw_arrow(canvas, view, *arrow)?;
+        draw_arrow(canvas, view, *arrow);
     }
-    Ok(())
 }
 
 /// A message that nobody received, with an open end.
-fn draw_open(canvas: &mut Canvas, view: View<'_>, sent: Sent) -> Result<(), AllocError> {
+fn draw_open(canvas: &mut Canvas, view: View<'_>, sent: Sent) {
     let is_undone = sent.is_undone || view.is_undone(sent.spot);
     let (class, end) = if is_undone {
         (b"open undone".as_slice(), b"end undone".as_slice())
@@ -195,16 +177,16 @@ fn draw_open(canvas: &mut Canvas, view: View<'_>, sent: Sent) -> Result<(), Allo
     let told = if_told(view, &words);
     let (x, y) = (view.frame.x(sent.spot.column), view.frame.y(sent.spot.lane));
     // Above the line of the process, since names stand below it.
-    line(&mut canvas.svg, class, (x, y), (x + 9, y - 15), told)?;
-    circle(&mut canvas.svg, end, (x + 10, y - 17), 3, told)
+    let pen = &mut canvas.pen;
+    line(pen, class, (x, y), (x + 9, y - 15), told);
+    circle(pen, end, (x + 10, y - 17), 3, told);
 }
 
 /// The messages that nobody received, be it that a settlement undid that.
-pub(crate) fn draw_open_messages(canvas: &mut Canvas, view: View<'_>) -> Result<(), AllocError> {
+pub(crate) fn draw_open_messages(canvas: &mut Canvas, view: View<'_>) {
     for sent in &view.scene.sent {
         if sent.receipts == 0 {
-            draw_open(canvas, view, *sent)?;
+            draw_open(canvas, view, *sent);
         }
     }
-    Ok(())
 }

@@ -1,6 +1,8 @@
 //! What a picture is drawn on.
 
-use std::alloc::Global;
+use crate::pen::Pen;
+use crate::telling::Said;
+use std::alloc::{AllocError, Global};
 
 /// What a legend explains.
 #[derive(Clone, Copy)]
@@ -25,18 +27,20 @@ pub(crate) struct Shown {
 /// What is drawn so far.
 #[derive(Drop)]
 pub(crate) struct Canvas {
-    pub(crate) svg: Vec<u8>,
+    pub(crate) pen: Pen,
     /// What stands in it.
     pub(crate) shown: Shown,
     /// Where the words end that reach furthest to the right.
     pub(crate) right: u64,
+    /// The names of messages to be sent again that found no room in it.
+    pub(crate) without_room: Vec<Said>,
 }
 
 impl Canvas {
     /// Nothing is drawn.
     pub(crate) fn new(alloc: Global) -> Canvas {
         Canvas {
-            svg: Vec::new(alloc),
+            pen: Pen::new(alloc),
             shown: Shown {
                 present: false,
                 passed: false,
@@ -55,6 +59,26 @@ impl Canvas {
                 reason: false,
             },
             right: 0,
+            without_room: Vec::new(alloc),
         }
+    }
+
+    /// Notes that a name found no room.
+    pub(crate) fn leave_out(&mut self, name: Said) {
+        if self.without_room.extend_from_slice(&[name]).is_err() {
+            self.pen.run_out();
+        }
+    }
+
+    /// What is drawn, if memory sufficed for it.
+    pub(crate) fn finish(self) -> Result<Vec<u8>, AllocError> {
+        let Canvas {
+            pen,
+            shown: _,
+            right: _,
+            without_room,
+        } = self;
+        drop(without_room);
+        pen.finish()
     }
 }

@@ -4,7 +4,7 @@ use crate::ending::Ending;
 use crate::scripted::Scripted;
 use crate::telling::Said;
 use chains::{Chains, No};
-use driver::{Step, StepFault, StepRequest, World};
+use driver::{NamedPosition, Step, StepFault, StepRequest, World};
 use propagate::settle_named;
 use report_line::{Code, Name, Names, PackedReport};
 use script::{Cause, cut_line, line_for, read_root, read_settle, read_step};
@@ -87,7 +87,7 @@ fn chains_of(alloc: Global, report: &PackedReport) -> Result<Chains, Stop> {
 /// The chains that accept the first report, and what a picture shows of it.
 fn parts_of(
     alloc: Global,
-    root: Name,
+    root: &Name,
     report: &PackedReport,
     tells: bool,
 ) -> Result<(Chains, Scripted), Stop> {
@@ -104,7 +104,7 @@ fn parts_of(
 /// The beginning in this world, by the first report of its root.
 fn begin_with(
     alloc: Global,
-    root: Name,
+    root: &Name,
     world: World,
     report: &PackedReport,
     tells: bool,
@@ -125,7 +125,7 @@ fn begin(alloc: Global, line: &[u8], tells: bool) -> Result<Followed, Stop> {
         return Err(Stop::Refused(Cause::Grammar));
     };
     match World::start(alloc, root.copy()) {
-        Ok((world, report)) => { begin_with(alloc, root, world, &PackedReport::of(report), tells) }
+        Ok((world, report)) => { begin_with(alloc, &root, world, &PackedReport::of(report), tells) }
         Err(_) => Err(Stop::Refused(Cause::Fault(StepFault::Memory))),
     }
 }
@@ -145,15 +145,14 @@ fn settle_chains(chains: &mut Chains, names: &Names) -> Result<(), Stop> {
     }
 }
 
-/// All return to the line of these failed processes.
-fn settle(followed: &mut Followed, names: &Names) -> Result<(), Stop> {
-    let Ok(failed) = names.to_vec(followed.chains.alloc()) else {
-        return Err(Stop::Memory);
-    };
-    let Ok(line) = line_for(&followed.chains, names) else {
-        return Err(Stop::Memory);
-    };
-    match followed.world.settle(&failed, &line) {
+/// All return to this line, where these processes failed, whose names are in both forms.
+fn settle_at(
+    followed: &mut Followed,
+    names: &Names,
+    failed: &[Name],
+    line: &[NamedPosition],
+) -> Result<(), Stop> {
+    match followed.world.settle(failed, line) {
         Ok(()) => {}
         Err(fault) => return Err(Stop::Refused(Cause::Fault(fault))),
     }
@@ -161,8 +160,19 @@ fn settle(followed: &mut Followed, names: &Names) -> Result<(), Stop> {
         Ok(()) => {}
         Err(stop) => return Err(stop),
     }
-    match followed.scripted.settle(&line) {
+    match followed.scripted.settle(line) {
         Ok(()) => Ok(()),
+        Err(_) => Err(Stop::Memory),
+    }
+}
+
+/// All return to the line of these failed processes.
+fn settle(followed: &mut Followed, names: &Names) -> Result<(), Stop> {
+    let Ok(failed) = names.to_vec(followed.chains.alloc()) else {
+        return Err(Stop::Memory);
+    };
+    match line_for(&followed.chains, names) {
+        Ok(line) => settle_at(followed, names, &failed, &line),
         Err(_) => Err(Stop::Memory),
     }
 }
@@ -200,7 +210,7 @@ fn note_report(
         return scripted.note(step, Said::nothing(), Said::nothing());
     }
     let said = scripted.scene.texts.report(epoch, report)?;
-    let child = match step.act {
+    let child = match step.request {
         StepRequest::Fork { .. } => scripted.scene.texts.child(epoch, report)?,
         _ => Said::nothing(),
     };

@@ -7,11 +7,10 @@ use crate::arrows::{Fate, fate_of};
 use crate::canvas::Canvas;
 use crate::frame::View;
 use crate::legend::{ROW, next_place};
-use crate::pen::Piece::Text;
+use crate::pen::Pen;
 use crate::scene::{Arrow, Spot};
 use crate::shapes::word;
 use crate::telling::{Said, Texts};
-use std::alloc::AllocError;
 
 /// The width of a letter, and of the room behind a name.
 const LETTER: u64 = 9;
@@ -51,53 +50,50 @@ fn place(ends: &mut [Ends], view: View<'_>, spot: Spot, letters: u64) -> Option<
     Some((from, view.frame.y(spot.lane) + below, to))
 }
 
-/// The name of the message of an arrow that is sent again: where it was received, or else where it was sent. Answers whether there is room.
-fn draw_name(
-    canvas: &mut Canvas,
+/// Where the name of the message of an arrow stands: below the step that received it, or else the one that sent it, if there is room; and
+/// where it ends.
+fn place_of(
     ends: &mut [Ends],
     view: View<'_>,
     arrow: Arrow,
-) -> Result<bool, AllocError> {
-    let name = view.scene.texts.get(arrow.said);
-    let letters = name.len() as u64;
-    let placed = match place(ends, view, arrow.to, letters) {
+    letters: u64,
+) -> Option<(u64, u64, u64)> {
+    match place(ends, view, arrow.to, letters) {
         Some(placed) => Some(placed),
         None => place(ends, view, arrow.from, letters),
-    };
-    let Some((x, y, to)) = placed else {
-        return Ok(false);
+    }
+}
+
+/// The name of the message of an arrow that is sent again, or a note that it finds no room.
+fn draw_name(canvas: &mut Canvas, ends: &mut [Ends], view: View<'_>, arrow: Arrow) {
+    let name = view.scene.texts.get(arrow.said);
+    let Some((x, y, to)) = place_of(ends, view, arrow, name.len() as u64) else {
+        return canvas.leave_out(arrow.said);
     };
     canvas.right = canvas.right.max(to);
-    word(&mut canvas.svg, b"again-name", (x, y), &[Text(name)])?;
-    Ok(true)
+    word(&mut canvas.pen, b"again-name", (x, y), name);
 }
 
-/// Draws the name of the message of an arrow that is sent again, and adds it to those without room where it finds none.
-fn place_name(
-    canvas: &mut Canvas,
-    ends: &mut [Ends],
-    without_room: &mut Vec<Said>,
-    view: View<'_>,
-    arrow: Arrow,
-) -> Result<(), AllocError> {
-    if !draw_name(canvas, ends, view, arrow)? {
-        without_room.push(arrow.said)?;
-    }
-    Ok(())
-}
-
-/// The names of messages that are to be sent again, each below the step that received it or the one that sent it. Answers those that find no
-/// room there.
-pub(crate) fn draw_names(canvas: &mut Canvas, view: View<'_>) -> Result<Vec<Said>, AllocError> {
-    let none = Ends { upper: 0, lower: 0 };
-    let mut ends = Vec::from_elem(view.scene.alloc, none, view.scene.lanes.len())?;
-    let mut without_room = Vec::new(view.scene.alloc);
+/// The names of messages that are to be sent again, where this is taken below the lines of processes.
+fn draw_names_between(canvas: &mut Canvas, ends: &mut [Ends], view: View<'_>) {
     for arrow in &view.scene.arrows {
         if fate_of(view, *arrow) == Fate::Again {
-            place_name(canvas, &mut ends, &mut without_room, view, *arrow)?;
+            draw_name(canvas, ends, view, *arrow);
         }
     }
-    Ok(without_room)
+}
+
+/// The names of messages that are to be sent again, each below the step that received it or the one that sent it. The canvas notes those
+/// that find no room there.
+pub(crate) fn draw_names(canvas: &mut Canvas, view: View<'_>) {
+    let none = Ends { upper: 0, lower: 0 };
+    match Vec::from_elem(view.scene.alloc, none, view.scene.lanes.len()) {
+        Ok(ends) => {
+            let mut ends = ends;
+            draw_names_between(canvas, &mut ends, view);
+        }
+        Err(_) => canvas.pen.run_out(),
+    }
 }
 
 /// What stands in front of the names below the legend, and where it ends.
@@ -107,23 +103,23 @@ const BEHIND_ALSO: u64 = 160;
 
 /// The names that found no room, in rows from this height on in a picture of this width. Answers where they end.
 pub(crate) fn draw_names_below(
-    svg: &mut Vec<u8>,
+    pen: &mut Pen,
     texts: &Texts,
     names: &[Said],
     top: u64,
     width: u64,
-) -> Result<u64, AllocError> {
+) -> u64 {
     if names.is_empty() {
-        return Ok(top);
+        return top;
     }
-    word(svg, b"legend", (12, top.saturating_add(4)), &[Text(ALSO)])?;
+    word(pen, b"legend", (12, top.saturating_add(4)), ALSO);
     let (mut x, mut y) = (BEHIND_ALSO, top);
     for said in names {
         let name = texts.get(*said);
         let room = LETTER.saturating_mul(name.len() as u64 + 1);
         (x, y) = next_place(x, y, room, width);
-        word(svg, b"again-name", (x, y.saturating_add(4)), &[Text(name)])?;
+        word(pen, b"again-name", (x, y.saturating_add(4)), name);
         x = x.saturating_add(room);
     }
-    Ok(y.saturating_add(ROW))
+    y.saturating_add(ROW)
 }

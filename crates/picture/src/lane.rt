@@ -73,7 +73,7 @@ impl Lane {
     }
 
     /// How many elements stand, the present state left out.
-    pub(crate) fn lasting(&self) -> u32 {
+    pub(crate) fn stable(&self) -> u32 {
         counted(self.elements.len())
     }
 
@@ -107,7 +107,7 @@ impl Lane {
         self.present = None;
         self.elements.push(column)?;
         Ok(Noted {
-            element: self.lasting(),
+            element: self.stable(),
             ended,
         })
     }
@@ -123,7 +123,7 @@ impl Lane {
     fn be_present(&mut self, column: u32, mark: usize, ended: Option<usize>) -> Noted {
         self.present = Some(PresentState { column, mark });
         Noted {
-            element: self.lasting().saturating_add(1),
+            element: self.stable().saturating_add(1),
             ended,
         }
     }

@@ -4,9 +4,8 @@ ghost use Rattle.std.specs.Prelude.{◌≤◌};
 
 use crate::canvas::{Canvas, Shown};
 use crate::marks::{DOT, ELEMENT, PASSED};
-use crate::pen::Piece::Text;
+use crate::pen::Pen;
 use crate::shapes::{circle, line, rectangle, word};
-use std::alloc::AllocError;
 
 /// A sign.
 #[derive(Clone, Copy)]
@@ -103,55 +102,90 @@ fn meaning(sign: Sign) -> &'static [u8] {
     }
 }
 
-/// A sign that stands on a process's line.
-fn draw_mark(svg: &mut Vec<u8>, sign: Sign, x: u64, y: u64) -> Result<(), AllocError> {
-    let (middle, right) = (x.saturating_add(11), x.saturating_add(17));
-    let (above, below) = (y.saturating_sub(8), y.saturating_add(8));
-    let at = (middle, y);
+/// The class and the radius of a sign that is a circle.
+fn circle_of(sign: Sign) -> Option<(&'static [u8], u64)> {
     match sign {
-        Sign::Element => circle(svg, b"mark", at, ELEMENT, &[]),
-        Sign::Present => circle(svg, b"mark hollow", at, ELEMENT, &[]),
-        Sign::Passed => circle(svg, b"mark hollow", at, PASSED, &[]),
-        Sign::Event => circle(svg, b"event", at, DOT, &[]),
-        Sign::Retirement => line(svg, b"life", (middle, above), (middle, below), &[]),
-        Sign::Obsolete => rectangle(svg, b"obsolete", (x, above), (SIGN, 16)),
-        Sign::Open => {
-            line(svg, b"open", (x, y), at, &[])?;
-            circle(svg, b"end", (right, y), 3, &[])
-        }
-        Sign::Failure => {
-            line(svg, b"failure", (x, above), (right, below), &[])?;
-            line(svg, b"failure", (x, below), (right, above), &[])
-        }
-        _ => Ok(()),
+        Sign::Element => Some((b"mark".as_slice(), ELEMENT)),
+        Sign::Present => Some((b"mark hollow".as_slice(), ELEMENT)),
+        Sign::Passed => Some((b"mark hollow".as_slice(), PASSED)),
+        Sign::Event => Some((b"event".as_slice(), DOT)),
+        _ => None,
+    }
+}
+
+/// The class of a sign that is a line from left to right.
+fn class_across(sign: Sign) -> Option<&'static [u8]> {
+    match sign {
+        Sign::Message | Sign::Knowledge => Some(b"message".as_slice()),
+        Sign::Family => Some(b"family".as_slice()),
+        Sign::Again => Some(b"again".as_slice()),
+        Sign::Undone => Some(b"life undone".as_slice()),
+        Sign::Reason => Some(b"reason".as_slice()),
+        _ => None,
+    }
+}
+
+/// The class of a sign that is a line from top to bottom.
+fn class_down(sign: Sign) -> Option<&'static [u8]> {
+    match sign {
+        Sign::Retirement => Some(b"life".as_slice()),
+        Sign::Recovery => Some(b"recovery".as_slice()),
+        Sign::Settlement => Some(b"settled".as_slice()),
+        Sign::Moment => Some(b"epoch".as_slice()),
+        _ => None,
+    }
+}
+
+/// The sign of a message that was not received.
+fn draw_open(pen: &mut Pen, x: u64, y: u64) {
+    line(pen, b"open", (x, y), (x.saturating_add(11), y), &[]);
+    circle(pen, b"end", (x.saturating_add(17), y), 3, &[]);
+}
+
+/// The sign of a failure.
+fn draw_failure(pen: &mut Pen, x: u64, y: u64) {
+    let right = x.saturating_add(17);
+    let (above, below) = (y.saturating_sub(8), y.saturating_add(8));
+    line(pen, b"failure", (x, above), (right, below), &[]);
+    line(pen, b"failure", (x, below), (right, above), &[]);
+}
+
+/// A sign that is more than a circle or a line.
+fn draw_figure(pen: &mut Pen, sign: Sign, x: u64, y: u64) {
+    match sign {
+        Sign::Obsolete => rectangle(pen, b"obsolete", (x, y.saturating_sub(8)), (SIGN, 16)),
+        Sign::Open => draw_open(pen, x, y),
+        Sign::Failure => draw_failure(pen, x, y),
+        _ => {}
     }
 }
 
 /// A sign that is a line.
-fn draw_line(svg: &mut Vec<u8>, sign: Sign, x: u64, y: u64) -> Result<(), AllocError> {
-    let (from, to) = ((x, y), (x.saturating_add(SIGN), y));
-    let middle = x.saturating_add(11);
-    let (above, below) = ((middle, y.saturating_sub(8)), (middle, y.saturating_add(8)));
-    match sign {
-        Sign::Message => line(svg, b"message", from, to, &[]),
-        Sign::Knowledge => line(svg, b"message", from, to, &[]),
-        Sign::Family => line(svg, b"family", from, to, &[]),
-        Sign::Again => line(svg, b"again", from, to, &[]),
-        Sign::Undone => line(svg, b"life undone", from, to, &[]),
-        Sign::Reason => line(svg, b"reason", from, to, &[]),
-        Sign::Recovery => line(svg, b"recovery", above, below, &[]),
-        Sign::Settlement => line(svg, b"settled", above, below, &[]),
-        Sign::Moment => line(svg, b"epoch", above, below, &[]),
-        _ => Ok(()),
+fn draw_line(pen: &mut Pen, sign: Sign, x: u64, y: u64) {
+    if let Some(class) = class_across(sign) {
+        line(pen, class, (x, y), (x.saturating_add(SIGN), y), &[]);
+    }
+    if let Some(class) = class_down(sign) {
+        let middle = x.saturating_add(11);
+        let (above, below) = (y.saturating_sub(8), y.saturating_add(8));
+        line(pen, class, (middle, above), (middle, below), &[]);
+    }
+}
+
+/// A sign that is a circle.
+fn draw_circle(pen: &mut Pen, sign: Sign, x: u64, y: u64) {
+    if let Some((class, radius)) = circle_of(sign) {
+        circle(pen, class, (x.saturating_add(11), y), radius, &[]);
     }
 }
 
 /// A sign, and what it means.
-fn draw_sign(svg: &mut Vec<u8>, sign: Sign, x: u64, y: u64) -> Result<(), AllocError> {
-    draw_mark(svg, sign, x, y)?;
-    draw_line(svg, sign, x, y)?;
+fn draw_sign(pen: &mut Pen, sign: Sign, x: u64, y: u64) {
+    draw_circle(pen, sign, x, y);
+    draw_line(pen, sign, x, y);
+    draw_figure(pen, sign, x, y);
     let at = (x.saturating_add(SIGN + 6), y.saturating_add(4));
-    word(svg, b"legend", at, &[Text(meaning(sign))])
+    word(pen, b"legend", at, meaning(sign));
 }
 
 /// The place that a sign takes with what it means.
@@ -182,16 +216,16 @@ pub(crate) fn width_of_legend(shown: Shown) -> u64 {
 }
 
 /// The signs of a picture of this width that stand in it, from this height on. Answers where they end.
-pub(crate) fn draw_legend(canvas: &mut Canvas, top: u64, width: u64) -> Result<u64, AllocError> {
+pub(crate) fn draw_legend(canvas: &mut Canvas, top: u64, width: u64) -> u64 {
     let (mut x, mut y) = (12, top);
     let shown = canvas.shown;
     for sign in SIGNS {
         if is_shown(shown, *sign) {
             let room = room_of(*sign);
             (x, y) = next_place(x, y, room, width);
-            draw_sign(&mut canvas.svg, *sign, x, y)?;
+            draw_sign(&mut canvas.pen, *sign, x, y);
             x = x.saturating_add(room);
         }
     }
-    Ok(y.saturating_add(ROW))
+    y.saturating_add(ROW)
 }

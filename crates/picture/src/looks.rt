@@ -1,9 +1,7 @@
 //! How what a picture shows looks: a style for each class, the heads of arrows, and the hatching.
 
-use crate::pen::Piece::Text;
-use crate::pen::write;
+use crate::pen::Pen;
 use crate::shapes::head;
-use std::alloc::AllocError;
 
 const STYLES: &[u8] = b"<style>text{font:13px sans-serif;fill:#222}.name{font-weight:bold}\
 .number,.again-name,.legend{font-size:11px}\
@@ -34,16 +32,23 @@ const TO_MARK: u32 = 7;
 /// The same for the dot of a step that makes no element.
 const TO_DOT: u32 = 2;
 
+/// The name of an arrow's head, its colour, and how far its tip stands in front of the arrow's end.
+const HEADS: &[(&[u8], &[u8], u32)] = &[
+    (b"blue", b"#1f5fa8", TO_DOT),
+    (b"blue-mark", b"#1f5fa8", TO_MARK),
+    (b"black", b"#222", TO_DOT),
+    (b"black-mark", b"#222", TO_MARK),
+    (b"pink", b"#c2185b", TO_DOT),
+    (b"grey", b"#999", TO_DOT),
+    (b"grey-mark", b"#999", TO_MARK),
+    (b"red-mark", b"#d32f2f", TO_MARK),
+];
+
 /// The looks, and the white ground.
-pub(crate) fn write_looks(svg: &mut Vec<u8>) -> Result<(), AllocError> {
-    write(svg, &[Text(STYLES)])?;
-    head(svg, b"blue", b"#1f5fa8", TO_DOT)?;
-    head(svg, b"blue-mark", b"#1f5fa8", TO_MARK)?;
-    head(svg, b"black", b"#222", TO_DOT)?;
-    head(svg, b"black-mark", b"#222", TO_MARK)?;
-    head(svg, b"pink", b"#c2185b", TO_DOT)?;
-    head(svg, b"grey", b"#999", TO_DOT)?;
-    head(svg, b"grey-mark", b"#999", TO_MARK)?;
-    head(svg, b"red-mark", b"#d32f2f", TO_MARK)?;
-    write(svg, &[Text(HATCHING)])
+pub(crate) fn write_looks(pen: &mut Pen) {
+    pen.text(STYLES);
+    for (name, colour, before) in HEADS {
+        head(pen, name, colour, *before);
+    }
+    pen.text(HATCHING);
 }

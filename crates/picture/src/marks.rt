@@ -5,9 +5,9 @@ ghost use Rattle.std.specs.Prelude.{◌<◌, ◌≤◌, ◌^◌};
 use crate::canvas::Canvas;
 use crate::frame::View;
 use crate::mark::{Kind, Mark};
-use crate::pen::Piece::{self, Number, Text};
-use crate::shapes::{circle, line, word};
-use std::alloc::AllocError;
+use crate::pen::Pen;
+use crate::pen::Piece::{self, Text};
+use crate::shapes::{circle, close_text, line, open_text};
 
 /// The radius of the mark of an element.
 pub(crate) const ELEMENT: u64 = 6;
@@ -45,68 +45,57 @@ fn show(canvas: &mut Canvas, kind: Kind, is_undone: bool) {
 }
 
 /// The number of an element: above its mark, and below that of a birth, where no arrow comes from.
-fn draw_number(canvas: &mut Canvas, mark: Mark, x: u64, y: u64) -> Result<(), AllocError>
+fn draw_number(pen: &mut Pen, mark: Mark, x: u64, y: u64)
     requires low { 58 ≤ y }
     requires high { y < 2 ^ 40 }
 {
     if mark.element == 0 {
-        return Ok(());
+        return;
     }
     let y = match mark.kind {
         Kind::Birth => y + 20,
-        Kind::Passed => return Ok(()),
+        Kind::Passed => return,
         _ => y - 12,
     };
-    word(
-        &mut canvas.svg,
-        b"number",
-        (x, y),
-        &[Number(mark.element as u64)],
-    )
+    open_text(pen, b"number", (x, y));
+    pen.number(mark.element as u64);
+    close_text(pen);
 }
 
 /// A mark of this class, and what it tells.
-fn draw_shape(
-    canvas: &mut Canvas,
-    kind: Kind,
-    class: &[u8],
-    x: u64,
-    y: u64,
-    told: &[Piece<'_>],
-) -> Result<(), AllocError>
+fn draw_shape(pen: &mut Pen, kind: Kind, class: &[u8], x: u64, y: u64, told: &[Piece<'_>])
     requires low { 58 ≤ y }
     requires high { y < 2 ^ 40 }
 {
-    let svg = &mut canvas.svg;
     match kind {
         Kind::Birth | Kind::Checkpoint | Kind::Present => {
-            circle(svg, class, (x, y), ELEMENT, told)
+            circle(pen, class, (x, y), ELEMENT, told)
         }
-        Kind::Passed => circle(svg, class, (x, y), PASSED, told),
-        Kind::Report | Kind::Event => circle(svg, class, (x, y), DOT, told),
-        Kind::Retirement => line(svg, class, (x, y - 9), (x, y + 9), told),
+        Kind::Passed => circle(pen, class, (x, y), PASSED, told),
+        Kind::Report | Kind::Event => circle(pen, class, (x, y), DOT, told),
+        Kind::Retirement => line(pen, class, (x, y - 9), (x, y + 9), told),
     }
 }
 
 /// A mark with its number, which tells its stamp and the line of its report.
-fn draw_mark(canvas: &mut Canvas, view: View<'_>, mark: Mark) -> Result<(), AllocError> {
+fn draw_mark(canvas: &mut Canvas, view: View<'_>, mark: Mark) {
     let is_undone = mark.is_undone || view.is_undone(mark.spot);
     let class = class_of(mark.kind, is_undone);
     show(canvas, mark.kind, is_undone);
     let (x, y) = (view.frame.x(mark.spot.column), view.frame.y(mark.spot.lane));
     let said = view.scene.texts.get(mark.said);
+    let pen = &mut canvas.pen;
     if said.is_empty() {
-        draw_shape(canvas, mark.kind, class, x, y, &[])?;
+        draw_shape(pen, mark.kind, class, x, y, &[]);
     } else {
-        draw_shape(canvas, mark.kind, class, x, y, &[Text(said)])?;
+        draw_shape(pen, mark.kind, class, x, y, &[Text(said)]);
     }
-    draw_number(canvas, mark, x, y)
+    draw_number(pen, mark, x, y);
 }
 
 /// The marks of all processes.
-pub(crate) fn draw_marks(canvas: &mut Canvas, view: View<'_>) -> Result<(), AllocError> {
+pub(crate) fn draw_marks(canvas: &mut Canvas, view: View<'_>) {
     for mark in &view.scene.marks {
-        draw_mark(canvas, view, *mark)?;
+        draw_mark(canvas, view, *mark);
     }
-    Ok(())
 }

@@ -1,7 +1,7 @@
 //! Text and numbers behind one another.
 
 use itoa::Buffer;
-use std::alloc::AllocError;
+use std::alloc::{AllocError, Global};
 
 /// What is written.
 #[derive(Clone, Copy)]
@@ -10,19 +10,82 @@ pub(crate) enum Piece<'a> {
     Number(u64),
 }
 
-/// Appends the digits of the number.
-fn write_number(text: &mut Vec<u8>, number: u64) -> Result<(), AllocError> {
-    let mut digits = Buffer::new();
-    text.extend_from_slice(digits.format(number).as_bytes())
+/// Writes a text. Once memory has run out it writes nothing more, and `finish` reports that.
+pub(crate) struct Pen {
+    text: Vec<u8>,
+    is_out_of_memory: bool,
 }
 
-/// Appends the pieces.
-pub(crate) fn write(text: &mut Vec<u8>, pieces: &[Piece<'_>]) -> Result<(), AllocError> {
-    for piece in pieces {
-        match *piece {
-            Piece::Text(piece) => text.extend_from_slice(piece)?,
-            Piece::Number(number) => write_number(text, number)?,
+impl Drop for Pen {
+    fn drop(self) {
+        let Pen {
+            text: _,
+            is_out_of_memory: _,
+        } = self;
+    }
+}
+
+impl Pen {
+    /// Nothing is written.
+    pub(crate) fn new(alloc: Global) -> Pen {
+        Pen {
+            text: Vec::new(alloc),
+            is_out_of_memory: false,
         }
     }
-    Ok(())
+
+    /// The length of what is written.
+    pub(crate) fn len(&self) -> usize {
+        self.text.len()
+    }
+
+    /// Notes that memory ran out, here or for something else that the text needs.
+    pub(crate) fn run_out(&mut self) {
+        self.is_out_of_memory = true;
+    }
+
+    /// Appends a text.
+    pub(crate) fn text(&mut self, text: &[u8]) {
+        if self.is_out_of_memory {
+            return;
+        }
+        if self.text.extend_from_slice(text).is_err() {
+            self.run_out();
+        }
+    }
+
+    /// Appends the digits of a number.
+    pub(crate) fn number(&mut self, number: u64) {
+        let mut digits = Buffer::new();
+        self.text(digits.format(number).as_bytes());
+    }
+
+    /// Appends a text, and the digits of a number behind it.
+    pub(crate) fn text_number(&mut self, text: &[u8], number: u64) {
+        self.text(text);
+        self.number(number);
+    }
+
+    /// Appends the pieces.
+    pub(crate) fn write(&mut self, pieces: &[Piece<'_>]) {
+        for piece in pieces {
+            match *piece {
+                Piece::Text(text) => self.text(text),
+                Piece::Number(number) => self.number(number),
+            }
+        }
+    }
+
+    /// All that was written, if memory sufficed for it.
+    pub(crate) fn finish(self) -> Result<Vec<u8>, AllocError> {
+        let Pen {
+            text,
+            is_out_of_memory,
+        } = self;
+        if is_out_of_memory {
+            drop(text);
+            return Err(AllocError);
+        }
+        Ok(text)
+    }
 }

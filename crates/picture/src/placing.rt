@@ -6,7 +6,7 @@ use crate::reported::{Reported, Reports, Source};
 use crate::scene::{Arrow, Scene, Spot, Tie};
 use crate::telling::Said;
 use chains::Chains;
-use std::alloc::AllocError;
+use std::alloc::{AllocError, Global};
 
 /// How far the reports of a process stand in the scene.
 #[derive(Clone, Copy)]
@@ -31,24 +31,34 @@ struct Placing {
 }
 
 impl Placing {
-    /// A scene with a row for each process.
-    fn begun(chains: &Chains, reports: &Reports) -> Result<Placing, AllocError> {
-        let alloc = chains.alloc();
-        let mut scene = Scene::new(alloc, true);
-        for process in 0..chains.count() {
-            scene.add(chains.name_of(process).copy())?;
+    /// A scene without rows.
+    fn new(alloc: Global) -> Placing {
+        Placing {
+            scene: Scene::new(alloc, true),
+            reaches: Vec::new(alloc),
+            columns: Vec::new(alloc),
+            first: 0,
+            epoch: 0,
         }
+    }
+
+    /// Adds a row for each process.
+    fn add_rows(&mut self, chains: &Chains) -> Result<(), AllocError> {
+        for process in 0..chains.count() {
+            self.scene.add(chains.name_of(process).copy())?;
+        }
+        Ok(())
+    }
+
+    /// Notes that none of the reports stands in the scene.
+    fn begin(&mut self, chains: &Chains, reports: &Reports) -> Result<(), AllocError> {
         let reach = Reach {
             reports: 0,
             sources: 0,
         };
-        Ok(Placing {
-            scene,
-            reaches: Vec::from_elem(alloc, reach, reports.lines.len())?,
-            columns: Vec::from_elem(alloc, 0, reports.all.len())?,
-            first: 0,
-            epoch: 0,
-        })
+        self.reaches = Vec::from_elem(chains.alloc(), reach, reports.lines.len())?;
+        self.columns = Vec::from_elem(chains.alloc(), 0, reports.all.len())?;
+        Ok(())
     }
 
     /// The column of the report at this place, once it has one.
@@ -298,6 +308,14 @@ impl Placing {
         }
         Ok(())
     }
+
+    /// Adds all reports, in rows of their processes, with arrows between them.
+    fn add_all(&mut self, chains: &Chains, reports: &Reports) -> Result<(), AllocError> {
+        self.add_rows(chains)?;
+        self.begin(chains, reports)?;
+        self.go_through(chains, reports)?;
+        self.tie_all(reports)
+    }
 }
 
 /// The column of a step, if there is one.
@@ -310,8 +328,10 @@ fn column_of(spot: Option<Spot>) -> u32 {
 
 /// The scene of these reports.
 pub(crate) fn place_all(chains: &Chains, reports: &Reports) -> Result<Scene, AllocError> {
-    let mut placing = Placing::begun(chains, reports)?;
-    placing.go_through(chains, reports)?;
-    placing.tie_all(reports)?;
+    let mut placing = Placing::new(chains.alloc());
+    let Ok(()) = placing.add_all(chains, reports) else {
+        drop(placing);
+        return Err(AllocError);
+    };
     Ok(placing.scene)
 }

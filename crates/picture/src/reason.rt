@@ -5,12 +5,12 @@ ghost use Rattle.std.specs.Prelude.{◌<◌, ◌≤◌, ◌^◌};
 use crate::arrows::begin_behind;
 use crate::canvas::Canvas;
 use crate::frame::View;
+use crate::pen::Pen;
 use crate::pen::Piece::{Number, Text};
 use crate::scene::Spot;
 use crate::shapes::{circle, line};
 use chains::{Place, Places, Position};
 use reasons::Certificate;
-use std::alloc::AllocError;
 
 /// The radius of the ring round a place of the chain.
 const RING: u64 = 10;
@@ -47,7 +47,7 @@ fn known_after(view: View<'_>, place: Place, is_first: bool) -> u32 {
             None => 0,
             Some(lane) => match view.scene.lanes.get(lane as usize) {
                 None => 0,
-                Some(lane) => lane.lasting(),
+                Some(lane) => lane.stable(),
             },
         },
     }
@@ -66,13 +66,7 @@ fn name_of<'a>(view: View<'a>, process: u32) -> &'a [u8] {
 
 /// A step of the chain: from behind the element of that number of a process to the place that knows it, and first along the process's own
 /// line to that element.
-fn draw_link(
-    canvas: &mut Canvas,
-    view: View<'_>,
-    before: Place,
-    after: u32,
-    place: Place,
-) -> Result<(), AllocError> {
+fn draw_link(pen: &mut Pen, view: View<'_>, before: Place, after: u32, place: Place) {
     let known = Place {
         process: before.process,
         position: Position::At(after.max(1)),
@@ -82,7 +76,7 @@ fn draw_link(
         spot_of(view, known),
         spot_of(view, place),
     ) else {
-        return Ok(());
+        return;
     };
     let begin = begin_behind(view, known);
     let told = &[
@@ -93,34 +87,28 @@ fn draw_link(
         Number(after as u64),
     ];
     if known.column < here.column {
-        line(&mut canvas.svg, b"reason", view.frame.at(here), begin, told)?;
+        line(pen, b"reason", view.frame.at(here), begin, told);
     }
-    let svg = &mut canvas.svg;
-    line(svg, b"reason because", begin, view.frame.at(spot), told)
+    line(pen, b"reason because", begin, view.frame.at(spot), told);
 }
 
 /// A place of the chain.
-fn draw_place(canvas: &mut Canvas, view: View<'_>, place: Place) -> Result<(), AllocError> {
-    match spot_of(view, place) {
-        None => Ok(()),
-        Some(spot) => circle(&mut canvas.svg, b"ring", view.frame.at(spot), RING, &[]),
+fn draw_place(pen: &mut Pen, view: View<'_>, place: Place) {
+    if let Some(spot) = spot_of(view, place) {
+        circle(pen, b"ring", view.frame.at(spot), RING, &[]);
     }
 }
 
 /// A reason chain.
-pub(crate) fn draw_reason(
-    canvas: &mut Canvas,
-    view: View<'_>,
-    chain: &[Place],
-) -> Result<(), AllocError> {
+pub(crate) fn draw_reason(canvas: &mut Canvas, view: View<'_>, chain: &[Place]) {
     canvas.shown.reason = !chain.is_empty();
+    let pen = &mut canvas.pen;
     for i in 0..chain.len() {
-        draw_place(canvas, view, chain[i])?;
+        draw_place(pen, view, chain[i]);
         if i > 0 {
             let before = chain[i - 1];
             let after = known_after(view, before, i == 1);
-            draw_link(canvas, view, before, after, chain[i])?;
+            draw_link(pen, view, before, after, chain[i]);
         }
     }
-    Ok(())
 }

@@ -5,6 +5,7 @@ use crate::knowledge::find_sources;
 use crate::placing::place_all;
 use crate::reason::chain_of;
 use crate::reported::Reports;
+use crate::scene::Scene;
 use crate::sheet::{Subject, Why, picture};
 use chains::{Chains, Failed, FailedFault};
 use garbage_line::garbage;
@@ -35,22 +36,51 @@ fn why_in<'a>(line: &'a Certificate, why: Option<u32>) -> Option<Why<'a>> {
     }
 }
 
-/// The picture of what these chains have, for whom it is asked.
-fn picture_of(chains: &Chains, asked: &Asked) -> Result<Vec<u8>, AllocError> {
-    let line = certificate(chains, &asked.failed)?;
-    let obsolete = garbage(chains)?;
+/// The scene of what these chains have, by these reports of theirs.
+fn scene_with(reports: &mut Reports, chains: &Chains) -> Result<Scene, AllocError> {
+    find_sources(reports, chains)?;
+    place_all(chains, reports)
+}
+
+/// The scene of what these chains have.
+fn scene_of(chains: &Chains) -> Result<Scene, AllocError> {
     let mut reports = Reports::of(chains)?;
-    find_sources(&mut reports, chains)?;
-    let scene = place_all(chains, &reports)?;
+    scene_with(&mut reports, chains)
+}
+
+/// The picture of what these chains have, with these lines through it, and with the reason chain of a process if it is asked for.
+fn picture_with(
+    chains: &Chains,
+    line: &Certificate,
+    obsolete: &Certificate,
+    why: Option<u32>,
+) -> Result<Vec<u8>, AllocError> {
+    let scene = scene_of(chains)?;
     picture(
         chains.alloc(),
         Subject {
             scene: &scene,
-            line: &line,
-            obsolete: &obsolete,
-            why: why_in(&line, asked.why),
+            line,
+            obsolete,
+            why: why_in(line, why),
         },
     )
+}
+
+/// The same, with what is obsolete still to be found.
+fn picture_through(
+    chains: &Chains,
+    line: &Certificate,
+    why: Option<u32>,
+) -> Result<Vec<u8>, AllocError> {
+    let obsolete = garbage(chains)?;
+    picture_with(chains, line, &obsolete, why)
+}
+
+/// The picture of what these chains have, for whom it is asked.
+fn picture_of(chains: &Chains, asked: &Asked) -> Result<Vec<u8>, AllocError> {
+    let line = certificate(chains, &asked.failed)?;
+    picture_through(chains, &line, asked.why)
 }
 
 /// The process of this name, if one is named.

@@ -98,11 +98,12 @@ fn described(chains: &Chains, index: u32, report: &PackedReport) -> Option<Repor
 impl Line {
     /// No reports, where there are so many processes.
     fn new(alloc: Global, processes: usize) -> Result<Line, AllocError> {
+        let known = Vec::from_elem(alloc, 0, processes)?;
         Ok(Line {
             reports: Vec::new(alloc),
             elements: Vec::new(alloc),
             present: None,
-            known: Vec::from_elem(alloc, 0, processes)?,
+            known,
         })
     }
 
@@ -135,44 +136,62 @@ impl Line {
 }
 
 impl Reports {
+    /// Notes the report that stands there, as one of this process.
+    fn note(&mut self, process: u32, kind: Kind, place: u32) -> Result<(), AllocError> {
+        match self.lines.get_mut(process as usize) {
+            None => Ok(()),
+            Some(line) => line.note(kind, place),
+        }
+    }
+
     /// Adds a report.
     fn add(&mut self, report: Reported) -> Result<(), AllocError> {
         let place = counted(self.all.len());
-        if let Some(line) = self.lines.get_mut(report.process as usize) {
-            line.note(report.kind, place)?;
-        }
-        if let Some(child) = report.child
-            && let Some(line) = self.lines.get_mut(child as usize)
-        {
-            line.note(Kind::Birth, place)?;
-        }
+        let (process, kind, child) = (report.process, report.kind, report.child);
         self.all.push(report)?;
+        self.note(process, kind, place)?;
+        match child {
+            None => Ok(()),
+            Some(child) => self.note(child, Kind::Birth, place),
+        }
+    }
+
+    /// Adds the accepted report of this index.
+    fn add_accepted(&mut self, chains: &Chains, index: u32) -> Result<(), AllocError> {
+        let Some(report) = chains.report(index) else {
+            return Ok(());
+        };
+        match described(chains, index, report) {
+            None => Ok(()),
+            Some(report) => self.add(report),
+        }
+    }
+
+    /// Adds all lines, and then all reports to them.
+    fn add_all(&mut self, chains: &Chains) -> Result<(), AllocError> {
+        for _ in 0..chains.count() {
+            let line = Line::new(chains.alloc(), chains.count() as usize)?;
+            self.lines.push(line)?;
+        }
+        for index in 0..chains.front() {
+            self.add_accepted(chains, index)?;
+        }
+        for line in self.lines.iter_mut() {
+            line.end()?;
+        }
         Ok(())
     }
 
     /// The reports that these chains have.
     pub(crate) fn of(chains: &Chains) -> Result<Reports, AllocError> {
-        let alloc = chains.alloc();
         let mut reports = Reports {
-            all: Vec::new(alloc),
-            lines: Vec::new(alloc),
+            all: Vec::new(chains.alloc()),
+            lines: Vec::new(chains.alloc()),
         };
-        for _ in 0..chains.count() {
-            let line = Line::new(alloc, chains.count() as usize)?;
-            reports.lines.push(line)?;
-        }
-        for index in 0..chains.front() {
-            match chains.report(index) {
-                None => {}
-                Some(report) => match described(chains, index, report) {
-                    None => {}
-                    Some(report) => reports.add(report)?,
-                },
-            }
-        }
-        for line in reports.lines.iter_mut() {
-            line.end()?;
-        }
+        let Ok(()) = reports.add_all(chains) else {
+            drop(reports);
+            return Err(AllocError);
+        };
         Ok(reports)
     }
 

@@ -32,7 +32,7 @@ impl Scripted {
     /// A root at its birth, by the report of it.
     pub(crate) fn begun(
         alloc: Global,
-        root: Name,
+        root: &Name,
         report: &PackedReport,
         tells: bool,
     ) -> Result<Scripted, AllocError> {
@@ -41,15 +41,24 @@ impl Scripted {
             rows: IndexMap::new(alloc),
             messages: IndexMap::new(alloc),
         };
-        let said = scripted.scene.texts.report(0, report)?;
-        scripted.bear(root, 0, said)?;
+        let Ok(()) = scripted.begin(root, report) else {
+            drop(scripted);
+            return Err(AllocError);
+        };
         Ok(scripted)
     }
 
+    /// Notes the birth of the root, by the report of it.
+    fn begin(&mut self, root: &Name, report: &PackedReport) -> Result<(), AllocError> {
+        let said = self.scene.texts.report(0, report)?;
+        self.bear(root, 0, said)?;
+        Ok(())
+    }
+
     /// A process is born right behind this column.
-    fn bear(&mut self, name: Name, behind: u32, said: Said) -> Result<Spot, AllocError> {
+    fn bear(&mut self, name: &Name, behind: u32, said: Said) -> Result<Spot, AllocError> {
         let row = self.scene.add(name.copy())?;
-        self.rows.insert(name, row)?;
+        self.rows.insert(name.copy(), row)?;
         let spot = self.scene.next(row, behind);
         self.scene.mark(spot, Kind::Birth, said)?;
         Ok(spot)
@@ -74,8 +83,8 @@ impl Scripted {
     }
 
     /// The step that this one comes right behind, of another process.
-    fn behind(&self, act: &StepRequest) -> Option<Spot> {
-        match act {
+    fn behind(&self, request: &StepRequest) -> Option<Spot> {
+        match request {
             StepRequest::Receive { message } => {
                 let (_, sent) = self.message(message)?;
                 Some(sent.spot)
@@ -127,7 +136,7 @@ impl Scripted {
 
     /// Notes a fork, of which the child has this to tell.
     fn fork(&mut self, child: &Name, spot: Spot, said: Said) -> Result<(), AllocError> {
-        let birth = self.bear(child.copy(), spot.column, said)?;
+        let birth = self.bear(child, spot.column, said)?;
         self.scene.tie(Tie::Fork, spot, birth)
     }
 
@@ -135,11 +144,11 @@ impl Scripted {
     fn join(
         &mut self,
         spot: Spot,
-        act: &StepRequest,
+        request: &StepRequest,
         behind: Option<Spot>,
         child: Said,
     ) -> Result<(), AllocError> {
-        match act {
+        match request {
             StepRequest::Send { message } => self.send(message, spot),
             StepRequest::Receive { message } => self.receive(message, spot),
             StepRequest::Fork { child: name } => self.fork(name, spot, child),
@@ -159,10 +168,10 @@ impl Scripted {
         let Some(row) = self.row_of(&step.process) else {
             return Ok(());
         };
-        let behind = self.behind(&step.act);
+        let behind = self.behind(&step.request);
         let spot = self.scene.next(row, column_of(behind));
-        self.scene.mark(spot, kind_of(&step.act), said)?;
-        self.join(spot, &step.act, behind, child)
+        self.scene.mark(spot, kind_of(&step.request), said)?;
+        self.join(spot, &step.request, behind, child)
     }
 
     /// Notes that all processes that are known returned to a line, which has their positions in order of birth.
@@ -180,8 +189,8 @@ fn column_of(spot: Option<Spot>) -> u32 {
 }
 
 /// What a step is.
-fn kind_of(act: &StepRequest) -> Kind {
-    match act {
+fn kind_of(request: &StepRequest) -> Kind {
+    match request {
         StepRequest::Check => Kind::Checkpoint,
         StepRequest::Present => Kind::Present,
         StepRequest::Retire { .. } => Kind::Retirement,

@@ -9,12 +9,11 @@ use crate::lines::{draw_failures, draw_recovery_line, draw_settlements};
 use crate::lives::{draw_lives, draw_obsolete};
 use crate::looks::write_looks;
 use crate::marks::draw_marks;
-use crate::pen::Piece::{Number, Text};
-use crate::pen::write;
+use crate::pen::Pen;
 use crate::reason::draw_reason;
 use crate::scene::Scene;
 use crate::shapes::{close_text, open_text};
-use crate::telling::Said;
+use crate::telling::Texts;
 use crate::words::{write_failed, write_lines, write_reason, write_settlements, write_why};
 use chains::Place;
 use reasons::Certificate;
@@ -40,49 +39,49 @@ pub(crate) struct Subject<'scene, 'line> {
     pub(crate) why: Option<Why<'line>>,
 }
 
+/// How large a picture is.
+#[derive(Clone, Copy)]
+struct Size {
+    width: u64,
+    height: u64,
+}
+
 /// The element that all others stand in.
-fn write_head(svg: &mut Vec<u8>, width: u64, height: u64) -> Result<(), AllocError> {
-    write(
-        svg,
-        &[
-            Text(b"<svg xmlns=\"http://www.w3.org/2000/svg\" viewBox=\"0 0 ".as_slice()),
-            Number(width),
-            Text(b" ".as_slice()),
-            Number(height),
-            Text(b"\" width=\"".as_slice()),
-            Number(width),
-            Text(b"\" height=\"".as_slice()),
-            Number(height),
-            Text(b"\" role=\"img\" aria-labelledby=\"title words\">\n".as_slice()),
-        ],
-    )
+fn write_head(pen: &mut Pen, size: Size) {
+    pen.text_number(
+        b"<svg xmlns=\"http://www.w3.org/2000/svg\" viewBox=\"0 0 ",
+        size.width,
+    );
+    pen.text_number(b" ", size.height);
+    pen.text_number(b"\" width=\"", size.width);
+    pen.text_number(b"\" height=\"", size.height);
+    pen.text(b"\" role=\"img\" aria-labelledby=\"title words\">\n");
 }
 
 /// The title and the words, which are read aloud.
-fn write_words(svg: &mut Vec<u8>, subject: Subject<'_, '_>) -> Result<(), AllocError> {
+fn write_words(pen: &mut Pen, subject: Subject<'_, '_>) {
     let Subject {
         scene,
         line,
         obsolete,
         why,
     } = subject;
-    write(svg, &[Text(b"<title id=\"title\">".as_slice())])?;
-    write_title(svg, subject)?;
-    write(svg, &[Text(b"</title>\n<desc id=\"words\">".as_slice())])?;
-    write_settlements(svg, scene)?;
-    write_lines(svg, scene, line.line.as_slice(), obsolete.line.as_slice())?;
+    pen.text(b"<title id=\"title\">");
+    write_title(pen, subject);
+    pen.text(b"</title>\n<desc id=\"words\">");
+    write_settlements(pen, scene);
+    write_lines(pen, scene, line.line.as_slice(), obsolete.line.as_slice());
     if let Some(why) = why {
-        write_reason(svg, scene, why.process, why.chain)?;
+        write_reason(pen, scene, why.process, why.chain);
     }
-    write(svg, &[Text(b"</desc>\n".as_slice())])
+    pen.text(b"</desc>\n");
 }
 
 /// Which processes failed, and of which the reason chain is shown.
-fn write_title(svg: &mut Vec<u8>, subject: Subject<'_, '_>) -> Result<(), AllocError> {
-    write_failed(svg, subject.scene, subject.line.failed.as_slice())?;
-    match subject.why {
-        None => Ok(()),
-        Some(why) => write_why(svg, subject.scene, why.process, why.chain.is_empty()),
+fn write_title(pen: &mut Pen, subject: Subject<'_, '_>) {
+    write_failed(pen, subject.scene, subject.line.failed.as_slice());
+    if let Some(why) = subject.why {
+        write_why(pen, subject.scene, why.process, why.chain.is_empty());
     }
 }
 
@@ -90,63 +89,98 @@ fn write_title(svg: &mut Vec<u8>, subject: Subject<'_, '_>) -> Result<(), AllocE
 const TITLE_LETTERS: usize = 250;
 
 /// The title above the picture.
-fn draw_title(canvas: &mut Canvas, subject: Subject<'_, '_>) -> Result<(), AllocError> {
-    open_text(&mut canvas.svg, b"title", (12, 20))?;
-    let before = canvas.svg.len();
-    write_title(&mut canvas.svg, subject)?;
-    let letters = canvas.svg.len().saturating_sub(before).min(TITLE_LETTERS);
+fn draw_title(canvas: &mut Canvas, subject: Subject<'_, '_>) {
+    let pen = &mut canvas.pen;
+    open_text(pen, b"title", (12, 20));
+    let before = pen.len();
+    write_title(pen, subject);
+    let letters = pen.len().saturating_sub(before).min(TITLE_LETTERS);
+    close_text(pen);
     canvas.right = canvas.right.max(24 + 8 * letters as u64);
-    close_text(&mut canvas.svg)
 }
 
-/// The layers, from the lowest to the highest. Answers the names of messages to be sent again that found no room in them.
-fn draw_layers(
-    canvas: &mut Canvas,
-    frame: Frame,
-    subject: Subject<'_, '_>,
-) -> Result<Vec<Said>, AllocError> {
+/// The lowest layer: what is obsolete.
+fn draw_garbage(canvas: &mut Canvas, frame: Frame, subject: Subject<'_, '_>) {
     let scene = subject.scene;
-    let positions = &scene.positions(subject.line.line.as_slice())?;
-    let garbage = &scene.positions(subject.obsolete.line.as_slice())?;
-    let view = View {
-        frame,
-        scene,
-        positions,
-    };
-    let obsolete = View {
-        frame,
-        scene,
-        positions: garbage,
-    };
-    draw_obsolete(canvas, obsolete)?;
-    draw_lives(canvas, view)?;
-    draw_arrows(canvas, view)?;
-    draw_open_messages(canvas, view)?;
-    draw_settlements(canvas, view)?;
-    draw_recovery_line(canvas, view)?;
-    if let Some(why) = subject.why {
-        draw_reason(canvas, view, why.chain)?;
+    match scene.positions(subject.obsolete.line.as_slice()) {
+        Ok(positions) => {
+            let view = View {
+                frame,
+                scene,
+                positions: &positions,
+            };
+            draw_obsolete(canvas, view);
+        }
+        Err(_) => canvas.pen.run_out(),
     }
-    draw_marks(canvas, view)?;
-    draw_failures(canvas, view, subject.line.failed.as_slice())?;
-    draw_names(canvas, view)
+}
+
+/// The layers above it, from the lowest to the highest.
+fn draw_layers(canvas: &mut Canvas, view: View<'_>, subject: Subject<'_, '_>) {
+    draw_lives(&mut canvas.pen, view);
+    draw_arrows(canvas, view);
+    draw_open_messages(canvas, view);
+    draw_settlements(canvas, view);
+    draw_recovery_line(&mut canvas.pen, view);
+    if let Some(why) = subject.why {
+        draw_reason(canvas, view, why.chain);
+    }
+    draw_marks(canvas, view);
+    draw_failures(canvas, view, subject.line.failed.as_slice());
+    draw_names(canvas, view);
+}
+
+/// The scene, with the line through it.
+fn draw_scene(canvas: &mut Canvas, frame: Frame, subject: Subject<'_, '_>) {
+    let scene = subject.scene;
+    match scene.positions(subject.line.line.as_slice()) {
+        Ok(positions) => {
+            let view = View {
+                frame,
+                scene,
+                positions: &positions,
+            };
+            draw_layers(canvas, view, subject);
+        }
+        Err(_) => canvas.pen.run_out(),
+    }
+}
+
+/// What is below the scene, and how large the picture is with it.
+fn draw_below(canvas: &mut Canvas, frame: Frame, texts: &Texts) -> Size {
+    let least = width_of_legend(canvas.shown).min(LEAST_WIDTH);
+    let width = frame.right().max(canvas.right).max(least);
+    let below = draw_legend(canvas, frame.bottom() + 20, width);
+    let names = &canvas.without_room;
+    let height = draw_names_below(&mut canvas.pen, texts, names, below, width);
+    Size { width, height }
+}
+
+/// Draws all that is in the picture of a scene, and answers how large it is.
+fn draw_all(canvas: &mut Canvas, subject: Subject<'_, '_>) -> Size {
+    let frame = Frame::of(subject.scene);
+    draw_title(canvas, subject);
+    draw_garbage(canvas, frame, subject);
+    draw_scene(canvas, frame, subject);
+    draw_below(canvas, frame, &subject.scene.texts)
+}
+
+/// What is in front of the drawing.
+fn write_front(pen: &mut Pen, size: Size, subject: Subject<'_, '_>) {
+    write_head(pen, size);
+    write_words(pen, subject);
+    write_looks(pen);
 }
 
 /// The picture of a scene.
 pub(crate) fn picture(alloc: Global, subject: Subject<'_, '_>) -> Result<Vec<u8>, AllocError> {
-    let frame = Frame::of(subject.scene);
     let mut canvas = Canvas::new(alloc);
-    draw_title(&mut canvas, subject)?;
-    let names = draw_layers(&mut canvas, frame, subject)?;
-    let least = width_of_legend(canvas.shown).min(LEAST_WIDTH);
-    let width = frame.right().max(canvas.right).max(least);
-    let below = draw_legend(&mut canvas, frame.bottom() + 20, width)?;
-    let texts = &subject.scene.texts;
-    let height = draw_names_below(&mut canvas.svg, texts, &names, below, width)?;
-    let mut svg = Vec::new(alloc);
-    write_head(&mut svg, width, height)?;
-    write_words(&mut svg, subject)?;
-    write_looks(&mut svg)?;
-    write(&mut svg, &[Text(&canvas.svg), Text(b"</svg>\n".as_slice())])?;
-    Ok(svg)
+    let size = draw_all(&mut canvas, subject);
+    let drawn = canvas.finish()?;
+    let mut pen = Pen::new(alloc);
+    write_front(&mut pen, size, subject);
+    pen.text(&drawn);
+    pen.text(b"</svg>\n");
+    drop(drawn);
+    pen.finish()
 }

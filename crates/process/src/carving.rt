@@ -122,7 +122,7 @@ fn part_once(alloc: Global, id: &Id, depth: u8) -> Result<(Id, Id), AllocError>
     requires { HasRoomFor id.now depth }
     ensures { IfOk result (λ parts. IsPartedOnce id.now depth parts.0 parts.1) }
 {
-    id.known();
+    id.recall_facts();
     match id.split(alloc) {
         Ok((left, right)) => Ok(deeper_last(left, right, depth)),
         Err(SplitFault::NothingOwned) => unreachable!(),

@@ -1,7 +1,6 @@
 //! Forks: a child is given a part of the id.
 
 ghost use Rattle.std.specs.Prelude.{◌≡◌, ◌+◌, ◌<◌, IfOk, IfErr, IsErr, OnErr};
-ghost use Rattle.report_line.specs.declared.report.ReportKind.TheVariants as actions;
 ghost use Rattle.id_tree.specs.NormalForm.{depth_limit};
 ghost use Rattle.id_tree.specs.Split.{parts_depth};
 ghost use Rattle.event_tree.specs.Event.{PassesLimit};
@@ -87,24 +86,6 @@ impl Process {
     }
 }
 
-// A stamp of these two parts.
-fn of_both(alloc: Global, id: &Id, events: &Events) -> Result<Stamp, AllocError>
-    ensures { IfOk result (λ s. s ≡ record { id = id.now; events = events.now }) }
-{
-    let id = id.copy(alloc)?;
-    let events = events.copy(alloc)?;
-    Ok(Stamp { id, events })
-}
-
-// What a fork reports.
-fn fork_action(alloc: Global, kept: &Id, child: &Name, given: &Id) -> Result<ReportKind, AllocError>
-    ensures { IfOk result (λ a. a ≡ actions.Fork (record { kept = kept.now; child = child.now; given = given.now })) }
-{
-    let kept = kept.copy(alloc)?;
-    let given = given.copy(alloc)?;
-    ReportKind::fork(alloc, kept, child.copy(), given)
-}
-
 // The line of a fork's report.
 fn fork_line(
     alloc: Global,
@@ -117,8 +98,8 @@ fn fork_line(
     requires { number ≡ process.now.reports + 1 }
     ensures { IfOk result (λ line. IsLineOf process.now.epoch (fork_report process.now kept.now child.now given.now) line.items) }
 {
-    let stamp = of_both(alloc, &process.stamp.id, &kept.events)?;
-    let Ok(action) = fork_action(alloc, &kept.id, child, given) else {
+    let stamp = Stamp::of_both(alloc, &process.stamp.id, &kept.events)?;
+    let Ok(action) = ReportKind::fork_of(alloc, &kept.id, child, given) else {
         drop(stamp);
         return Err(AllocError);
     };

@@ -8,7 +8,7 @@ ghost use Rattle.report_line.specs.declared.report.ReportKind.TheVariants as act
 ghost use Rattle.report_line.specs.declared.report.Report.TheVariants.{Begin};
 ghost use Rattle.process.specs.Steps.{Works, Sends, HandsOver, Tells, Receives, Retires, Absorbs, Returns, Counts, IsLineOf};
 ghost use Rattle.process.specs.Faults.{RefusesEvent, RefusesReport, RefusesAgain, RefusesReceipt, RefusesRetirement, RefusesAbsorption, RefusesKept, RefusesStamp, RefusesSum, RefusesReturn, IsWorn, fault_of};
-ghost use Rattle.process.specs.working.Telling.{IsTold, IsReported, IsAbsorbTold, after_told};
+ghost use Rattle.process.specs.working.Telling.{IsReportedStep, IsReported, IsAbsorbTold, after_told};
 ghost use Rattle.stamp.specs.Operations.{IsNormalJoin, IsReceive, IsAbsorb};
 
 use crate::fault::ProcessFault;
@@ -253,7 +253,7 @@ impl Process {
     /// `OtherProcess` where that is another process's; then the process stays as it was, and what was kept is given back.
     pub fn return_to(&mut self, kept: Process, epoch: u32) -> Result<(), (ProcessFault, Process)>
         ensures ok { OnOk result (Returns kept self.new epoch) }
-        ensures same { OnOk result (kept.name ≡ self.old.name) }
+        ensures same_name { OnOk result (kept.name ≡ self.old.name) }
         ensures later { OnOk result (self.old.epoch < epoch) }
         ensures err { IfErr result (λ refused. RefusesReturn refused.0 self.old kept epoch) }
         ensures unchanged { OnErr result (self.new ≡ self.old) }
@@ -371,7 +371,7 @@ fn counted(alloc: Global, process: &Process) -> Result<(u32, Stamp), ProcessFaul
 
 // A step of its own, and its report with this action.
 fn told(alloc: Global, process: &Process, action: ReportKind) -> Result<ReportedStep, ProcessFault>
-    ensures ok { IfOk result (λ told. IsTold process.now action told) }
+    ensures ok { IfOk result (λ told. IsReportedStep process.now action told) }
     ensures err { IfErr result (λ fault. RefusesReport fault process.now) }
     ensures worn { IsWorn process.now → IsErr result }
     ensures full { PassesLimit process.now.stamp.id process.now.stamp.events → IsErr result }
@@ -390,7 +390,7 @@ fn told(alloc: Global, process: &Process, action: ReportKind) -> Result<Reported
 
 // A retirement into the target, and its report.
 fn retired(alloc: Global, process: &Process, target: &Name) -> Result<ReportedStep, ProcessFault>
-    ensures ok { IfOk result (λ told. (target.now ≢ process.now.name) × IsTold process.now (actions.Retire target.now) told) }
+    ensures ok { IfOk result (λ told. (target.now ≢ process.now.name) × IsReportedStep process.now (actions.Retire target.now) told) }
     ensures err { IfErr result (λ fault. RefusesRetirement fault process.now target.now) }
     ensures itself { target.now ≡ process.now.name → IsErr result }
     ensures worn { IsWorn process.now → IsErr result }

@@ -43,7 +43,7 @@ fn read_events(alloc: Global, word: &[u8]) -> Result<Events, LineFault>
 {
     match Events::parse(alloc, word) {
         Ok(events) => {
-            events.known();
+            events.recall_facts();
             Ok(events)
         }
         Err(EventsFault::Memory) => Err(LineFault::Memory),

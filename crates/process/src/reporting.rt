@@ -32,7 +32,7 @@ pub(crate) fn line_of_root(alloc: Global, root: &Name) -> Result<Vec<u8>, AllocE
     let report = PackedReport::of(Report::Begin {
         process: root.copy(),
     });
-    report.known();
+    report.recall_facts();
     write_marked(alloc, 0, &report)
 }
 
@@ -53,7 +53,7 @@ pub(crate) fn line_of(
         stamp,
         action,
     }));
-    report.known();
+    report.recall_facts();
     write_marked(alloc, process.epoch, &report)
 }
 

@@ -109,13 +109,13 @@ fn push_retirement(out: &mut Vec<u8>, retirement: &Retirement) -> Result<(), All
 
 impl Process {
     /// Tells a proof what holds of each process.
-    pub fn known(&self)
+    pub fn recall_facts(&self)
         ensures { IsProcess self.now }
     {
         let _name = self.name.as_bytes();
         let _epoch = self.epoch;
         let _reports = self.reports;
-        self.stamp.known();
+        self.stamp.recall_facts();
     }
 
     /// Appends the one text of the process, a line without its LF. On a refused growth `out` is as it was.
@@ -142,11 +142,11 @@ impl Process {
 
 impl Message {
     /// Tells a proof what holds of each message.
-    pub fn known(&self)
+    pub fn recall_facts(&self)
         ensures { IsMessage self.now }
     {
         let _epoch = self.epoch;
-        self.events.known();
+        self.events.recall_facts();
     }
 
     /// Appends the one text of the message, a line without its LF. On a refused growth `out` is as it was.
@@ -173,12 +173,12 @@ impl Message {
 
 impl Start {
     /// Tells a proof what holds of each start.
-    pub fn known(&self)
+    pub fn recall_facts(&self)
         ensures { IsStart self.now }
     {
         let _child = self.child.as_bytes();
         let _epoch = self.epoch;
-        self.stamp.known();
+        self.stamp.recall_facts();
     }
 
     /// Appends the one text of the start, a line without its LF. On a refused growth `out` is as it was.
@@ -205,13 +205,13 @@ impl Start {
 
 impl Retirement {
     /// Tells a proof what holds of each retirement.
-    pub fn known(&self)
+    pub fn recall_facts(&self)
         ensures { IsRetirement self.now }
     {
         let _process = self.process.as_bytes();
         let _epoch = self.epoch;
         let _target = self.target.as_bytes();
-        self.stamp.known();
+        self.stamp.recall_facts();
     }
 
     /// Appends the one text of the retirement, a line without its LF. On a refused growth `out` is as it was.

@@ -16,11 +16,11 @@ pub record IsGiven (bytes : List ℕ) (answer : ℤ) (old new : List ℕ) : Type
   pub none : length old < length bytes → new ≡ old
 
 -- The fault is told by its number, and the buffer is as it was.
-pub record IsTold (fault : Fault) (answer : ℤ) (old new : List ℕ) : Type 0 where
+pub record IsFaultAnswer (fault : Fault) (answer : ℤ) (old new : List ℕ) : Type 0 where
   pub number : answer ≡ number_of fault
   pub none : new ≡ old
 
 -- what a call answers that gives such bytes, and is refused by such faults
 abbrev pub IsAnswer : (List ℕ → Type 0) → (Fault → Type 0) → ℤ → List ℕ → List ℕ → Type 0
 IsAnswer gives refuses answer old new =
-    ((bytes : List ℕ) × gives bytes × IsGiven bytes answer old new) ⊎ ((fault : Fault) × refuses fault × IsTold fault answer old new)
+    ((bytes : List ℕ) × gives bytes × IsGiven bytes answer old new) ⊎ ((fault : Fault) × refuses fault × IsFaultAnswer fault answer old new)

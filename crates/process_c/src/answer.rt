@@ -1,7 +1,7 @@
 //! The number that a call answers, and what it writes.
 
 ghost use Rattle.std.specs.Prelude.{MatchResult};
-ghost use Rattle.process_c.specs.Answers.{IsGiven, IsTold};
+ghost use Rattle.process_c.specs.Answers.{IsGiven, IsFaultAnswer};
 
 use crate::fault::Fault;
 
@@ -19,7 +19,7 @@ fn give(bytes: &[u8], out: &mut [u8]) -> i64
 
 /// Gives what a call made, or tells its fault.
 pub fn answer(made: Result<Vec<u8>, Fault>, out: &mut [u8]) -> i64
-    ensures { MatchResult made (λ v. IsGiven v.items result out.old out.new) (λ fault. IsTold fault result out.old out.new) }
+    ensures { MatchResult made (λ v. IsGiven v.items result out.old out.new) (λ fault. IsFaultAnswer fault result out.old out.new) }
 {
     match made {
         Ok(bytes) => give(&bytes, out),

@@ -23,7 +23,7 @@ fn begun(alloc: Global, name: &Name) -> Result<Vec<u8>, Fault>
     ensures err { IfErr result (λ fault. fault ≡ Refused Memory) }
 {
     let (process, line) = Process::root(alloc, name)?;
-    process.known();
+    process.recall_facts();
     Ok(state_and_line(alloc, &process, &line)?)
 }
 
@@ -41,7 +41,7 @@ pub fn born(alloc: Global, start: &[u8]) -> Result<Vec<u8>, Fault>
 {
     let start = read_start(alloc, start)?;
     let process = Process::born(start);
-    process.known();
+    process.recall_facts();
     Ok(state(alloc, &process)?)
 }
 

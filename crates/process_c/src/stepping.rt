@@ -23,7 +23,7 @@ pub fn work(alloc: Global, process: &mut Process) -> Result<Vec<u8>, Fault>
     ensures err { IfErr result (ByProcess (λ fault p. RefusesEvent fault p.stamp) process.old) }
 {
     process.work(alloc)?;
-    process.known();
+    process.recall_facts();
     Ok(state(alloc, process)?)
 }
 
@@ -33,7 +33,7 @@ pub fn check(alloc: Global, process: &mut Process) -> Result<Vec<u8>, Fault>
     ensures err { IfErr result (ByProcess RefusesReport process.old) }
 {
     let line = process.check(alloc)?;
-    process.known();
+    process.recall_facts();
     Ok(state_and_line(alloc, process, &line)?)
 }
 
@@ -43,7 +43,7 @@ pub fn present(alloc: Global, process: &mut Process) -> Result<Vec<u8>, Fault>
     ensures err { IfErr result (ByProcess RefusesReport process.old) }
 {
     let line = process.present(alloc)?;
-    process.known();
+    process.recall_facts();
     Ok(state_and_line(alloc, process, &line)?)
 }
 
@@ -53,8 +53,8 @@ pub fn send(alloc: Global, process: &mut Process) -> Result<Vec<u8>, Fault>
     ensures err { IfErr result (ByProcess (λ fault p. RefusesEvent fault p.stamp) process.old) }
 {
     let message = process.send(alloc)?;
-    process.known();
-    message.known();
+    process.recall_facts();
+    message.recall_facts();
     Ok(state_and_message(alloc, process, &message)?)
 }
 
@@ -64,8 +64,8 @@ fn handed_again(alloc: Global, process: &Process, message: &Message) -> Result<V
     ensures err { IfErr result (ByProcess (λ fault p. RefusesAgain fault p message.now) process.now) }
 {
     let again = process.again(alloc, message)?;
-    process.known();
-    again.known();
+    process.recall_facts();
+    again.recall_facts();
     Ok(state_and_message(alloc, process, &again)?)
 }
 
@@ -84,7 +84,7 @@ fn received(alloc: Global, process: &mut Process, message: &Message) -> Result<V
     ensures err { IfErr result (ByProcess (λ fault p. RefusesReceipt fault p.epoch p.stamp message.now) process.old) }
 {
     process.receive(alloc, message)?;
-    process.known();
+    process.recall_facts();
     Ok(state(alloc, process)?)
 }
 
@@ -103,8 +103,8 @@ fn forked(alloc: Global, process: &mut Process, child: &Name) -> Result<Vec<u8>,
     ensures err { IfErr result (ByProcess (λ fault p. RefusesFork fault p child.now) process.old) }
 {
     let (line, start) = process.fork(alloc, child)?;
-    process.known();
-    start.known();
+    process.recall_facts();
+    start.recall_facts();
     Ok(state_line_and_start(alloc, process, &line, &start)?)
 }
 
@@ -123,8 +123,8 @@ fn carved(alloc: Global, process: &mut Process, child: &Name, depth: u8) -> Resu
     ensures err { IfErr result (ByProcess (λ fault p. RefusesLeaf fault p child.now depth) process.old) }
 {
     let (line, start) = process.fork_small(alloc, child, depth)?;
-    process.known();
-    start.known();
+    process.recall_facts();
+    start.recall_facts();
     Ok(state_line_and_start(alloc, process, &line, &start)?)
 }
 
@@ -148,7 +148,7 @@ fn absorbed(alloc: Global, process: &mut Process, retirement: &Retirement) -> Re
     ensures err { IfErr result (ByProcess (λ fault p. RefusesAbsorption fault p retirement.now) process.old) }
 {
     let line = process.absorb(alloc, retirement)?;
-    process.known();
+    process.recall_facts();
     Ok(state_and_line(alloc, process, &line)?)
 }
 
@@ -171,7 +171,7 @@ fn absorbed_kept(
     ensures err { IfErr result (ByProcess (λ fault p. RefusesKept fault p retirement.now) process.old) }
 {
     let line = process.absorb_kept(alloc, retirement)?;
-    process.known();
+    process.recall_facts();
     Ok(state_and_line(alloc, process, &line)?)
 }
 
@@ -196,7 +196,7 @@ fn returned_to(
 {
     match process.return_to(kept, epoch) {
         Ok(()) => {
-            process.known();
+            process.recall_facts();
             Ok(state(alloc, process)?)
         }
         Err(refused) => Err(fault_of(refused)),
@@ -225,7 +225,7 @@ pub fn returned(alloc: Global, process: &mut Process, epoch: u32) -> Result<Vec<
     if !process.returned(epoch) {
         return Err(Fault::Refused(ProcessFault::Older));
     }
-    process.known();
+    process.recall_facts();
     Ok(state(alloc, process)?)
 }
 
@@ -243,7 +243,7 @@ fn retired(alloc: Global, process: Process, target: &Name) -> Result<Vec<u8>, Fa
 {
     match process.retire(alloc, target) {
         Ok((line, retirement)) => {
-            retirement.known();
+            retirement.recall_facts();
             Ok(line_and_retirement(alloc, &line, &retirement)?)
         }
         Err(refused) => Err(fault_of(refused)),

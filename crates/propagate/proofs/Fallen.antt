@@ -7,8 +7,8 @@ use Rattle.std.proofs.lemmas.Bool.{ltb-true, lt-ltb, true≢false}
 -- the processes from the i-th on that are below
 abbrev pub fallen_from : ℕ → List ℕ → List ℕ → List ℕ
 fallen_from i [] cut = []
-fallen_from i (top ∷ tops) [] = []
-fallen_from i (top ∷ tops) (r ∷ rs) = cond (nat_lt r top) (i ∷ fallen_from (suc i) tops rs) (fallen_from (suc i) tops rs)
+fallen_from i (top ∷ surviving_ranks) [] = []
+fallen_from i (top ∷ surviving_ranks) (r ∷ rs) = cond (nat_lt r top) (i ∷ fallen_from (suc i) surviving_ranks rs) (fallen_from (suc i) surviving_ranks rs)
 
 -- ---- what a list contains
 
@@ -42,24 +42,24 @@ first_member true i xs e = member_first i xs
 first_member false i xs e = absurd (true≢false (sym e))
 
 -- they are those below
-pub fallen_below : (i p : ℕ) (tops cut : List ℕ) → Contains (fallen_from i tops cut) p → (j : ℕ) × (p ≡ i + j) × (j < length cut) × (slice_index cut j < slice_index tops j)
+pub fallen_below : (i p : ℕ) (surviving_ranks cut : List ℕ) → Contains (fallen_from i surviving_ranks cut) p → (j : ℕ) × (p ≡ i + j) × (j < length cut) × (slice_index cut j < slice_index surviving_ranks j)
 fallen_below i p [] cut h = absurd (no_member p h)
-fallen_below i p (top ∷ tops) [] h = absurd (no_member p h)
-fallen_below i p (top ∷ tops) (r ∷ rs) h = elim (if_member (nat_lt r top) i p (fallen_from (suc i) tops rs) h) [
+fallen_below i p (top ∷ surviving_ranks) [] h = absurd (no_member p h)
+fallen_below i p (top ∷ surviving_ranks) (r ∷ rs) h = elim (if_member (nat_lt r top) i p (fallen_from (suc i) surviving_ranks rs) h) [
   | inl (below, e) ↦ (0, omega (arith, e), omega arith, ltb-true r top below)
-  | inr there ↦ let more = fallen_below (suc i) p tops rs there in (suc more.0, omega (arith, more.1), omega (arith, more.2), more.3)
+  | inr there ↦ let more = fallen_below (suc i) p surviving_ranks rs there in (suc more.0, omega (arith, more.1), omega (arith, more.2), more.3)
 ]
 
-pub below_fallen : (i j : ℕ) (tops cut : List ℕ) → length cut ≡ length tops → j < length cut → slice_index cut j < slice_index tops j → Contains (fallen_from i tops cut) (i + j)
+pub below_fallen : (i j : ℕ) (surviving_ranks cut : List ℕ) → length cut ≡ length surviving_ranks → j < length cut → slice_index cut j < slice_index surviving_ranks j → Contains (fallen_from i surviving_ranks cut) (i + j)
 below_fallen i j [] cut same lt below = absurd (omega arith)
-below_fallen i j (top ∷ tops) [] same lt below = absurd (omega arith)
-below_fallen i zero (top ∷ tops) (r ∷ rs) same lt below =
+below_fallen i j (top ∷ surviving_ranks) [] same lt below = absurd (omega arith)
+below_fallen i zero (top ∷ surviving_ranks) (r ∷ rs) same lt below =
     let e : i ≡ i + 0 = omega arith in
-    subst (Contains (cond (nat_lt r top) (i ∷ fallen_from (suc i) tops rs) (fallen_from (suc i) tops rs))) e (first_member (nat_lt r top) i (fallen_from (suc i) tops rs) (lt-ltb r top below))
-below_fallen i (suc j) (top ∷ tops) (r ∷ rs) same lt below =
+    subst (Contains (cond (nat_lt r top) (i ∷ fallen_from (suc i) surviving_ranks rs) (fallen_from (suc i) surviving_ranks rs))) e (first_member (nat_lt r top) i (fallen_from (suc i) surviving_ranks rs) (lt-ltb r top below))
+below_fallen i (suc j) (top ∷ surviving_ranks) (r ∷ rs) same lt below =
     let e : suc i + j ≡ i + suc j = omega arith in
-    later_member (nat_lt r top) i (i + suc j) (fallen_from (suc i) tops rs)
-    (subst (Contains (fallen_from (suc i) tops rs)) e (below_fallen (suc i) j tops rs (omega arith) (omega arith) below))
+    later_member (nat_lt r top) i (i + suc j) (fallen_from (suc i) surviving_ranks rs)
+    (subst (Contains (fallen_from (suc i) surviving_ranks rs)) e (below_fallen (suc i) j surviving_ranks rs (omega arith) (omega arith) below))
 
 -- ---- in order
 
@@ -72,8 +72,8 @@ increasing_if : (b : Bool) (i : ℕ) (xs : List ℕ) → ((y : ℕ) → Contains
 increasing_if true i xs less h = increasing_more i xs less h
 increasing_if false i xs less h = h
 
-pub fallen_increasing : (i : ℕ) (tops cut : List ℕ) → IsStrictlyIncreasing (fallen_from i tops cut)
+pub fallen_increasing : (i : ℕ) (surviving_ranks cut : List ℕ) → IsStrictlyIncreasing (fallen_from i surviving_ranks cut)
 fallen_increasing i [] cut = λ k lt. absurd (omega arith)
-fallen_increasing i (top ∷ tops) [] = λ k lt. absurd (omega arith)
-fallen_increasing i (top ∷ tops) (r ∷ rs) =
-    increasing_if (nat_lt r top) i (fallen_from (suc i) tops rs) (λ y h. let there = fallen_below (suc i) y tops rs h in omega (arith, there.1)) (fallen_increasing (suc i) tops rs)
+fallen_increasing i (top ∷ surviving_ranks) [] = λ k lt. absurd (omega arith)
+fallen_increasing i (top ∷ surviving_ranks) (r ∷ rs) =
+    increasing_if (nat_lt r top) i (fallen_from (suc i) surviving_ranks rs) (λ y h. let there = fallen_below (suc i) y surviving_ranks rs h in omega (arith, there.1)) (fallen_increasing (suc i) surviving_ranks rs)

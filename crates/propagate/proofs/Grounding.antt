@@ -14,29 +14,29 @@ use Rattle.chains.specs.Knowledge.{Knows}
 use Rattle.knows_row.specs.Knowing.{KnowsRank, AreLawfulPlaces}
 use Rattle.reasons.specs.Certificates.{IsReasonChain, AreReasons, HaveReasons, EndsAfter, Falls, position_below}
 use Rattle.propagate.specs.working.Ranks.{IsGrounded, IsStage, positions_from}
-use Rattle.propagate.specs.Rounds.{AreTops}
-use Rattle.propagate.specs.working.Stages.{chains_due}
+use Rattle.propagate.specs.Rounds.{AreSurvivingRanks}
+use Rattle.propagate.specs.working.Stages.{needed_chains}
 use Rattle.propagate.proofs.Ranked.{rank_at, rank_at_below, position_in_positions}
 use Rattle.propagate.proofs.Chained.{below_next, reason_more}
 use Rattle.propagate.proofs.Fallen.{fallen_from, fallen_below, below_fallen, fallen_increasing}
 
 -- A place that knows a process at its last surviving rank: the two make a chain.
-pub grounded_first : (accepted : List Report) (failed tops cut next : List ℕ) (p x q : ℕ) → AreLawfulPlaces accepted → AreTops accepted failed tops
-    → q < length tops → KnowsRank accepted p x q (slice_index tops q) → slice_index next p < x → x ≤ last_rank accepted p
-    → IsGrounded accepted failed next (place_at accepted p x) (place_at accepted q (slice_index tops q) ∷ place_at accepted p x ∷ [])
-grounded_first accepted failed tops cut next p x q laws h within k past le = record {
+pub grounded_first : (accepted : List Report) (failed surviving_ranks cut next : List ℕ) (p x q : ℕ) → AreLawfulPlaces accepted → AreSurvivingRanks accepted failed surviving_ranks
+    → q < length surviving_ranks → KnowsRank accepted p x q (slice_index surviving_ranks q) → slice_index next p < x → x ≤ last_rank accepted p
+    → IsGrounded accepted failed next (place_at accepted p x) (place_at accepted q (slice_index surviving_ranks q) ∷ place_at accepted p x ∷ [])
+grounded_first accepted failed surviving_ranks cut next p x q laws h within k past le = record {
   reason = (
     elim (cases_Bool (is_retired accepted q)) [
       | inl retired ↦
-          let top : length (elements accepted q) + 1 ≤ slice_index tops q = omega (arith, (h.last q within).greatest Retired retired, rank_at_below accepted q (slice_index tops q)) in
-          absurd (laws.ended p x q (slice_index tops q) (omega arith) k)
+          let top : length (elements accepted q) + 1 ≤ slice_index surviving_ranks q = omega (arith, (h.last q within).greatest Retired retired, rank_at_below accepted q (slice_index surviving_ranks q)) in
+          absurd (laws.ended p x q (slice_index surviving_ranks q) (omega arith) k)
       | inr stays ↦ stays
     ],
     h.last q within,
     (k, tt),
     (All-nil (λ (y : Place). place_at accepted p x ≢ y), tt),
   );
-  front = place_at accepted q (slice_index tops q) ∷ [];
+  front = place_at accepted q (slice_index surviving_ranks q) ∷ [];
   ends = refl;
   past = All-cons (λ (z : Place). slice_index next z.process < rank accepted z.process z.position) (place_at accepted p x) []
       (rw (rank_at accepted p x le) past) (All-nil (λ (z : Place). slice_index next z.process < rank accepted z.process z.position));
@@ -57,15 +57,15 @@ falls_everywhere cut next same falls r = elim (cases_lt r (length cut)) [
 ]
 
 -- A place that knows a process after its rank, which is below its last surviving one: the chain of that process, and it.
-pub grounded_more : (accepted : List Report) (failed tops cut next : List ℕ) (p x q : ℕ) (chain : List Place) → AreLawfulPlaces accepted → AreTops accepted failed tops
-    → length cut ≡ length tops → ((r : ℕ) → r < length cut → slice_index cut r ≤ slice_index tops r)
+pub grounded_more : (accepted : List Report) (failed surviving_ranks cut next : List ℕ) (p x q : ℕ) (chain : List Place) → AreLawfulPlaces accepted → AreSurvivingRanks accepted failed surviving_ranks
+    → length cut ≡ length surviving_ranks → ((r : ℕ) → r < length cut → slice_index cut r ≤ slice_index surviving_ranks r)
     → p < length cut → q < length cut → IsGrounded accepted failed cut (place_at accepted q (slice_index cut q + 1)) chain
-    → slice_index cut q < slice_index tops q
+    → slice_index cut q < slice_index surviving_ranks q
     → KnowsRank accepted p x q (slice_index cut q) → slice_index next p < x → x ≤ slice_index cut p
     → ((r : ℕ) → r < length cut → slice_index next r ≤ slice_index cut r) → length next ≡ length cut
     → IsGrounded accepted failed next (place_at accepted p x) (chain ++ place_at accepted p x ∷ [])
-grounded_more accepted failed tops cut next p x q [] laws h complete surviving pin qin g below k past le falls same = absurd g.reason
-grounded_more accepted failed tops cut next p x q (first ∷ xs) laws h complete surviving pin qin g below k past le falls same = record {
+grounded_more accepted failed surviving_ranks cut next p x q [] laws h complete surviving pin qin g below k past le falls same = absurd g.reason
+grounded_more accepted failed surviving_ranks cut next p x q (first ∷ xs) laws h complete surviving pin qin g below k past le falls same = record {
   reason = subst (λ (c : List Place). IsReasonChain accepted failed (c ++ new ∷ [])) (sym g.ends)
       (reason_more accepted failed g.front last new (subst (IsReasonChain accepted failed) g.ends g.reason) knows (subst (λ (c : List Place). All (λ (y : Place). y ≢ new) (drop 1 c)) g.ends apart));
   front = first ∷ xs;
@@ -106,60 +106,60 @@ have_if : (accepted : List Report) (failed : List ℕ) (line : List Position) (b
 have_if accepted failed line true i chain ps chains one rest = ((one refl).0, (one refl).1, rest)
 have_if accepted failed line false i chain ps chains one rest = rest
 
-have_from : (accepted : List Report) (failed : List ℕ) (line : List Position) (i : ℕ) (tops cut : List ℕ) (chains : List (List Place))
-    → length cut ≡ length tops → length chains ≡ length cut
-    → ((p : ℕ) → p < length cut → slice_index cut p < slice_index tops p → IsReasonChain accepted failed (get_or chains p []) × EndsAfter accepted (i + p) (position_in line (i + p)) (get_or chains p []))
-    → HaveReasons accepted failed line (fallen_from i tops cut) (chains_due tops cut chains)
+have_from : (accepted : List Report) (failed : List ℕ) (line : List Position) (i : ℕ) (surviving_ranks cut : List ℕ) (chains : List (List Place))
+    → length cut ≡ length surviving_ranks → length chains ≡ length cut
+    → ((p : ℕ) → p < length cut → slice_index cut p < slice_index surviving_ranks p → IsReasonChain accepted failed (get_or chains p []) × EndsAfter accepted (i + p) (position_in line (i + p)) (get_or chains p []))
+    → HaveReasons accepted failed line (fallen_from i surviving_ranks cut) (needed_chains surviving_ranks cut chains)
 have_from accepted failed line i [] cut chains same kept each = tt
-have_from accepted failed line i (top ∷ tops) [] chains same kept each = tt
-have_from accepted failed line i (top ∷ tops) (r ∷ rs) [] same kept each = absurd (omega arith)
-have_from accepted failed line i (top ∷ tops) (r ∷ rs) (chain ∷ chains) same kept each =
-    have_if accepted failed line (nat_lt r top) i chain (fallen_from (suc i) tops rs) (chains_due tops rs chains)
+have_from accepted failed line i (top ∷ surviving_ranks) [] chains same kept each = tt
+have_from accepted failed line i (top ∷ surviving_ranks) (r ∷ rs) [] same kept each = absurd (omega arith)
+have_from accepted failed line i (top ∷ surviving_ranks) (r ∷ rs) (chain ∷ chains) same kept each =
+    have_if accepted failed line (nat_lt r top) i chain (fallen_from (suc i) surviving_ranks rs) (needed_chains surviving_ranks rs chains)
     (λ below. let e : i + 0 ≡ i = omega arith in
     subst (λ (j : ℕ). IsReasonChain accepted failed chain × EndsAfter accepted j (position_in line j) chain) e (each 0 (omega arith) (ltb-true r top below)))
-    (have_from accepted failed line (suc i) tops rs chains (omega arith) (omega arith)
+    (have_from accepted failed line (suc i) surviving_ranks rs chains (omega arith) (omega arith)
     (λ p lt below. let e : i + suc p ≡ suc i + p = omega arith in
     subst (λ (j : ℕ). IsReasonChain accepted failed (get_or chains p []) × EndsAfter accepted j (position_in line j) (get_or chains p [])) e (each (suc p) (omega arith) below)))
 
 -- a process falls where its rank is below its last surviving one
-falls_where : (accepted : List Report) (failed tops cut : List ℕ) (p : ℕ) → AreTops accepted failed tops → length cut ≡ length tops → p < length cut
-    → slice_index cut p ≤ slice_index tops p → (slice_index cut p < slice_index tops p) ↔ Falls accepted failed (positions_from accepted 0 cut) p
-falls_where accepted failed tops cut p h same lt le = (
+falls_where : (accepted : List Report) (failed surviving_ranks cut : List ℕ) (p : ℕ) → AreSurvivingRanks accepted failed surviving_ranks → length cut ≡ length surviving_ranks → p < length cut
+    → slice_index cut p ≤ slice_index surviving_ranks p → (slice_index cut p < slice_index surviving_ranks p) ↔ Falls accepted failed (positions_from accepted 0 cut) p
+falls_where accepted failed surviving_ranks cut p h same lt le = (
   λ below. (
     omega (arith, h.complete),
     λ last. absurd (omega (
       arith,
       below,
-      (rw (position_in_positions accepted p cut lt) at last).greatest (position_at accepted p (slice_index tops p)) (h.last p (omega arith)).surviving,
+      (rw (position_in_positions accepted p cut lt) at last).greatest (position_at accepted p (slice_index surviving_ranks p)) (h.last p (omega arith)).surviving,
       rank_at_below accepted p (slice_index cut p),
-      rank_at accepted p (slice_index tops p) (h.within p (omega arith)),
+      rank_at accepted p (slice_index surviving_ranks p) (h.within p (omega arith)),
     )),
   ),
-  λ falls. elim (cases_lt (slice_index cut p) (slice_index tops p)) [
+  λ falls. elim (cases_lt (slice_index cut p) (slice_index surviving_ranks p)) [
     | inl below ↦ below
     | inr ge ↦
-        let e : slice_index tops p ≡ slice_index cut p = omega arith in
+        let e : slice_index surviving_ranks p ≡ slice_index cut p = omega arith in
         absurd (falls.1 (rw (position_in_positions accepted p cut lt) (subst (λ (r : ℕ). IsLastSurviving accepted failed p (position_at accepted p r)) e (h.last p (omega arith)))))
   ],
 )
 
-pub are_reasons : (accepted : List Report) (failed tops cut : List ℕ) (chains : List (List Place)) → AreTops accepted failed tops → IsStage accepted failed tops cut chains
-    → AreReasons accepted failed (positions_from accepted 0 cut) (chains_due tops cut chains)
-are_reasons accepted failed tops cut chains h stage = record {
-  fallen = fallen_from 0 tops cut;
-  in_order = fallen_increasing 0 tops cut;
+pub are_reasons : (accepted : List Report) (failed surviving_ranks cut : List ℕ) (chains : List (List Place)) → AreSurvivingRanks accepted failed surviving_ranks → IsStage accepted failed surviving_ranks cut chains
+    → AreReasons accepted failed (positions_from accepted 0 cut) (needed_chains surviving_ranks cut chains)
+are_reasons accepted failed surviving_ranks cut chains h stage = record {
+  fallen = fallen_from 0 surviving_ranks cut;
+  in_order = fallen_increasing 0 surviving_ranks cut;
   just_these = λ p. (
     λ there.
-        let below = fallen_below 0 p tops cut there in
+        let below = fallen_below 0 p surviving_ranks cut there in
         let e : below.0 ≡ p = omega (arith, below.1) in
         let lt : p < length cut = subst (λ (j : ℕ). j < length cut) e below.2 in
-        (falls_where accepted failed tops cut p h stage.complete lt (stage.surviving p lt)).0 (subst (λ (j : ℕ). slice_index cut j < slice_index tops j) e below.3),
+        (falls_where accepted failed surviving_ranks cut p h stage.complete lt (stage.surviving p lt)).0 (subst (λ (j : ℕ). slice_index cut j < slice_index surviving_ranks j) e below.3),
     λ falls.
         let lt : p < length cut = omega (arith, falls.0, h.complete, stage.complete) in
         let e : 0 + p ≡ p = omega arith in
-        subst (Contains (fallen_from 0 tops cut)) e (below_fallen 0 p tops cut stage.complete lt ((falls_where accepted failed tops cut p h stage.complete lt (stage.surviving p lt)).1 falls)),
+        subst (Contains (fallen_from 0 surviving_ranks cut)) e (below_fallen 0 p surviving_ranks cut stage.complete lt ((falls_where accepted failed surviving_ranks cut p h stage.complete lt (stage.surviving p lt)).1 falls)),
   );
-  each = have_from accepted failed line 0 tops cut chains stage.complete stage.kept (λ p lt below.
+  each = have_from accepted failed line 0 surviving_ranks cut chains stage.complete stage.kept (λ p lt below.
       let g = stage.grounded p lt below in
       let e : p ≡ 0 + p = omega arith in
       let within : slice_index cut p + 1 ≤ last_rank accepted p = omega (arith, below, h.within p (omega (arith, stage.complete, lt))) in

@@ -13,7 +13,7 @@ use Rattle.chains.specs.Knowledge.{Knows, IsStampConsistent}
 use Rattle.knows_row.specs.Knowing.{KnowsRank, AreLawfulPlaces}
 use Rattle.reasons.specs.Certificates.{positions_of}
 use Rattle.propagate.specs.Greatest.{IsGreatestCut}
-use Rattle.propagate.specs.Rounds.{AreTops, AreRounds, AfterRounds, IsRound, IsLowered}
+use Rattle.propagate.specs.Rounds.{AreSurvivingRanks, AreRounds, AfterRounds, IsRound, IsLowered}
 use Rattle.propagate.specs.working.Ranks.{IsClearRank, IsNextRank, AreNextRanks, RanksAfter, IsClearBut, positions_from, places_from}
 use Rattle.std.specs.Prelude.{sum}
 use Rattle.propagate.proofs.Ranked.{rank_at, has_position, chosen_position, position_in_positions, length_positions}
@@ -26,24 +26,24 @@ settled_is_consistent accepted cut complete same p q pin qin =
     ((same.each p (omega (arith, complete, pin))).clear q (omega (arith, complete, qin)))
 
 -- the cut that the rounds end at is the greatest
-pub settled_is_greatest : (accepted : List Report) (failed tops cut : List ℕ) (t : ℕ) → AreLawfulPlaces accepted → AreTops accepted failed tops
-    → RanksAfter accepted tops t cut → AreNextRanks accepted cut cut → IsGreatestCut accepted failed (positions_from accepted 0 cut)
-settled_is_greatest accepted failed tops cut t laws h after same = record {
+pub settled_is_greatest : (accepted : List Report) (failed surviving_ranks cut : List ℕ) (t : ℕ) → AreLawfulPlaces accepted → AreSurvivingRanks accepted failed surviving_ranks
+    → RanksAfter accepted surviving_ranks t cut → AreNextRanks accepted cut cut → IsGreatestCut accepted failed (positions_from accepted 0 cut)
+settled_is_greatest accepted failed surviving_ranks cut t laws h after same = record {
   is_one = record {
     is_cut = record {
       complete = length_positions accepted 0 cut ∙ complete;
-      chosen = λ p lt. rw (position_in_positions accepted p cut (omega (arith, complete, lt))) (after_chosen accepted failed tops h t cut after p (omega (arith, lt, h.complete)));
+      chosen = λ p lt. rw (position_in_positions accepted p cut (omega (arith, complete, lt))) (after_chosen accepted failed surviving_ranks h t cut after p (omega (arith, lt, h.complete)));
     };
     consistent = settled_is_consistent accepted cut complete same;
   };
   greatest = λ d one p lt.
-      let pin : p < length tops = omega (arith, lt, h.complete) in
-      rw (position_in_positions accepted p cut (omega (arith, complete, lt)), rank_at accepted p (slice_index cut p) (after_within accepted failed tops h t cut after p pin))
-      (stays_below accepted failed tops h laws d one t cut after p pin);
+      let pin : p < length surviving_ranks = omega (arith, lt, h.complete) in
+      rw (position_in_positions accepted p cut (omega (arith, complete, lt)), rank_at accepted p (slice_index cut p) (after_within accepted failed surviving_ranks h t cut after p pin))
+      (stays_below accepted failed surviving_ranks h laws d one t cut after p pin);
 }
   where
     complete : length cut ≡ length (known accepted)
-    complete = after_complete accepted failed tops h t cut after ∙ h.complete
+    complete = after_complete accepted failed surviving_ranks h t cut after ∙ h.complete
 
 -- the rank that a process goes down to is of the position that it goes down to
 is_lowered : (accepted : List Report) (before cut : List ℕ) (p : ℕ) → length before ≡ length (known accepted) → p < length before → slice_index before p ≤ last_rank accepted p
@@ -75,30 +75,30 @@ is_round accepted before cut complete within next = record {
       rw (position_in_positions accepted p cut (omega (arith, next.complete, lt))) (is_lowered accepted before cut p complete lt (within p lt) (next.each p lt));
 }
 
-pub after_rounds : (accepted : List Report) (failed tops cut : List ℕ) (t : ℕ) → AreTops accepted failed tops → RanksAfter accepted tops t cut → AfterRounds accepted failed t (positions_from accepted 0 cut)
-after_rounds accepted failed tops cut zero h after = rw after (record {
-  complete = length_positions accepted 0 tops ∙ h.complete;
-  each = λ p pin. rw (position_in_positions accepted p tops (omega (arith, h.complete, pin))) (h.last p (omega (arith, h.complete, pin)));
+pub after_rounds : (accepted : List Report) (failed surviving_ranks cut : List ℕ) (t : ℕ) → AreSurvivingRanks accepted failed surviving_ranks → RanksAfter accepted surviving_ranks t cut → AfterRounds accepted failed t (positions_from accepted 0 cut)
+after_rounds accepted failed surviving_ranks cut zero h after = rw after (record {
+  complete = length_positions accepted 0 surviving_ranks ∙ h.complete;
+  each = λ p pin. rw (position_in_positions accepted p surviving_ranks (omega (arith, h.complete, pin))) (h.last p (omega (arith, h.complete, pin)));
 })
-after_rounds accepted failed tops cut (suc t) h after =
-    let same = after_complete accepted failed tops h t after.0 after.1 in
-    let whole = after_complete accepted failed tops h (suc t) cut after in (
+after_rounds accepted failed surviving_ranks cut (suc t) h after =
+    let same = after_complete accepted failed surviving_ranks h t after.0 after.1 in
+    let whole = after_complete accepted failed surviving_ranks h (suc t) cut after in (
       positions_from accepted 0 after.0,
-      after_rounds accepted failed tops after.0 t h after.1,
-      is_round accepted after.0 cut (same ∙ h.complete) (λ p lt. after_within accepted failed tops h t after.0 after.1 p (omega (arith, same, lt))) after.2,
-      λ e. after.3 (same_ranks accepted after.0 cut (same ∙ sym whole) (λ p lt. after_within accepted failed tops h t after.0 after.1 p (omega (arith, same, lt)))
-          (λ p lt. after_within accepted failed tops h (suc t) cut after p (omega (arith, whole, lt))) e),
+      after_rounds accepted failed surviving_ranks after.0 t h after.1,
+      is_round accepted after.0 cut (same ∙ h.complete) (λ p lt. after_within accepted failed surviving_ranks h t after.0 after.1 p (omega (arith, same, lt))) after.2,
+      λ e. after.3 (same_ranks accepted after.0 cut (same ∙ sym whole) (λ p lt. after_within accepted failed surviving_ranks h t after.0 after.1 p (omega (arith, same, lt)))
+          (λ p lt. after_within accepted failed surviving_ranks h (suc t) cut after p (omega (arith, whole, lt))) e),
     )
 
 -- and the rounds by ranks are the rounds
-pub are_rounds : (accepted : List Report) (failed tops cut : List ℕ) (t : ℕ) → AreLawfulPlaces accepted → AreTops accepted failed tops
-    → RanksAfter accepted tops t cut → AreNextRanks accepted cut cut → AreRounds accepted failed (t + 1) (positions_from accepted 0 cut)
-are_rounds accepted failed tops cut t laws h after same =
-    let whole = after_complete accepted failed tops h t cut after in (
+pub are_rounds : (accepted : List Report) (failed surviving_ranks cut : List ℕ) (t : ℕ) → AreLawfulPlaces accepted → AreSurvivingRanks accepted failed surviving_ranks
+    → RanksAfter accepted surviving_ranks t cut → AreNextRanks accepted cut cut → AreRounds accepted failed (t + 1) (positions_from accepted 0 cut)
+are_rounds accepted failed surviving_ranks cut t laws h after same =
+    let whole = after_complete accepted failed surviving_ranks h t cut after in (
       t,
       refl,
-      after_rounds accepted failed tops cut t h after,
-      is_round accepted cut cut (whole ∙ h.complete) (λ p lt. after_within accepted failed tops h t cut after p (omega (arith, whole, lt))) same,
+      after_rounds accepted failed surviving_ranks cut t h after,
+      is_round accepted cut cut (whole ∙ h.complete) (λ p lt. after_within accepted failed surviving_ranks h t cut after p (omega (arith, whole, lt))) same,
     )
 
 sum_below : (xs ys : List ℕ) → length xs ≡ length ys → ((p : ℕ) → p < length ys → slice_index xs p ≤ slice_index ys p) → (xs ≡ ys) ⊎ (sum xs < sum ys)

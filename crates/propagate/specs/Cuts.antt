@@ -10,7 +10,7 @@ use Rattle.reasons.specs.Certificates.{AreReasons, Certifies, positions_of}
 use Rattle.law_lines.specs.Headline.{IsLineOfHistories}
 use Rattle.propagate.specs.declared.cut.Cut.{Cut}
 use Rattle.propagate.specs.Greatest.{IsGreatestCut}
-use Rattle.propagate.specs.Rounds.{AreTops, AreRounds}
+use Rattle.propagate.specs.Rounds.{AreSurvivingRanks, AreRounds}
 use Rattle.propagate.specs.Choice.{AreChosen, IsChosenCertificate}
 
 -- The line of the greatest cut over a list for these failed processes. In every lawful history that agrees with the list it is that
@@ -30,7 +30,7 @@ pub record IsCutFor (accepted : List Report) (numbers : List ℕ) (cut : Cut) : 
   pub rounds : AreRounds accepted numbers cut.rounds (positions_of cut.line)
   pub chosen : AreChosen accepted numbers cut.line cut.reasons cut.rounds
   -- the sum counts the surviving positions above 0
-  pub few : (tops : List ℕ) → AreTops accepted numbers tops → cut.rounds ≤ sum tops + 1
+  pub few : (surviving_ranks : List ℕ) → AreSurvivingRanks accepted numbers surviving_ranks → cut.rounds ≤ sum surviving_ranks + 1
 
 -- the certificate of the greatest cut over what is held, for those of these failed processes that are known
 pub record IsCertificateFor (held : Held) (numbers : List ℕ) (c : Certificate) : Type 0 where

@@ -37,7 +37,7 @@ abbrev pub AreRounds : List Report → List ℕ → ℕ → List Position → Ty
 AreRounds accepted failed n cut = (t : ℕ) × (n ≡ t + 1) × AfterRounds accepted failed t cut × IsRound accepted cut cut
 
 -- the ranks of the last surviving positions: how many surviving positions above 0 each process has
-pub record AreTops (accepted : List Report) (failed : List ℕ) (tops : List ℕ) : Type 0 where
-  pub complete : length tops ≡ length (known accepted)
-  pub within : (p : ℕ) → p < length tops → slice_index tops p ≤ last_rank accepted p
-  pub last : (p : ℕ) → p < length tops → IsLastSurviving accepted failed p (position_at accepted p (slice_index tops p))
+pub record AreSurvivingRanks (accepted : List Report) (failed : List ℕ) (surviving_ranks : List ℕ) : Type 0 where
+  pub complete : length surviving_ranks ≡ length (known accepted)
+  pub within : (p : ℕ) → p < length surviving_ranks → slice_index surviving_ranks p ≤ last_rank accepted p
+  pub last : (p : ℕ) → p < length surviving_ranks → IsLastSurviving accepted failed p (position_at accepted p (slice_index surviving_ranks p))

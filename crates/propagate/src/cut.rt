@@ -14,7 +14,7 @@ ghost use Rattle.reasons.specs.Certificates.{Certifies, positions_of};
 ghost use Rattle.law_lines.specs.Headline.{IsLineOfHistories};
 ghost use Rattle.propagate.specs.Greatest.{IsGreatestCut};
 ghost use Rattle.propagate.specs.working.Ranks.{AreNextRanks, RanksAfter};
-ghost use Rattle.propagate.specs.working.Stages.{IsStageFrom, AreThere, AreChosenBy, chains_at, chains_due};
+ghost use Rattle.propagate.specs.working.Stages.{IsStageFrom, AreThere, AreChosenBy, chains_at, needed_chains};
 ghost use Rattle.propagate.specs.working.Reached.{IsReached};
 ghost use Rattle.propagate.specs.Choice.{AreChosen, IsChosenCertificate};
 ghost use Rattle.propagate.specs.Cuts.{IsGreatestLine, IsCutFor, IsCertificateFor};
@@ -37,21 +37,21 @@ pub struct Cut {
 }
 
 /// The chains of the processes below their last surviving ranks, in order of birth.
-fn reasons_due(
+fn needed_reasons(
     chains: &Chains,
     arena: &Arena,
-    tops: &[u32],
+    surviving_ranks: &[u32],
     stage: &Stage,
 ) -> Result<Reasons, AllocError>
-    requires tops { length tops.now ≡ length stage.now.cut.items }
-    requires heads { length stage.now.heads.items ≡ length stage.now.cut.items }
-    requires there { AreThere tops.now stage.now.cut.items stage.now.heads.items arena.now }
-    ensures { IfOk result (λ r. r ≡ chains_due tops.now stage.now.cut.items (chains_at arena.now stage.now.heads.items)) }
+    requires surviving_ranks { length surviving_ranks.now ≡ length stage.now.cut.items }
+    requires chain_ends { length stage.now.chain_ends.items ≡ length stage.now.cut.items }
+    requires there { AreThere surviving_ranks.now stage.now.cut.items stage.now.chain_ends.items arena.now }
+    ensures { IfOk result (λ r. r ≡ needed_chains surviving_ranks.now stage.now.cut.items (chains_at arena.now stage.now.chain_ends.items)) }
 {
     let mut reasons = Reasons::new(chains.alloc());
-    for i in 0..tops.len() {
-        if stage.cut[i] < tops[i] {
-            let chain = arena.chain(stage.heads[i])?;
+    for i in 0..surviving_ranks.len() {
+        if stage.cut[i] < surviving_ranks[i] {
+            let chain = arena.chain(stage.chain_ends[i])?;
             reasons.push(chain)?;
         }
     }
@@ -70,24 +70,24 @@ struct LastStage {
 fn last_stage(
     chains: &Chains,
     needs: Option<&Needs<'_>>,
-    tops: &[u32],
+    surviving_ranks: &[u32],
 ) -> Result<LastStage, AllocError>
-    requires complete { length tops.now ≡ length (known chains.now.accepted) }
-    requires within { (p : ℕ) → p < length tops.now → slice_index tops.now p ≤ last_rank chains.now.accepted p }
-    requires few { sum tops.now < 2 ^ 32 - 1 }
-    requires table { IfSome needs (λ n. IsTableOf chains.now.accepted n.now × (tops.now ≡ last_ranks chains.now.accepted)) }
-    ensures stands { IfOk result (λ s. IsStageFrom chains.now.accepted tops.now s.stage s.arena) }
-    ensures rounds { IfOk result (λ s. (t : ℕ) × (s.rounds ≡ t + 1) × RanksAfter chains.now.accepted tops.now t s.stage.cut.items
-        × AreChosenBy chains.now.accepted tops.now t s.stage.cut.items s.stage.heads.items s.arena) }
+    requires complete { length surviving_ranks.now ≡ length (known chains.now.accepted) }
+    requires within { (p : ℕ) → p < length surviving_ranks.now → slice_index surviving_ranks.now p ≤ last_rank chains.now.accepted p }
+    requires at_most { sum surviving_ranks.now < 2 ^ 32 - 1 }
+    requires table { IfSome needs (λ n. IsTableOf chains.now.accepted n.now × (surviving_ranks.now ≡ last_ranks chains.now.accepted)) }
+    ensures stands { IfOk result (λ s. IsStageFrom chains.now.accepted surviving_ranks.now s.stage s.arena) }
+    ensures rounds { IfOk result (λ s. (t : ℕ) × (s.rounds ≡ t + 1) × RanksAfter chains.now.accepted surviving_ranks.now t s.stage.cut.items
+        × AreChosenBy chains.now.accepted surviving_ranks.now t s.stage.cut.items s.stage.chain_ends.items s.arena) }
     ensures still { IfOk result (λ s. AreNextRanks chains.now.accepted s.stage.cut.items s.stage.cut.items) }
-    ensures few { IfOk result (λ s. s.rounds ≤ sum tops.now + 1) }
+    ensures at_most { IfOk result (λ s. s.rounds ≤ sum surviving_ranks.now + 1) }
 {
     let mut arena = Arena::new(chains.alloc());
-    let mut stage = first_stage(chains, tops)?;
+    let mut stage = first_stage(chains, surviving_ranks)?;
     let mut rounds = 1;
     let mut table = needs;
     loop {
-        let next = round(chains, table, &mut arena, tops, &stage)?;
+        let next = round(chains, table, &mut arena, surviving_ranks, &stage)?;
         if next.fell.is_empty() {
             return Ok(LastStage {
                 stage: next,
@@ -102,11 +102,11 @@ fn last_stage(
 }
 
 /// The table of needs, where all processes are at their last places.
-fn at_last<'a, 'b>(needs: Option<&'a Needs<'b>>, tops: &[u32]) -> Option<&'a Needs<'b>>
-    ensures { (accepted : List Report) → IfSome needs.entry (λ n. IsTableOf accepted n.now) → IfSome result (λ n. IsTableOf accepted n.now × (tops.now ≡ last_ranks accepted)) }
+fn at_last<'a, 'b>(needs: Option<&'a Needs<'b>>, surviving_ranks: &[u32]) -> Option<&'a Needs<'b>>
+    ensures { (accepted : List Report) → IfSome needs.entry (λ n. IsTableOf accepted n.now) → IfSome result (λ n. IsTableOf accepted n.now × (surviving_ranks.now ≡ last_ranks accepted)) }
 {
     match needs {
-        Some(table) if table.last_ranks() == tops => Some(table),
+        Some(table) if table.last_ranks() == surviving_ranks => Some(table),
         _ => None,
     }
 }
@@ -114,7 +114,7 @@ fn at_last<'a, 'b>(needs: Option<&'a Needs<'b>>, tops: &[u32]) -> Option<&'a Nee
 /// The last surviving ranks, the cut that the rounds from there end at, and its line.
 #[derive(Drop)]
 struct Reached {
-    tops: Vec<u32>,
+    surviving_ranks: Vec<u32>,
     last: LastStage,
     line: Line,
 }
@@ -124,11 +124,15 @@ fn reach(chains: &Chains, needs: Option<&Needs<'_>>, failed: &Failed) -> Result<
     requires { IfSome needs (λ n. IsTableOf chains.now.accepted n.now) }
     ensures { IfOk result (IsReached chains.now.accepted failed.now) }
 {
-    chains.lawful();
-    let tops = last_surviving_ranks(chains, failed)?;
-    let last = last_stage(chains, at_last(needs, &tops), &tops)?;
+    chains.recall_lawful();
+    let surviving_ranks = last_surviving_ranks(chains, failed)?;
+    let last = last_stage(chains, at_last(needs, &surviving_ranks), &surviving_ranks)?;
     let line = line_at(chains, &last.stage.cut)?;
-    Ok(Reached { tops, last, line })
+    Ok(Reached {
+        surviving_ranks,
+        last,
+        line,
+    })
 }
 
 /// The cut as `greatest_cut` has it, by a table of needs of these chains, if there is one.
@@ -136,9 +140,13 @@ fn cut_by(chains: &Chains, needs: Option<&Needs<'_>>, failed: &Failed) -> Result
     requires { IfSome needs (λ n. IsTableOf chains.now.accepted n.now) }
     ensures { IfOk result (IsCutFor chains.now.accepted failed.now) }
 {
-    chains.lawful();
-    let Reached { tops, last, line } = reach(chains, needs, failed)?;
-    let reasons = reasons_due(chains, &last.arena, &tops, &last.stage)?;
+    chains.recall_lawful();
+    let Reached {
+        surviving_ranks,
+        last,
+        line,
+    } = reach(chains, needs, failed)?;
+    let reasons = needed_reasons(chains, &last.arena, &surviving_ranks, &last.stage)?;
     Ok(Cut {
         line,
         reasons,
@@ -158,7 +166,7 @@ pub fn greatest_cut(chains: &Chains, failed: &Failed) -> Result<Cut, AllocError>
 pub fn greatest_line(chains: &Chains, failed: &Failed) -> Result<Line, AllocError>
     ensures { IfOk result (IsGreatestLine chains.now.accepted failed.now) }
 {
-    chains.lawful();
+    chains.recall_lawful();
     let Reached { line, .. } = reach(chains, None, failed)?;
     Ok(line)
 }

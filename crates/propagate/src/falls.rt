@@ -96,19 +96,19 @@ pub(crate) struct Bracket {
 fn closer(
     chains: &Chains,
     thresholds: &Thresholds,
-    tops: &[u32],
+    surviving_ranks: &[u32],
     stage: &Stage,
     process: u32,
     wide: Bracket,
 ) -> Bracket
-    requires standing { IsStanding chains.now.accepted tops.now stage.now.cut.items stage.now.heads.items stage.now.fell.items }
+    requires standing { IsStanding chains.now.accepted surviving_ranks.now stage.now.cut.items stage.now.chain_ends.items stage.now.fell.items }
     requires bounds { AreBoundsOf chains.now.accepted stage.now.cut.items stage.now.fell.items thresholds.now }
     requires process { process < length stage.now.cut.items }
     requires bracket { IsBracket chains.now.accepted stage.now.fell.items stage.now.cut.items process wide }
     ensures { IsBracket chains.now.accepted stage.now.fell.items stage.now.cut.items process result }
 {
-    chains.lawful();
-    let _tops = tops;
+    chains.recall_lawful();
+    let _tops = surviving_ranks;
     let mut high = wide.high;
     while high - wide.low > 1 {
         let low = next_look(wide.high, high);
@@ -133,19 +133,19 @@ fn closer(
 fn narrowed(
     chains: &Chains,
     thresholds: &Thresholds,
-    tops: &[u32],
+    surviving_ranks: &[u32],
     stage: &Stage,
     process: u32,
     wide: Bracket,
 ) -> u32
-    requires standing { IsStanding chains.now.accepted tops.now stage.now.cut.items stage.now.heads.items stage.now.fell.items }
+    requires standing { IsStanding chains.now.accepted surviving_ranks.now stage.now.cut.items stage.now.chain_ends.items stage.now.fell.items }
     requires bounds { AreBoundsOf chains.now.accepted stage.now.cut.items stage.now.fell.items thresholds.now }
     requires process { process < length stage.now.cut.items }
     requires bracket { IsBracket chains.now.accepted stage.now.fell.items stage.now.cut.items process wide }
     ensures { IsBracket chains.now.accepted stage.now.fell.items stage.now.cut.items process (record { low = result; high = result + 1 }) }
 {
-    chains.lawful();
-    let _tops = tops;
+    chains.recall_lawful();
+    let _tops = surviving_ranks;
     let mut below = wide.high - 1;
     while below > wide.low {
         if !knows_one(chains, thresholds, stage, process, below) {
@@ -160,25 +160,25 @@ fn narrowed(
 fn next_rank(
     chains: &Chains,
     thresholds: &Thresholds,
-    tops: &[u32],
+    surviving_ranks: &[u32],
     stage: &Stage,
     process: u32,
 ) -> u32
-    requires standing { IsStanding chains.now.accepted tops.now stage.now.cut.items stage.now.heads.items stage.now.fell.items }
+    requires standing { IsStanding chains.now.accepted surviving_ranks.now stage.now.cut.items stage.now.chain_ends.items stage.now.fell.items }
     requires bounds { AreBoundsOf chains.now.accepted stage.now.cut.items stage.now.fell.items thresholds.now }
     requires process { process < length stage.now.cut.items }
     ensures rank { IsNextRank chains.now.accepted stage.now.cut.items process result }
     ensures known { result < slice_index stage.now.cut.items process → KnowsOne chains.now.accepted stage.now.fell.items stage.now.cut.items process (result + 1) }
 {
-    chains.lawful();
+    chains.recall_lawful();
     let rank = stage.cut[process as usize];
     if !knows_one(chains, thresholds, stage, process, rank) {
         return rank;
     }
     let whole = Bracket { low: 0, high: rank };
-    let wide = closer(chains, thresholds, tops, stage, process, whole);
-    let near = closer(chains, thresholds, tops, stage, process, wide);
-    narrowed(chains, thresholds, tops, stage, process, near)
+    let wide = closer(chains, thresholds, surviving_ranks, stage, process, whole);
+    let near = closer(chains, thresholds, surviving_ranks, stage, process, wide);
+    narrowed(chains, thresholds, surviving_ranks, stage, process, near)
 }
 
 /// What a round makes of a process.
@@ -186,25 +186,25 @@ pub(crate) fn lower(
     chains: &Chains,
     thresholds: &Thresholds,
     table: Option<&Needs<'_>>,
-    tops: &[u32],
+    surviving_ranks: &[u32],
     stage: &Stage,
     process: u32,
 ) -> Lowered
-    requires standing { IsStanding chains.now.accepted tops.now stage.now.cut.items stage.now.heads.items stage.now.fell.items }
+    requires standing { IsStanding chains.now.accepted surviving_ranks.now stage.now.cut.items stage.now.chain_ends.items stage.now.fell.items }
     requires bounds { AreBoundsOf chains.now.accepted stage.now.cut.items stage.now.fell.items thresholds.now }
     requires table { IfSome table (λ needs. (needs.now.accepted ≡ chains.now.accepted) × (stage.now.cut.items ≡ last_ranks chains.now.accepted)) }
     requires process { process < length stage.now.cut.items }
     ensures rank { IsNextRank chains.now.accepted stage.now.cut.items process result.rank }
     ensures cause { IsCauseOf chains.now.accepted stage.now.cut.items process result.rank result.cause }
 {
-    chains.lawful();
+    chains.recall_lawful();
     if stays(chains, table, stage, process) {
         return Lowered {
             rank: stage.cut[process as usize],
             cause: None,
         };
     }
-    let rank = next_rank(chains, thresholds, tops, stage, process);
+    let rank = next_rank(chains, thresholds, surviving_ranks, stage, process);
     if rank == stage.cut[process as usize] {
         return Lowered { rank, cause: None };
     }

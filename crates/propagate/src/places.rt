@@ -5,7 +5,7 @@ ghost use Rattle.chains.specs.Processes.{known};
 ghost use Rattle.chains.specs.Positions.{position_at, last_rank, IsLastSurviving};
 ghost use Rattle.chains.specs.Admission.{report_limit};
 ghost use Rattle.propagate.specs.working.Ranks.{places_from};
-ghost use Rattle.propagate.specs.Rounds.{AreTops};
+ghost use Rattle.propagate.specs.Rounds.{AreSurvivingRanks};
 
 use chains::{Chains, Failed, Line, Position};
 use knows_row::place_at;
@@ -16,9 +16,9 @@ fn last_surviving_rank(chains: &Chains, process: u32, failed: &Failed) -> u32
     requires { process < length (known chains.now.accepted) }
     ensures last { IsLastSurviving chains.now.accepted failed.now process (position_at chains.now.accepted process result) }
     ensures within { result ≤ last_rank chains.now.accepted process }
-    ensures few { result ≤ report_limit + 2 }
+    ensures at_most { result ≤ report_limit + 2 }
 {
-    chains.lawful();
+    chains.recall_lawful();
     match chains.last_surviving(process, failed) {
         Position::At(k) => k,
         Position::Retired => chains.elements(process).len() + 1,
@@ -27,8 +27,8 @@ fn last_surviving_rank(chains: &Chains, process: u32, failed: &Failed) -> u32
 
 /// The ranks of the last surviving positions, by process.
 pub(crate) fn last_surviving_ranks(chains: &Chains, failed: &Failed) -> Result<Vec<u32>, AllocError>
-    ensures tops { IfOk result (λ tops. AreTops chains.now.accepted failed.now tops.items) }
-    ensures few { IfOk result (λ tops. All (λ r. r ≤ report_limit + 2) tops.items) }
+    ensures surviving_ranks { IfOk result (λ surviving_ranks. AreSurvivingRanks chains.now.accepted failed.now surviving_ranks.items) }
+    ensures at_most { IfOk result (λ surviving_ranks. All (λ r. r ≤ report_limit + 2) surviving_ranks.items) }
 {
     let mut ranks = Vec::with_capacity(chains.alloc(), chains.count() as usize)?;
     for process in 0..chains.count() {

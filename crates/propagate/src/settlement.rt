@@ -20,11 +20,11 @@ pub fn settle(chains: &Chains, failed: &Failed) -> Result<Chains, AllocError>
     requires { chains.now.front < report_limit }
     ensures { IfOk result (λ kept. IsSettledFor (held_of chains.now) failed.now (held_of kept)) }
 {
-    chains.lawful();
+    chains.recall_lawful();
     let line = greatest_line(chains, failed)?;
     let mut kept = chains.keep_fit(&line)?;
     kept.count_settlement();
-    kept.lawful();
+    kept.recall_lawful();
     Ok(kept)
 }
 

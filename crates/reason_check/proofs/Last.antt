@@ -12,7 +12,7 @@ use Rattle.report_line.specs.declared.report.ReportKind.{ReportKind}
 use Rattle.chains.specs.Processes.{Name, known, target_of, last_report, target_in, target_after}
 use Rattle.report_line.specs.declared.report.Report.TheVariants.{Begin, Numbered}
 use Rattle.report_line.specs.declared.report.ReportKind.TheVariants.{Check, Present, Fork, Retire, Absorb}
-use Rattle.chains.specs.Elements.{name_of, elements, elements_of, lasting_of, present_by, present_in}
+use Rattle.chains.specs.Elements.{name_of, elements, elements_of, stable_of, present_by, present_in}
 use Rattle.chains.specs.Positions.{IsSurviving, IsLastSurviving, IsChosen, is_retired, rank}
 
 same_by_rank : (accepted : List Report) (failed : List ℕ) (p : ℕ) (a b : Position) → IsSurviving accepted failed p a → IsSurviving accepted failed p b → rank accepted p a ≡ rank accepted p b → a ≡ b
@@ -63,18 +63,18 @@ no_present None e = absurd (true≢false (sym e))
 no_present (Some (Begin p)) e = absurd (true≢false (sym e))
 no_present (Some (Numbered r)) e = present_by_none r.stamp r.action e
 
-all_lasting : (accepted : List Report) (o : Option Name) → option_map_or (λ name. is_some (target_of name accepted)) o false ≡ true
-    → length (option_map_or (λ name. elements_of name accepted) o []) ≡ length (option_map_or (λ name. lasting_of name accepted) o [])
-all_lasting accepted None e = absurd (true≢false (sym e))
-all_lasting accepted (Some p) e =
+all_stable : (accepted : List Report) (o : Option Name) → option_map_or (λ name. is_some (target_of name accepted)) o false ≡ true
+    → length (option_map_or (λ name. elements_of name accepted) o []) ≡ length (option_map_or (λ name. stable_of name accepted) o [])
+all_stable accepted None e = absurd (true≢false (sym e))
+all_stable accepted (Some p) e =
     let none = no_present (last_report p accepted) e in
-    let sum = length-append (lasting_of p accepted) (present_in (last_report p accepted)) in
+    let sum = length-append (stable_of p accepted) (present_in (last_report p accepted)) in
     omega arith
 
 pub element_of_retired : (accepted : List Report) (failed : List ℕ) (p k : ℕ) → IsLastSurviving accepted failed p Retired → 1 ≤ k → IsSurviving accepted failed p (At k) ↔ (k ≤ length (elements accepted p))
 element_of_retired accepted failed p k h one = (
   λ s. s.1,
-  λ le. (one, le, λ there. let same = all_lasting accepted (name_of accepted p) h.surviving in omega arith),
+  λ le. (one, le, λ there. let same = all_stable accepted (name_of accepted p) h.surviving in omega arith),
 )
 
 pub chosen_element : (accepted : List Report) (failed : List ℕ) (p k m : ℕ) (x : Position) → x ≡ At k → k ≢ 0 → (1 ≤ k → IsSurviving accepted failed p (At k) ↔ (k ≤ m)) → (leb k m ≡ true) ↔ IsChosen accepted failed p x

@@ -107,7 +107,7 @@ fn wrong_entry(chains: &Chains, failed: &[u32], chain: &[Place]) -> Option<usize
 fn rank(chains: &Chains, process: u32, position: Position) -> u64
     requires { process < length (known chains.now.accepted) }
     ensures rank { result ≡ rank chains.now.accepted process position }
-    ensures few { result < 4294967297 }
+    ensures at_most { result < 4294967297 }
 {
     match position {
         Position::At(k) => k as u64,

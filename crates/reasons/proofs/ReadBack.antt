@@ -19,7 +19,7 @@ use Rattle.serde_json.specs.Data.{Data, string, number, unsigned, array, object,
 use Rattle.serde_json.specs.Read.{of_json, of_items, max_depth}
 use Rattle.serde_json.specs.Written.{outline, items_outline, compact_text, items_text, members_text}
 use Rattle.reasons.specs.CertificateReading.{items_by, IsJsonOf}
-use Rattle.reasons.specs.working.Json.{IsWritten, AreWritten}
+use Rattle.reasons.specs.working.Json.{IsJsonText, AreWritten}
 use Rattle.reasons.proofs.Broken.{tokens_broken}
 
 -- as JSON it is read as the same value, no deeper than this, and its text is UTF-8
@@ -88,7 +88,7 @@ each_back U T is g f n one [] all = none_back n
 each_back U T is g f n one (u ∷ us) all = more_back _ _ n (one u (all 0 u (omega arith))) (each_back U T is g f n one us (λ k d l. all (suc k) d (omega arith)))
 
 -- and what is written of it
-pub each_written : (U T : Type 0) (is : U → Type 0) (g : U → T) (f : T → Data) (text : U → List ℕ) → ((u : U) → is u → IsWritten (f (g u)) (text u)) → (us : List U) → All is us → AreWritten (items_by f (map g us)) (map text us)
+pub each_written : (U T : Type 0) (is : U → Type 0) (g : U → T) (f : T → Data) (text : U → List ℕ) → ((u : U) → is u → IsJsonText (f (g u)) (text u)) → (us : List U) → All is us → AreWritten (items_by f (map g us)) (map text us)
 each_written U T is g f text one [] all = tt
 each_written U T is g f text one (u ∷ us) all = (one u (all 0 u (omega arith)), each_written U T is g f text one us (λ k d l. all (suc k) d (omega arith)))
 
@@ -133,15 +133,15 @@ tokens_back : (d : Data) (text : List ℕ) (n : ℕ) → n ≤ max_depth → IsR
 tokens_back d text n low is same =
     ap whole (ap (json.value max_depth) (same ∙ sym (append-nil _)) ∙ value-json_tokens (outline d) max_depth [] (omega (arith, is.shallow))) ∙ is.back
 
-printed_back : (d : Data) (text : List ℕ) (n : ℕ) → IsWritten d text → IsReadBack d n → tokens text ≡ tree.json_tokens (outline d)
+printed_back : (d : Data) (text : List ℕ) (n : ℕ) → IsJsonText d text → IsReadBack d n → tokens text ≡ tree.json_tokens (outline d)
 printed_back d text n written is = ap tokens (sym written.text_is ∙ sym (print-outline d)) ∙ tokens-print (tree.json_tokens (outline d)) (ArePrintable-json_tokens (outline d) is.numbers)
 
 -- a text that is written of such a value is one of it
-pub text_of_back : (d : Data) (text : List ℕ) (n : ℕ) → n ≤ max_depth → IsWritten d text → IsReadBack d n → IsJsonOf text d
+pub text_of_back : (d : Data) (text : List ℕ) (n : ℕ) → n ≤ max_depth → IsJsonText d text → IsReadBack d n → IsJsonOf text d
 text_of_back d text n low written is = (subst (λ (t : List ℕ). IsUtf8 t) written.text_is is.utf8, tokens_back d text n low is (printed_back d text n written is))
 
 -- and with a line feed behind it too
-pub broken_text_of_back : (d : Data) (text : List ℕ) (n : ℕ) → n ≤ max_depth → IsWritten d text → IsReadBack d n → IsJsonOf (text ++ 10 ∷ []) d
+pub broken_text_of_back : (d : Data) (text : List ℕ) (n : ℕ) → n ≤ max_depth → IsJsonText d text → IsReadBack d n → IsJsonOf (text ++ 10 ∷ []) d
 broken_text_of_back d text n low written is = (
   IsUtf8-append text (10 ∷ []) (subst (λ (t : List ℕ). IsUtf8 t) written.text_is is.utf8) (byte_utf8 10 (omega arith)),
   tokens_back d (text ++ 10 ∷ []) n low is

@@ -6,7 +6,7 @@ use Rattle.serde_json.proofs.OnLiterals.{serde_json_on_literals}
 use Rattle.serde_json.specs.Data.{Data, number, unsigned, array, object, Items, no_items, item, member, no_members}
 use Rattle.serde_json.specs.Written.{items_have_float, items_text}
 use Rattle.reasons.specs.CertificateText.{key, bracketed}
-use Rattle.reasons.specs.working.Json.{IsWritten, AreWritten, comma_before}
+use Rattle.reasons.specs.working.Json.{IsJsonText, AreWritten, comma_before}
 
 -- ---- texts in a row, written one by one
 
@@ -57,7 +57,7 @@ no_floats (item d ds) [] are = absurd are
 no_floats (item d ds) (text ∷ texts) are = rw (are.0.no_float, no_floats ds texts are.1)
 
 -- a list is written by its values
-pub array_written : (ds : Items) (texts : List (List ℕ)) → AreWritten ds texts → IsWritten (array ds) (bracketed texts)
+pub array_written : (ds : Items) (texts : List (List ℕ)) → AreWritten ds texts → IsJsonText (array ds) (bracketed texts)
 array_written ds texts are = record { no_float = no_floats ds texts are; text_is = ap (λ (l : List ℕ). 91 ∷ l) (first_text ds texts are) }
 
 -- ---- the whole text
@@ -65,8 +65,8 @@ array_written ds texts are = record { no_float = no_floats ds texts are; text_is
 regroup : (p kf f m kn n kl l kr r z : List ℕ) → p ++ (kf ++ (f ++ (m ++ (kn ++ (n ++ (m ++ (kl ++ (l ++ (m ++ (kr ++ (r ++ z))))))))))) ≡ p ++ kf ++ f ++ m ++ kn ++ n ++ m ++ kl ++ l ++ m ++ kr ++ r ++ z
 regroup p kf f m kn n kl l kr r z = simp append_assoc
 
-pub object_written : (failed line reasons : Data) (front : ℕ) (f l r : List ℕ) → IsWritten failed f → IsWritten line l → IsWritten reasons r
-    → IsWritten (object (member (codes "failed") failed (member (codes "front") (number (unsigned front)) (member (codes "line") line (member (codes "reasons") reasons no_members)))))
+pub object_written : (failed line reasons : Data) (front : ℕ) (f l r : List ℕ) → IsJsonText failed f → IsJsonText line l → IsJsonText reasons r
+    → IsJsonText (object (member (codes "failed") failed (member (codes "front") (number (unsigned front)) (member (codes "line") line (member (codes "reasons") reasons no_members)))))
     (codes "{" ++ key (codes "failed") ++ f ++ codes "," ++ key (codes "front") ++ decimal front ++ codes "," ++ key (codes "line") ++ l ++ codes "," ++ key (codes "reasons") ++ r ++ codes "}")
 unfolding serde_json_on_literals
 object_written failed line reasons front f l r wf wl wr =

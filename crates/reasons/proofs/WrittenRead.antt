@@ -24,7 +24,7 @@ use Rattle.reasons.specs.declared.fault.CertificateFault.{CertificateFault}
 use Rattle.reasons.specs.declared.fault.CertificateFault.TheVariants.{NotJson, Shape, Unknown, Memory}
 use Rattle.reasons.specs.CertificateText.{quoted, bracketed, position_text, shown_name, place_text, certificate_text}
 use Rattle.reasons.specs.CertificateReading.{NamedPlace, NamedCertificate, items_by, position_data, place_data, places_data, IsSmall, HasSmallPosition, IsValueOf, names_in, IsNameKnown, IsFirstUnknownText, place_named, IsNumbered, IsKnownPlace, HasKnownNumbers, IsCertificateText, IsReadAs}
-use Rattle.reasons.specs.working.Json.{IsWritten}
+use Rattle.reasons.specs.working.Json.{IsJsonText}
 use Rattle.reasons.proofs.PlainNames.{name_bytes, name_utf8, plain_text}
 use Rattle.reasons.proofs.ReadBack.{IsReadBack, string_back, number_back, pair_back, each_back, each_written, array_back, object_back, weaker, text_of_back, broken_text_of_back, four_members}
 use Rattle.reasons.proofs.Taking.{all_both, all_three}
@@ -74,20 +74,20 @@ places_back accepted names xs all = array_back _ 1 (each_back Place NamedPlace (
 
 -- ---- written
 
-position_written : (k : Position) → IsWritten (position_data k) (position_text k)
+position_written : (k : Position) → IsJsonText (position_data k) (position_text k)
 unfolding serde_json_on_literals
 position_written (At k) = record { no_float = refl; text_is = refl }
 position_written Retired = record { no_float = refl; text_is = refl }
 
-name_is_written : (accepted : List Report) → AreNames accepted → (p : ℕ) → p < length (known accepted) → IsWritten (string (shown_name accepted p)) (quoted (shown_name accepted p))
+name_is_written : (accepted : List Report) → AreNames accepted → (p : ℕ) → p < length (known accepted) → IsJsonText (string (shown_name accepted p)) (quoted (shown_name accepted p))
 name_is_written accepted names p there = record { no_float = refl; text_is = plain_text _ (name_bytes _ (shown_plain accepted names p there)) }
 
-place_written : (accepted : List Report) → AreNames accepted → (x : Place) → IsKnownPlace accepted x → IsWritten (place_data (shown_place accepted x)) (place_text accepted x)
+place_written : (accepted : List Report) → AreNames accepted → (x : Place) → IsKnownPlace accepted x → IsJsonText (place_data (shown_place accepted x)) (place_text accepted x)
 place_written accepted names x is =
     array_written (item (string (shown_name accepted x.process)) (item (position_data x.position) no_items)) (quoted (shown_name accepted x.process) ∷ position_text x.position ∷ [])
     (name_is_written accepted names x.process is.0, (position_written x.position, tt))
 
-places_written : (accepted : List Report) → AreNames accepted → (xs : List Place) → All (IsKnownPlace accepted) xs → IsWritten (places_data (map (shown_place accepted) xs)) (bracketed (map (place_text accepted) xs))
+places_written : (accepted : List Report) → AreNames accepted → (xs : List Place) → All (IsKnownPlace accepted) xs → IsJsonText (places_data (map (shown_place accepted) xs)) (bracketed (map (place_text accepted) xs))
 places_written accepted names xs all = array_written _ _ (each_written Place NamedPlace (IsKnownPlace accepted) (shown_place accepted) place_data (place_text accepted) (place_written accepted names) xs all)
 
 -- ---- the whole
@@ -97,7 +97,7 @@ data_of accepted c =
     let n = with_names accepted c in
     four_members (array (items_by string n.failed)) (number (unsigned n.front)) (places_data n.line) (array (items_by places_data n.reasons))
 
-text_written : (accepted : List Report) → AreNames accepted → (c : Certificate) → HasKnownNumbers accepted c → IsWritten (data_of accepted c) (certificate_text accepted c)
+text_written : (accepted : List Report) → AreNames accepted → (c : Certificate) → HasKnownNumbers accepted c → IsJsonText (data_of accepted c) (certificate_text accepted c)
 text_written accepted names c k =
     object_written _ _ _ c.front _ _ _
     (array_written _ _ (each_written ℕ Name (λ p. p < length (known accepted)) (shown_name accepted) string (λ (p : ℕ). quoted (shown_name accepted p)) (name_is_written accepted names) c.failed k.failed))

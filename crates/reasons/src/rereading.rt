@@ -29,6 +29,6 @@ pub fn written_certificates_are_read(chains: &Chains)
     ensures only { (c : AnyCertificate) → HasKnownNumbers chains.now.accepted c → (result : Result AnyCertificate CertificateFault)
         → IsReadAs chains.now.accepted (certificate_text chains.now.accepted c) result → (result ≡ Ok c) ⊎ (result ≡ Err Memory) }
 {
-    chains.lawful();
+    chains.recall_lawful();
     known_names_are_names(chains);
 }

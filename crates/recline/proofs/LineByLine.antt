@@ -13,7 +13,7 @@ use Rattle.line_explain.proofs.Streamed.{told_lines-append}
 use Rattle.session.specs.SessionText.{most_reads}
 use Rattle.recline.proofs.Reading.{consumes_then}
 use Rattle.recline.specs.Driving.{HasFewReads, WritesAll, WritesPart}
-use Rattle.recline.specs.Explaining.{HandsOn, HasExplained, IsExplainedOver}
+use Rattle.recline.specs.Explaining.{Flushes, HasExplained, IsExplainedOver}
 use Rattle.recline.specs.declared.explaining.LinesEnd.TheVariants as ends
 
 -- ---- bytes
@@ -37,7 +37,7 @@ pub record IsGoing (first now : LinkState) (count : ℕ) (x : Explanations) : Ty
   pub after : IsAfter stream told x
   pub consumed : Consumes first.left now.left stream
   pub written : Appends first.held now.held (told_lines 1 told)
-  pub handed_on : HandsOn first now stream
+  pub flushed : Flushes first now stream
   pub sound : IsSound first now
   pub reads : now.reads ≡ up count first.reads
   pub going : x.feed ≢ None
@@ -54,7 +54,7 @@ starts first x after = record {
   after = after;
   consumed = consumes_none first.left;
   written = appends_none first.held;
-  handed_on = inr (refl, refl);
+  flushed = inr (refl, refl);
   sound = sound_none first;
   reads = omega arith;
   going = at_start x after;
@@ -65,7 +65,7 @@ starts first x after = record {
 held_still : (a b c : Option (List ℕ)) (text : List ℕ) → Appends a b text → c ≡ b → Appends a c text
 held_still a b c text appends same = subst (λ (held : Option (List ℕ)). Appends a held text) (sym same) appends
 
-waits_still : (first now next : LinkState) (stream : List ℕ) → HandsOn first now stream → next.waiting ≡ now.waiting → HandsOn first next stream
+waits_still : (first now next : LinkState) (stream : List ℕ) → Flushes first now stream → next.waiting ≡ now.waiting → Flushes first next stream
 waits_still first now next stream (inl none) same = inl (same ∙ none)
 waits_still first now next stream (inr start) same = inr (start.0, same ∙ start.1)
 
@@ -74,7 +74,7 @@ explained_before first now next count n x buf g read = record {
   consumed = consumes_then first.left now.left next.left g.stream (take n buf) g.consumed read.bytes.0;
   explain = g.after.explain;
   written = held_still first.held now.held next.held (told_lines 1 g.told) g.written read.held;
-  handed_on = waits_still first now next g.stream g.handed_on read.waiting;
+  flushed = waits_still first now next g.stream g.flushed read.waiting;
 }
 
 read_sound : (first now next : LinkState) (n : ℕ) (buf : List ℕ) → IsSound first now → IsRead {E = LinkFault} now next (Ok n) buf → IsSound first next
@@ -97,7 +97,7 @@ read_failed first now next count x fault buf g read =
         consumed = consumes_kept first.left now.left next.left g.stream g.consumed read.bytes;
         explain = g.after.explain;
         written = held_still first.held now.held next.held (told_lines 1 g.told) g.written read.held;
-        handed_on = waits_still first now next g.stream g.handed_on read.waiting;
+        flushed = waits_still first now next g.stream g.flushed read.waiting;
       },
       inl (omega (arith, read.failures, g.sound.failures), read.stalls ∙ g.sound.stalls),
     )
@@ -143,7 +143,7 @@ no_end first now count x g all =
     inr (
       g.stream,
       g.told,
-      record { consumed = g.consumed; explain = g.after.explain; written = g.written; handed_on = g.handed_on },
+      record { consumed = g.consumed; explain = g.after.explain; written = g.written; flushed = g.flushed },
       inr (g.sound, g.reads ∙ ap (λ (k : ℕ). up k first.reads) all),
     )
 
@@ -158,7 +158,7 @@ module _ (first now next last : LinkState) (count n : ℕ) (x new : Explanations
         consumed = subst (λ (rest : Option (List ℕ)). Consumes first.left rest (g.stream ++ take n buf)) (sym left) before.consumed;
         explain = goes.after.explain;
         written = subst (λ (l : List ℕ). Appends first.held last.held l) (sym (text_of g.told goes.more text goes.text_is)) (appends_then first.held next.held last.held (told_lines 1 g.told) text before.written wrote.written);
-        handed_on = inl wrote.nothing_waits;
+        flushed = inl wrote.nothing_waits;
       }
 
   still_sound : IsSound first last
@@ -174,7 +174,7 @@ module _ (first now next last : LinkState) (count n : ℕ) (x new : Explanations
     after = goes.after;
     consumed = done.consumed;
     written = done.written;
-    handed_on = done.handed_on;
+    flushed = done.flushed;
     sound = still_sound;
     reads = omega (arith, g.reads, read.counted, reads);
     going = going;

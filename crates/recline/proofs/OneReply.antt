@@ -28,8 +28,8 @@ use Rattle.session.specs.Exchanges.{Exchange}
 use Rattle.session.specs.SessionText.{Means, Mean, joined, exchange_line, session_text}
 use Rattle.session.specs.Turned.{AreExchanges, EachLineIsChosen, IsExchange, ShowsChosen}
 use Rattle.session.specs.Ends.{Ended, Leaves}
-use Rattle.session.specs.declared.handing.HandOn.{HandOn}
-use Rattle.session.specs.declared.handing.HandOn.TheVariants as hand_ons
+use Rattle.session.specs.declared.flush_policy.FlushPolicy.{FlushPolicy}
+use Rattle.session.specs.declared.flush_policy.FlushPolicy.TheVariants as flush_policies
 use Rattle.session.specs.declared.kind.SessionEndKind.{SessionEndKind}
 use Rattle.session.specs.declared.kind.SessionEndKind.TheVariants as kinds
 use Rattle.recline.specs.Driving.{WritesAll}
@@ -122,7 +122,7 @@ all_read None line read consumed ends = absurd consumed
 all_read (Some more) line read consumed ends = consumed ∙ ap (λ (l : List ℕ). read ++ l) ends ∙ append-nil read
 
 -- a session with a client that sends this line alone
-abbrev IsOne : {D : Type 0} → (D → Type 0) → HandOn → List ℕ → LinkState → DeskState D → DeskState D → SessionEndKind → ℕ → Type 0
+abbrev IsOne : {D : Type 0} → (D → Type 0) → FlushPolicy → List ℕ → LinkState → DeskState D → DeskState D → SessionEndKind → ℕ → Type 0
 IsOne keeps when line link desk after kind count = Ended keeps (λ (state : LinkState). state) when (asking (ended line)) link desk after kind count
 
 -- the line took one turn over what is held, and the reply is what is shown for it
@@ -141,7 +141,7 @@ all_written : (text reply : List ℕ) (held : Option (List ℕ)) → Appends (So
 all_written text reply None written is = absurd written
 all_written text reply (Some bytes) written is = let same : bytes ≡ reply = cc in sym same ∙ written
 
-reply_at_end : {D : Type 0} (keeps : D → Type 0) (when : HandOn) (question : Question) (link : LinkState) (desk after : DeskState D) (count : ℕ) (reply : List ℕ) → IsLine (question_line question)
+reply_at_end : {D : Type 0} (keeps : D → Type 0) (when : FlushPolicy) (question : Question) (link : LinkState) (desk after : DeskState D) (count : ℕ) (reply : List ℕ) → IsLine (question_line question)
     → IsOne keeps when (question_line question) link desk after kinds.End count → Leaves kinds.End (asking (ended (question_line question))) link → link.held ≡ Some reply
     → IsShownBy desk.held (question_line question) reply
 reply_at_end keeps when question link desk after count reply is e leaves reply_is =
@@ -168,7 +168,7 @@ reply_at_end keeps when question link desk after count reply is e leaves reply_i
       reply_is = all_written e.text reply link.held e.written reply_is ∙ text;
     }
 
-no_limit_end : {D : Type 0} (keeps : D → Type 0) (when : HandOn) (line : List ℕ) (link : LinkState) (desk after : DeskState D) (count : ℕ) → IsLine line
+no_limit_end : {D : Type 0} (keeps : D → Type 0) (when : FlushPolicy) (line : List ℕ) (link : LinkState) (desk after : DeskState D) (count : ℕ) → IsLine line
     → IsOne keeps when line link desk after kinds.TooLong count → ⊥
 no_limit_end keeps when line link desk after count is e =
     let read : List ℕ = joined e.pieces in
@@ -239,15 +239,15 @@ replied held line reply old new writes s = record {
 shown_by : {F : Type 0} (faults_told : F → LinkState) (question : Question) (desk after : DeskState MemoryDisk) (client client_after : LinkState) (faults faults_after : F) (status : ℕ)
     → IsLine (question_line question) → (a : IsAskedOf faults_told (ended (question_line question)) desk after client client_after faults faults_after status) → a.kind ≡ kinds.End → IsShownBy desk.held (question_line question) a.reply
 shown_by faults_told question desk after client client_after faults faults_after status is a ends =
-    let session = subst (λ (k : SessionEndKind). Ended keeps_always (λ (state : LinkState). state) hand_ons.EachRead (asking (ended (question_line question))) a.link desk after k a.replies) ends a.session in
+    let session = subst (λ (k : SessionEndKind). Ended keeps_always (λ (state : LinkState). state) flush_policies.EachRead (asking (ended (question_line question))) a.link desk after k a.replies) ends a.session in
     let leaves = subst (λ (k : SessionEndKind). Leaves k (asking (ended (question_line question))) a.link) ends a.leaves in
-    reply_at_end keeps_always hand_ons.EachRead question a.link desk after a.replies a.reply is session leaves a.reply_is
+    reply_at_end keeps_always flush_policies.EachRead question a.link desk after a.replies a.reply is session leaves a.reply_is
 
 not_too_long : {F : Type 0} (faults_told : F → LinkState) (question : Question) (desk after : DeskState MemoryDisk) (client client_after : LinkState) (faults faults_after : F) (status : ℕ)
     → IsLine (question_line question) → (a : IsAskedOf faults_told (ended (question_line question)) desk after client client_after faults faults_after status) → a.kind ≡ kinds.TooLong → ⊥
 not_too_long faults_told question desk after client client_after faults faults_after status is a ends =
-    no_limit_end keeps_always hand_ons.EachRead (question_line question) a.link desk after a.replies is
-    (subst (λ (k : SessionEndKind). Ended keeps_always (λ (state : LinkState). state) hand_ons.EachRead (asking (ended (question_line question))) a.link desk after k a.replies) ends a.session)
+    no_limit_end keeps_always flush_policies.EachRead (question_line question) a.link desk after a.replies is
+    (subst (λ (k : SessionEndKind). Ended keeps_always (λ (state : LinkState). state) flush_policies.EachRead (asking (ended (question_line question))) a.link desk after k a.replies) ends a.session)
 
 -- so the session ended with its input
 at_end : {F : Type 0} (faults_told : F → LinkState) (question : Question) (desk after : DeskState MemoryDisk) (client client_after : LinkState) (faults faults_after : F) (status : ℕ)

@@ -22,7 +22,7 @@ use Rattle.session.specs.Ends.{Ended, Leaves}
 use Rattle.session.specs.Exchanges.{Exchange}
 use Rattle.session.specs.SessionText.{Means, exchange_line}
 use Rattle.session.specs.Turned.{IsExchange, ShowsChosen}
-use Rattle.session.specs.declared.handing.HandOn.TheVariants as hand_ons
+use Rattle.session.specs.declared.flush_policy.FlushPolicy.TheVariants as flush_policies
 use Rattle.session.specs.declared.kind.SessionEndKind.{SessionEndKind}
 use Rattle.session.specs.declared.kind.SessionEndKind.TheVariants as kinds
 use Rattle.recline.specs.Driving.{WritesAll, WritesPart}
@@ -97,7 +97,7 @@ pub record IsAskedOf {F : Type 0} (faults_told : F → LinkState) (sent : List �
   pub link : LinkState
   pub kind : SessionEndKind
   pub replies : ℕ
-  pub session : Ended keeps_always (λ (state : LinkState). state) hand_ons.EachRead (asking sent) link desk after kind replies
+  pub session : Ended keeps_always (λ (state : LinkState). state) flush_policies.EachRead (asking sent) link desk after kind replies
   pub leaves : Leaves kind (asking sent) link
   pub reply : List ℕ
   pub reply_is : link.held ≡ Some reply

@@ -79,7 +79,7 @@ pub record WritesAll (old new : LinkState) (text : List ℕ) : Type 0 where
   pub nothing_waits : new.waiting ≡ []
   pub sound : IsSound old new
 
--- a part of the text was written, be it all but the hand-on, and a call failed
+-- a part of the text was written, be it all but the flush, and a call failed
 pub record WritesPart (old new : LinkState) (text : List ℕ) : Type 0 where
   pub part : List ℕ
   pub more : List ℕ

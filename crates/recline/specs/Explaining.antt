@@ -24,8 +24,8 @@ lines_fault ends.Memory = ended (codes "recline: memory")
 lines_fault ends.Device = ended (codes "recline: device")
 
 -- all that was taken was handed on, unless nothing was read yet
-abbrev pub HandsOn : LinkState → LinkState → List ℕ → Type 0
-HandsOn old new stream = (new.waiting ≡ []) ⊎ ((stream ≡ []) × (new.waiting ≡ old.waiting))
+abbrev pub Flushes : LinkState → LinkState → List ℕ → Type 0
+Flushes old new stream = (new.waiting ≡ []) ⊎ ((stream ≡ []) × (new.waiting ≡ old.waiting))
 
 -- These bytes were read, and of this stream each whole line was explained, and a line that is too long: that was written, and
 -- no more.
@@ -33,9 +33,9 @@ pub record HasExplained (old new : LinkState) (bytes stream : List ℕ) (told : 
   pub consumed : Consumes old.left new.left bytes
   pub explain : Explain stream told
   pub written : Appends old.held new.held (told_lines 1 told)
-  pub handed_on : HandsOn old new stream
+  pub flushed : Flushes old new stream
 
--- these bytes were read, and of what is said of their lines a part was written, be it all but the hand-on, and a call failed
+-- these bytes were read, and of what is said of their lines a part was written, be it all but the flush, and a call failed
 pub record ExplainsPart (old new : LinkState) (stream : List ℕ) : Type 0 where
   pub told : List Explained
   pub consumed : Consumes old.left new.left stream

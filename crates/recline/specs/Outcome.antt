@@ -13,7 +13,7 @@ use Rattle.desk.specs.declared.fault.DeskFault.{DeskFault}
 use Rattle.desk.specs.declared.fault.DeskFault.TheVariants as opening
 use Rattle.report_line.specs.Cutting.{ended}
 use Rattle.session.specs.declared.kind.SessionEndKind.{SessionEndKind}
-use Rattle.session.specs.declared.handing.HandOn.{HandOn}
+use Rattle.session.specs.declared.flush_policy.FlushPolicy.{FlushPolicy}
 use Rattle.session.specs.declared.kind.SessionEndKind.TheVariants as kinds
 use Rattle.client_link.specs.Links.{LinkState, IsSound, IsFault}
 use Rattle.session.specs.Ends.{Ended, Leaves}
@@ -47,7 +47,7 @@ open_fault_words opening.Memory = codes "memory"
 abbrev pub open_fault_line : DeskFault → List ℕ
 open_fault_line fault = ended (codes "recline: " ++ open_fault_words fault)
 
--- all of the line was written and handed on, or a part, or all but the hand-on, and a call failed; nothing was read
+-- all of the line was written and flushed, or a part, or all but the flush, and a call failed; nothing was read
 pub record Tells (old new : LinkState) (line : List ℕ) : Type 0 where
   pub left : new.left ≡ old.left
   pub reads : new.reads ≡ old.reads
@@ -55,7 +55,7 @@ pub record Tells (old new : LinkState) (line : List ℕ) : Type 0 where
       ⊎ ((part more : List ℕ) × (line ≡ part ++ more) × Appends old.held new.held part × IsFault old new)
 
 -- A session with the client ended so over a desk; the status and the fault line say how.
-pub record Runs {D K F : Type 0} (keeps : D → Type 0) (client_told : K → LinkState) (faults_told : F → LinkState) (when : HandOn) (client client_after : K) (faults faults_after : F) (desk after : DeskState D) (status : ℕ) : Type 0 where
+pub record Runs {D K F : Type 0} (keeps : D → Type 0) (client_told : K → LinkState) (faults_told : F → LinkState) (when : FlushPolicy) (client client_after : K) (faults faults_after : F) (desk after : DeskState D) (status : ℕ) : Type 0 where
   pub kind : SessionEndKind
   pub replies : ℕ
   pub session : Ended keeps client_told when client client_after desk after kind replies
@@ -74,7 +74,7 @@ pub record IsOpened {D : Type 0} (keeps : D → Type 0) (view : D → View) (dis
 
 -- The file on this disk was opened, and a session with the client ended over the desk of it, whose disk is handed back. What a crash
 -- leaves of it is told by what holds of each desk.
-pub record RunsOpened {D K F : Type 0} (keeps : D → Type 0) (view : D → View) (client_told : K → LinkState) (faults_told : F → LinkState) (when : HandOn) (disk disk_after : D) (client client_after : K) (faults faults_after : F) (status : ℕ) : Type 0 where
+pub record RunsOpened {D K F : Type 0} (keeps : D → Type 0) (view : D → View) (client_told : K → LinkState) (faults_told : F → LinkState) (when : FlushPolicy) (disk disk_after : D) (client client_after : K) (faults faults_after : F) (status : ℕ) : Type 0 where
   pub desk : DeskState D
   pub after : DeskState D
   pub opened : IsOpened keeps view disk desk
@@ -94,7 +94,7 @@ pub record IsNotOpened {D K F : Type 0} (keeps : D → Type 0) (view : D → Vie
   pub status_is : status ≡ 3
   pub faults_are : Tells (faults_told faults) (faults_told faults_after) (open_fault_line fault)
 
-abbrev pub RunsOn : {D K F : Type 0} → (D → Type 0) → (D → View) → (D → ℕ) → (K → LinkState) → (F → LinkState) → HandOn → D → D → K → K → F → F → ℕ → Type 0
+abbrev pub RunsOn : {D K F : Type 0} → (D → Type 0) → (D → View) → (D → ℕ) → (K → LinkState) → (F → LinkState) → FlushPolicy → D → D → K → K → F → F → ℕ → Type 0
 RunsOn keeps view failed client_told faults_told when disk disk_after client client_after faults faults_after status =
     RunsOpened keeps view client_told faults_told when disk disk_after client client_after faults faults_after status
     ⊎ IsNotOpened keeps view failed faults_told disk disk_after client client_after faults faults_after status

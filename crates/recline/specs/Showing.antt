@@ -61,8 +61,8 @@ ShowsPart faults_told bytes faults faults_after status =
     (status ≡ 3) × (fault : DeskFault) × RefusesFile bytes fault × (fault ≢ opening.Device) × Tells (faults_told faults) (faults_told faults_after) (open_fault_line fault)
 
 -- All of it was shown, and nothing told; or a part of it, and a call of the client failed; or a fault was told.
-abbrev pub Shows : {K F : Type 0} → (K → LinkState) → (F → LinkState) → List ℕ → Form → K → K → F → F → ℕ → Type 0
-Shows client_told faults_told bytes form client client_after faults faults_after status =
+abbrev pub ShowsFile : {K F : Type 0} → (K → LinkState) → (F → LinkState) → List ℕ → Form → K → K → F → F → ℕ → Type 0
+ShowsFile client_told faults_told bytes form client client_after faults faults_after status =
     ((status ≡ 0) × (faults_after ≡ faults) × IsShown bytes form (client_told client) (client_told client_after))
     ⊎ (IsShownInPart faults_told bytes form (client_told client) (client_told client_after) faults faults_after status
     ⊎ ShowsPart faults_told bytes faults faults_after status)
@@ -70,5 +70,5 @@ Shows client_told faults_told bytes form client client_after faults faults_after
 -- The same of the file as it was when it had its first records alone, so many; or why it has no such first records was told.
 abbrev pub ShowsFront : {K F : Type 0} → (K → LinkState) → (F → LinkState) → ℕ → List ℕ → Form → K → K → F → F → ℕ → Type 0
 ShowsFront client_told faults_told front bytes form client client_after faults faults_after status =
-    ((earlier : List ℕ) × IsFirst front bytes earlier × IsReadAsFirst front bytes earlier × Shows client_told faults_told earlier form client client_after faults faults_after status)
+    ((earlier : List ℕ) × IsFirst front bytes earlier × IsReadAsFirst front bytes earlier × ShowsFile client_told faults_told earlier form client client_after faults faults_after status)
     ⊎ HasNoFront faults_told front bytes faults faults_after status

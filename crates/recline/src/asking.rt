@@ -10,7 +10,7 @@ use crate::telling::{tell, tell_all, tell_unopened, write_all};
 use client_link::{Link, MemoryLink};
 use desk::{Desk, DeskFault};
 use line_disk::MemoryDisk;
-use session::{HandOn, SessionEndKind, run};
+use session::{FlushPolicy, SessionEndKind, run};
 use std::alloc::{AllocError, Global};
 
 /// What may be asked. A report or a settlement is no question: over a copy that is thrown away its `OK` would be untrue.
@@ -173,7 +173,7 @@ fn ask_desk<K: Link, F: Link>(
     let Ok(mut link) = MemoryLink::new(alloc, &[line], 0) else {
         return without_memory(client, faults);
     };
-    let end = run(desk, &mut link, HandOn::EachRead);
+    let end = run(desk, &mut link, FlushPolicy::EachRead);
     if has_reply(end.kind) {
         hand_over(client, faults, link.written())
     } else {
@@ -194,7 +194,7 @@ fn ask_over<K: Link, F: Link>(
     match Desk::open(alloc, disk) {
         Ok(mut desk) => {
             let status = ask_desk(alloc, &mut desk, line, client, faults);
-            desk.lawful();
+            desk.recall_lawful();
             drop(desk);
             status
         }

@@ -49,7 +49,7 @@ pub(crate) enum Checked {
 fn verdict_on(chains: &Chains, certificate: &Certificate) -> Verdict
     ensures { IsVerdictOn (held_of chains.now) certificate.now result }
 {
-    chains.lawful();
+    chains.recall_lawful();
     certified_lines_are_the_greatest();
     check(chains, certificate)
 }
@@ -175,7 +175,7 @@ pub fn check_on<D: Disk, K: Link, F: Link>(
 {
     match Desk::open(alloc, disk) {
         Ok(desk) => {
-            desk.lawful();
+            desk.recall_lawful();
             let status = check_chains(desk.chains(), client, faults);
             (status, desk.close())
         }

@@ -27,7 +27,7 @@ pub(crate) enum LinesEnd {
 fn explain_lines<K: Link>(alloc: Global, client: &mut K, told: &mut Explanations) -> LinesEnd
     requires { IsAfter [] [] told.old }
     ensures over { IsExplainedOver (K.told client.old) (K.told client.new) result }
-    ensures few { HasFewReads (K.told client.old) (K.told client.new) }
+    ensures at_most { HasFewReads (K.told client.old) (K.told client.new) }
 {
     let mut buf = [0u8; 8192];
     for _ in 0..MOST_READS {
@@ -53,7 +53,7 @@ fn explain_lines<K: Link>(alloc: Global, client: &mut K, told: &mut Explanations
 /// Explains the lines that the link gives.
 fn explain_over<K: Link>(alloc: Global, client: &mut K) -> LinesEnd
     ensures over { IsExplainedOver (K.told client.old) (K.told client.new) result }
-    ensures few { HasFewReads (K.told client.old) (K.told client.new) }
+    ensures at_most { HasFewReads (K.told client.old) (K.told client.new) }
 {
     let mut told = Explanations::new(alloc);
     explain_lines(alloc, client, &mut told)

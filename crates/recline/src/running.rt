@@ -1,14 +1,14 @@
 //! The command `run`.
 
 ghost use Rattle.std.specs.Prelude.{◌≡◌};
-ghost use Rattle.session.specs.declared.handing.HandOn.TheVariants as hand_ons;
+ghost use Rattle.session.specs.declared.flush_policy.FlushPolicy.TheVariants as flush_policies;
 ghost use Rattle.recline.specs.Outcome.{Runs, RunsOn, fault_line, status_of};
 
 use crate::telling::{tell, tell_unopened};
 use client_link::Link;
 use desk::Desk;
 use line_disk::Disk;
-use session::{HandOn, SessionEndKind, Unwatched, Watch, run_watched};
+use session::{FlushPolicy, SessionEndKind, Unwatched, Watch, run_watched};
 use std::alloc::Global;
 
 /// The status of the process for a session that ended so over a desk, which may be stopped.
@@ -52,7 +52,7 @@ pub fn run_over<D: Disk, K: Link, F: Link, H: Watch>(
     desk: &mut Desk<D>,
     client: &mut K,
     faults: &mut F,
-    when: HandOn,
+    when: FlushPolicy,
     watch: &H,
 ) -> u8
     ensures { Runs D.keeps K.told F.told when client.old client.new faults.old faults.new desk.old desk.new result }
@@ -64,12 +64,12 @@ pub fn run_over<D: Disk, K: Link, F: Link, H: Watch>(
 
 /// The command `run`: opens the record file on a disk, serves one client over the desk of it, whose replies are handed on so, and answers
 /// the status of the process and the disk. A watch is told after each line how far the desk has come.
-pub fn run_handing_on<D: Disk, K: Link, F: Link, H: Watch>(
+pub fn run_flushing<D: Disk, K: Link, F: Link, H: Watch>(
     alloc: Global,
     disk: D,
     client: &mut K,
     faults: &mut F,
-    when: HandOn,
+    when: FlushPolicy,
     watch: &H,
 ) -> (u8, D)
     ensures { RunsOn D.keeps D.view D.failed K.told F.told when disk result.1 client.old client.new faults.old faults.new result.0 }
@@ -77,7 +77,7 @@ pub fn run_handing_on<D: Disk, K: Link, F: Link, H: Watch>(
     match Desk::open(alloc, disk) {
         Ok(mut desk) => {
             let status = run_over(&mut desk, client, faults, when, watch);
-            desk.lawful();
+            desk.recall_lawful();
             (status, desk.close())
         }
         Err((fault, disk)) => {
@@ -94,7 +94,14 @@ pub fn run_on<D: Disk, K: Link, F: Link>(
     client: &mut K,
     faults: &mut F,
 ) -> (u8, D)
-    ensures { RunsOn D.keeps D.view D.failed K.told F.told hand_ons.EachRead disk result.1 client.old client.new faults.old faults.new result.0 }
+    ensures { RunsOn D.keeps D.view D.failed K.told F.told flush_policies.EachRead disk result.1 client.old client.new faults.old faults.new result.0 }
 {
-    run_handing_on(alloc, disk, client, faults, HandOn::EachRead, &Unwatched)
+    run_flushing(
+        alloc,
+        disk,
+        client,
+        faults,
+        FlushPolicy::EachRead,
+        &Unwatched,
+    )
 }

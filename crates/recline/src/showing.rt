@@ -5,7 +5,7 @@ ghost use Rattle.desk.specs.Openings.{RefusesFile};
 ghost use Rattle.desk.specs.declared.fault.DeskFault.TheVariants as opening;
 ghost use Rattle.earlier_file.specs.Facts.{AreFacts, IsUnread};
 ghost use Rattle.recline.specs.Outcome.{Tells, open_fault_line};
-ghost use Rattle.recline.specs.Showing.{Shows, ShowsFront, ShowsPart};
+ghost use Rattle.recline.specs.Showing.{ShowsFile, ShowsFront, ShowsPart};
 ghost use Rattle.recline.specs.working.Showing.{IsDeskOf, IsTextOf};
 
 use crate::copied::{desk_of, store_behind};
@@ -96,7 +96,7 @@ fn show_all<K: Link, F: Link>(
 ) -> u8
     requires facts { AreFacts bytes.now facts }
     requires desk { IsDeskOf bytes.now desk.now }
-    ensures { Shows K.told F.told bytes.now form client.old client.new faults.old faults.new result }
+    ensures { ShowsFile K.told F.told bytes.now form client.old client.new faults.old faults.new result }
 {
     let Ok(text) = text_of(alloc, bytes, facts, desk, form) else {
         tell_unopened(faults, DeskFault::Memory);
@@ -221,7 +221,7 @@ pub fn show_on<K: Link, F: Link>(
     client: &mut K,
     faults: &mut F,
 ) -> u8
-    ensures { Shows K.told F.told bytes.now form client.old client.new faults.old faults.new result }
+    ensures { ShowsFile K.told F.told bytes.now form client.old client.new faults.old faults.new result }
 {
     let told = match facts(bytes) {
         Ok(told) => told,

@@ -23,7 +23,7 @@ pub(crate) fn write_pieces<K: Link>(link: &mut K, pieces: &[&[u8]]) -> Result<()
     let Ok(()) = put_all(link, pieces) else {
         return Err(LinkFault::Device);
     };
-    match link.hand_on() {
+    match link.flush() {
         Ok(()) => Ok(()),
         Err(_) => Err(LinkFault::Device),
     }

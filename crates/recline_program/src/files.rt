@@ -8,7 +8,7 @@ use recline::at_front;
 use record_file::RecordReach;
 use std::alloc::Global;
 use std::fs::{self, File};
-use std::io::Read;
+use std::io::{self, Read};
 use std::os::unix::fs::FileExt;
 
 /// So many records of a file are looked at: the last one is refused, if no earlier one is.
@@ -41,22 +41,49 @@ pub(crate) fn explain_disk<P: Device>(teller: Teller<'_>, path: &str, disk: &Fil
     }
 }
 
-/// All bytes of a file, as far as records can reach; or the status, where the cause is told.
-fn read_through(teller: Teller<'_>, path: &str, file: &mut File) -> Result<Vec<u8>, u8> {
-    let mut bytes = Vec::new(teller.rt.alloc());
+/// Why a file was not read.
+#[derive(Clone, Copy)]
+enum Unread {
+    Memory,
+    Device(io::Error),
+}
+
+/// Adds all bytes of a file, as far as records can reach.
+fn read_reach(file: &mut File, bytes: &mut Vec<u8>) -> Result<(), Unread> {
     let mut buf = [0u8; 65_536];
     for _ in 0..u64::MAX {
         let n = match file.read(&mut buf) {
             Ok(n) => n,
-            Err(error) => return Err(teller.failed("read", path, &error)),
+            Err(error) => return Err(Unread::Device(error)),
         };
         if bytes.extend_from_slice(&buf[..n]).is_err() {
-            return Err(teller.fault("memory"));
+            return Err(Unread::Memory);
         }
         if n == 0 || bytes.len() >= MOST_BYTES {
             break;
         }
     }
+    Ok(())
+}
+
+/// The same; or the status, where the cause is told.
+fn read_or_tell(
+    teller: Teller<'_>,
+    path: &str,
+    file: &mut File,
+    bytes: &mut Vec<u8>,
+) -> Result<(), u8> {
+    match read_reach(file, bytes) {
+        Ok(()) => Ok(()),
+        Err(Unread::Memory) => Err(teller.fault("memory")),
+        Err(Unread::Device(error)) => Err(teller.failed("read", path, &error)),
+    }
+}
+
+/// All bytes of a file, as far as records can reach; or the status, where the cause is told.
+fn read_through(teller: Teller<'_>, path: &str, file: &mut File) -> Result<Vec<u8>, u8> {
+    let mut bytes = Vec::new(teller.rt.alloc());
+    read_or_tell(teller, path, file, &mut bytes)?;
     Ok(bytes)
 }
 
@@ -90,19 +117,12 @@ fn damage_in(alloc: Global, bytes: &[u8]) -> Option<(usize, usize)> {
 
 /// The bytes of the file of this path, as far as records can reach, if it can be read. Nothing is told.
 fn bytes_in_silence(rt: &HostRuntime, path: &str) -> Option<Vec<u8>> {
-    let Ok(mut file) = File::open(rt, path) else {
-        return None;
-    };
+    let mut file = File::open(rt, path).ok()?;
     let mut bytes = Vec::new(rt.alloc());
-    let mut buf = [0u8; 65_536];
-    for _ in 0..u64::MAX {
-        let n = file.read(&mut buf).ok()?;
-        if n == 0 || bytes.len() >= MOST_BYTES {
-            break;
-        }
-        bytes.extend_from_slice(&buf[..n]).ok()?;
+    match read_reach(&mut file, &mut bytes) {
+        Ok(()) => Some(bytes),
+        Err(_) => None,
     }
-    Some(bytes)
 }
 
 /// Whether this path names a regular file. To open another thing may wait, and to read it may take what others are to read.
@@ -129,14 +149,23 @@ pub(crate) fn explain_damage(teller: Teller<'_>, path: &str, at: Option<u32>) {
     }
 }
 
+/// All bytes of the file of this path, as far as records can reach, and whether it begins with them by now, too; or the status, where the cause
+/// is told.
+fn read_once(teller: Teller<'_>, path: &str) -> Result<(Vec<u8>, bool), u8> {
+    let mut file = open_to_read(teller, path)?;
+    let bytes = read_through(teller, path, &mut file)?;
+    let begins_so = still_begins_so(&file, &bytes);
+    Ok((bytes, begins_so))
+}
+
 /// All bytes of the file of this path, as far as records can reach; or the status, where the cause is told. The file is only read, and once
 /// more where its header was written over meanwhile, which happens once to a record file.
 fn read_file(teller: Teller<'_>, path: &str) -> Result<Vec<u8>, u8> {
-    let mut file = open_to_read(teller, path)?;
-    let bytes = read_through(teller, path, &mut file)?;
-    if still_begins_so(&file, &bytes) {
+    let (bytes, begins_so) = read_once(teller, path)?;
+    if begins_so {
         return Ok(bytes);
     }
+    drop(bytes);
     let mut file = open_to_read(teller, path)?;
     read_through(teller, path, &mut file)
 }

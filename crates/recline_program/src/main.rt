@@ -1,38 +1,35 @@
 //! The program `recline`, which only calls the library of that name.
 #![tactic(auto)]
 
-mod commands;
+mod asking;
+mod drawing;
 mod files;
 mod hearing;
 mod nearing;
 mod reporting;
+mod running;
+mod serving;
 mod streams;
 mod telling;
 
+use asking::{ask_line, ask_over_file, check_over_file, show_file};
 use client_link::{Link, Streams};
 use command_line::{Command, read_args};
-use commands::{
-    Drawn, ask_line, ask_over_file, check_over_file, draw, form_of, run_over_file, serve_over_file,
-    show_file,
-};
+use drawing::{Drawn, draw, drive};
 use files::explain_damage;
 use hearing::Heard;
-use recline::{Form, Question, ServiceRuntime, drive_on, explain_on};
+use recline::{Form, Question, ServiceRuntime};
+use running::{explain_lines, run_over_file};
+use serving::serve_over_file;
 use std::env;
-use std::io::{self, BufWriter, Read};
+use std::io::{self, BufWriter, Read, Write};
 use std::process::ExitCode;
 use streams::{Input, Kept, stand_ins};
 use telling::{FAULT_LINE, Reason, Teller};
 
 /// The words of the command line.
 fn words_of(rt: &HostRuntime) -> io::Result<Vec<String>> {
-    let mut words = Vec::new(rt.alloc());
-    for word in env::args(rt)? {
-        if words.push(word).is_err() {
-            return Err(io::Error::from(io::ErrorKind::OutOfMemory));
-        }
-    }
-    Ok(words)
+    Ok(env::args(rt)?.collect(rt.alloc())?)
 }
 
 /// Does the command for this client, with threads where it serves others, and answers the status and the client.
@@ -43,7 +40,6 @@ fn act<T: ServiceRuntime, K: Link + Drop, F: Link + Drop>(
     client: K,
     faults: F,
 ) -> (u8, K) {
-    let alloc = teller.rt.alloc();
     let (mut client, mut faults) = (client, faults);
     let status = match command {
         Command::Run { file } => run_over_file::<T, _, _>(teller, file, &mut client, &mut faults),
@@ -73,10 +69,8 @@ fn act<T: ServiceRuntime, K: Link + Drop, F: Link + Drop>(
                 &mut faults,
             )
         }
-        Command::Explain { .. } => explain_on(alloc, &mut client, &mut faults),
-        Command::Drive { comments, .. } => {
-            drive_on(alloc, &mut client, &mut faults, form_of(comments))
-        }
+        Command::Explain { .. } => explain_lines(teller, &mut client, &mut faults),
+        Command::Drive { comments, .. } => drive(teller, comments, &mut client, &mut faults),
         Command::Show {
             file,
             at,
@@ -106,10 +100,13 @@ fn act<T: ServiceRuntime, K: Link + Drop, F: Link + Drop>(
     (status, client)
 }
 
+/// What a command reads, with what is said of it in the end.
+type Reading<'a, R> = Kept<Heard<Input<'a, R>>>;
+
 /// Says why the input or standard output failed, if one did and where that is asked for.
 fn explain_streams<R: Read + Drop, W: Drop>(
     teller: Teller<'_>,
-    input: &Kept<Heard<Input<'_, R>>>,
+    input: &Reading<'_, R>,
     output: &Kept<W>,
 ) {
     if let Some(error) = input.error {
@@ -125,8 +122,54 @@ fn explain_streams<R: Read + Drop, W: Drop>(
     }
 }
 
-/// Does the command over this input and standard output. A fault line is handed on as soon as it is whole, by one write if it is not longer
-/// than the buffer, so that the lines of several programs on one standard error do not mix.
+/// Says what may be wrong with what the command read and wrote: it ended with this status.
+fn explain_end<R: Read + Drop, W: Drop>(
+    teller: Teller<'_>,
+    command: Command<'_>,
+    status: u8,
+    input: &Reading<'_, R>,
+    output: &Kept<W>,
+) {
+    explain_streams(teller, input, output);
+    explain_records(teller, command, status);
+    input.stream.hint(teller, command, status);
+}
+
+/// Does the command between these streams.
+fn act_between<'a, T: ServiceRuntime, R: Read + Drop, W: Write + Drop, F: Link + Drop>(
+    teller: Teller<'_>,
+    threads: &T,
+    command: Command<'_>,
+    client: Streams<Reading<'a, R>, Kept<W>>,
+    faults: F,
+) -> u8 {
+    let (status, client) = act(teller, threads, command, client, faults);
+    let (input, output) = client.into_inner();
+    // What could not be handed on is not tried once more, as it would be where the buffer is dropped.
+    let (output, _unwritten) = output.into_parts();
+    explain_end(teller, command, status, &input, &output);
+    status
+}
+
+/// Does the command for this client. A fault line is handed on as soon as it is whole, by one write if it is not longer than the buffer, so that
+/// the lines of several programs on one standard error do not mix.
+fn act_for<'a, T: ServiceRuntime, R: Read + Drop, W: Write + Drop>(
+    teller: Teller<'_>,
+    threads: &T,
+    command: Command<'_>,
+    client: Streams<Reading<'a, R>, Kept<W>>,
+) -> u8 {
+    let rt = teller.rt;
+    match BufWriter::with_capacity(rt.alloc(), FAULT_LINE, rt.stderr()) {
+        Ok(errors) => {
+            let faults = Streams::new(io::empty(), errors);
+            act_between(teller, threads, command, client, faults)
+        }
+        Err(_) => teller.fault("memory"),
+    }
+}
+
+/// Does the command over this input and standard output.
 fn act_over<T: ServiceRuntime, R: Read + Drop>(
     teller: Teller<'_>,
     threads: &T,
@@ -134,22 +177,13 @@ fn act_over<T: ServiceRuntime, R: Read + Drop>(
     input: Input<'_, R>,
 ) -> u8 {
     let rt = teller.rt;
-    let Ok(output) = BufWriter::new(rt.alloc(), Kept::new(rt.stdout())) else {
-        return teller.fault("memory");
-    };
-    let Ok(errors) = BufWriter::with_capacity(rt.alloc(), FAULT_LINE, rt.stderr()) else {
-        return teller.fault("memory");
-    };
-    let client = Streams::new(Kept::new(Heard::new(input)), output);
-    let faults = Streams::new(io::empty(), errors);
-    let (status, client) = act(teller, threads, command, client, faults);
-    let (input, output) = client.into_inner();
-    // What could not be handed on is not tried once more, as it would be where the buffer is dropped.
-    let (output, _unwritten) = output.into_parts();
-    explain_streams(teller, &input, &output);
-    explain_records(teller, command, status);
-    input.stream.hint(teller, command, status);
-    status
+    match BufWriter::new(rt.alloc(), Kept::new(rt.stdout())) {
+        Ok(output) => {
+            let client = Streams::new(Kept::new(Heard::new(input)), output);
+            act_for(teller, threads, command, client)
+        }
+        Err(_) => teller.fault("memory"),
+    }
 }
 
 /// Whether the environment asks for why a fault came, as the flag of each command does.
@@ -183,17 +217,10 @@ fn explain_records(teller: Teller<'_>, command: Command<'_>, status: u8) {
     explain_damage(teller, path, at);
 }
 
-/// Does what the words of the command line ask for, and answers the status.
-fn do_words<T: ServiceRuntime>(rt: &HostRuntime, threads: &T) -> u8 {
-    let teller = Teller {
-        rt,
-        explains: false,
-    };
-    let words = match words_of(rt) {
-        Ok(words) => words,
-        Err(error) => return teller.unread(&error),
-    };
-    match read_args(rt.alloc(), &words) {
+/// Does what these words ask for, and answers the status.
+fn do_words<T: ServiceRuntime>(teller: Teller<'_>, threads: &T, words: &[String]) -> u8 {
+    let rt = teller.rt;
+    match read_args(rt.alloc(), words) {
         Ok(wanted) => act_over(
             Teller {
                 rt,
@@ -207,17 +234,23 @@ fn do_words<T: ServiceRuntime>(rt: &HostRuntime, threads: &T) -> u8 {
     }
 }
 
+/// The same of the words of the command line.
+fn do_all<T: ServiceRuntime>(teller: Teller<'_>, threads: &T) -> u8 {
+    match words_of(teller.rt) {
+        Ok(words) => do_words(teller, threads, &words),
+        Err(error) => teller.unread(&error),
+    }
+}
+
 fn main(rt: HostRuntime) -> ExitCode {
+    let teller = Teller {
+        rt: &rt,
+        explains: false,
+    };
     // Before anything else is opened, and to the end.
     let status = match stand_ins(&rt) {
-        Ok(_streams) => do_words(&rt, &rt),
-        Err(_) => {
-            let teller = Teller {
-                rt: &rt,
-                explains: false,
-            };
-            teller.fault("device")
-        }
+        Ok(_streams) => do_all(teller, &rt),
+        Err(_) => teller.fault("device"),
     };
     ExitCode::from(status)
 }

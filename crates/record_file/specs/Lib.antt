@@ -5,6 +5,7 @@ pub mod Staging
 pub mod Append
 pub mod Opening
 pub mod Store
+pub mod StoreAppend
 pub mod Kept
 pub mod Reading
 pub mod working

@@ -1,10 +1,9 @@
 //! A store of records in a record file.
 
-ghost use Rattle.std.specs.Prelude.{◌≡◌, ◌≢◌, ◌↔◌, ◌+◌, ◌≤◌, ◌++◌, [], ◌∷◌, List, ℕ, length, true, false, vec_len, IfOk, IfErr, IsOk, OnOk, MatchResult};
-ghost use Rattle.line_disk.specs.Disk.{Leaves, LeavesAlways, CountsDevice};
+ghost use Rattle.std.specs.Prelude.{◌≡◌, ◌≢◌, ◌↔◌, ◌+◌, ◌≤◌, List, length, true, false, vec_len, IfOk, IfErr, IsOk, OnOk, MatchResult};
+ghost use Rattle.line_disk.specs.Disk.{LeavesAlways, CountsDevice};
 ghost use Rattle.record_file.specs.File.{Said, first_version, Stands, line_limit};
 ghost use Rattle.record_file.specs.Kept.{said_in};
-ghost use Rattle.record_file.specs.Resting.{IsBeforeOrAfter};
 ghost use Rattle.record_file.specs.Opening.{IsOpenedWith, IsRefused, CountsFault, KeepsFile};
 
 use crate::appended::Appended;
@@ -55,16 +54,17 @@ impl<D: Disk + Drop> Drop for Store<D> {
 }
 
 impl<D: Disk> Store<D> {
-    ghost use Rattle.record_file.specs.Append.{LeavesAfter, CameAsFar, CountsAppend, OnDone, carried_over};
+    ghost use Rattle.record_file.specs.Append.{OnDone, carried_over};
     ghost use Rattle.record_file.specs.Opening.{IsSynced, LeavesRefused};
     ghost use Rattle.record_file.specs.Store.{disk_of, found_records, is_stopped, version_of, HasRecords};
+    ghost use Rattle.record_file.specs.StoreAppend.{IsAppend};
 
     /// Opens the file on a disk. It takes the memory that appends need. A fault hands the disk back.
     pub fn open(alloc: Global, disk: D) -> Result<Store<D>, (OpenFault, D)>
         ensures records { D.keeps disk → IfOk result (λ store. Stands (found_records store) (D.view disk).seen) }
         ensures ready { D.keeps disk → IfOk result (λ store. HasRecords D.view store (found_records store)) }
         ensures version { D.keeps disk → IfOk result (λ store. IsOpenedWith (version_of store) (D.view disk).seen) }
-        ensures goes { IfOk result (λ store. is_stopped store ≡ false) }
+        ensures not_stopped { IfOk result (λ store. is_stopped store ≡ false) }
         ensures refused { D.keeps disk → IfErr result (λ e. IsRefused (D.view disk).seen e.0) }
 
         // What a crash at any moment of the call may leave.
@@ -127,7 +127,7 @@ impl<D: Disk> Store<D> {
     /// Makes a file of the first version one of the second, before its first append. Each other file is left as it is.
     fn carry_over(&mut self) -> Result<(), DiskFault>
         requires runs { is_stopped self.old ≡ false }
-        ensures same { (said : List Said) → D.keeps (disk_of self.old) → HasRecords D.view self.old said → OnOk result (HasRecords D.view self.new said) }
+        ensures same_records { (said : List Said) → D.keeps (disk_of self.old) → HasRecords D.view self.old said → OnOk result (HasRecords D.view self.new said) }
         ensures any_moment { (said : List Said) → D.keeps (disk_of self.old) → HasRecords D.view self.old said
             → LeavesAlways (Stands said) (D.view (disk_of self.old)) (D.view (disk_of self.new)) }
         ensures version { OnOk result (version_of self.new ≡ carried_over (version_of self.old)) }
@@ -154,20 +154,9 @@ impl<D: Disk> Store<D> {
         requires runs { is_stopped self.old ≡ false }
         requires second { version_of self.old ≢ first_version }
 
-        ensures done { (said : List Said) → D.keeps (disk_of self.old) → HasRecords D.view self.old said
-            → OnDone result (HasRecords D.view self.new (said ++ (epoch, line.now) ∷ [])) }
-        ensures any_moment { (said : List Said) → D.keeps (disk_of self.old) → HasRecords D.view self.old said
-            → LeavesAlways (IsBeforeOrAfter said (epoch, line.now)) (D.view (disk_of self.old)) (D.view (disk_of self.new)) }
-        ensures after { (said : List Said) → D.keeps (disk_of self.old) → HasRecords D.view self.old said
-            → (c : List ℕ) → Leaves (D.view (disk_of self.new)) c → LeavesAfter result said (epoch, line.now) c }
-        ensures so_far { (said : List Said) → D.keeps (disk_of self.old) → HasRecords D.view self.old said
-            → CameAsFar result said (epoch, line.now) (D.view (disk_of self.old)) (D.view (disk_of self.new)) }
+        ensures append { IsAppend D.keeps D.view D.failed self.old (epoch, line.now) self.new result }
         ensures goes_on { result ≢ Appended.Stopped }
-        ensures stops { (is_stopped self.new ≡ false) ↔ (result ≡ Appended.Done) }
         ensures version { version_of self.new ≡ version_of self.old }
-        ensures cause { CountsAppend result (D.failed (disk_of self.old)) (D.failed (disk_of self.new)) }
-        ensures premise { D.keeps (disk_of self.new) ↔ D.keeps (disk_of self.old) }
-        ensures found { found_records self.new ≡ found_records self.old }
     {
         let n = fill(&mut self.buffer, epoch, line);
         if write_durably(&mut self.disk, self.end, &self.buffer[..n]).is_err() {
@@ -188,18 +177,7 @@ impl<D: Disk> Store<D> {
         requires some { 1 ≤ length line.now }
         requires fits { length line.now ≤ line_limit }
 
-        ensures done { (said : List Said) → D.keeps (disk_of self.old) → HasRecords D.view self.old said
-            → OnDone result (HasRecords D.view self.new (said ++ (epoch, line.now) ∷ [])) }
-
-        // What a crash may leave at any moment of the call, and after it.
-        ensures any_moment { (said : List Said) → D.keeps (disk_of self.old) → HasRecords D.view self.old said
-            → LeavesAlways (IsBeforeOrAfter said (epoch, line.now)) (D.view (disk_of self.old)) (D.view (disk_of self.new)) }
-        ensures after { (said : List Said) → D.keeps (disk_of self.old) → HasRecords D.view self.old said
-            → (c : List ℕ) → Leaves (D.view (disk_of self.new)) c → LeavesAfter result said (epoch, line.now) c }
-
-        // Whether the gate was written tells Before and Unknown apart.
-        ensures so_far { (said : List Said) → D.keeps (disk_of self.old) → HasRecords D.view self.old said
-            → CameAsFar result said (epoch, line.now) (D.view (disk_of self.old)) (D.view (disk_of self.new)) }
+        ensures append { IsAppend D.keeps D.view D.failed self.old (epoch, line.now) self.new result }
 
         // A file of the first version is carried over, and each other one keeps its version.
         ensures version { OnDone result (version_of self.new ≡ carried_over (version_of self.old)) }
@@ -207,10 +185,6 @@ impl<D: Disk> Store<D> {
         // A stopped store makes no call of the device, and no other answer comes from one.
         ensures stopped { (result ≡ Appended.Stopped) ↔ (is_stopped self.old ≡ true) }
         ensures unchanged { result ≡ Appended.Stopped → self.new ≡ self.old }
-        ensures stops { (is_stopped self.new ≡ false) ↔ (result ≡ Appended.Done) }
-        ensures cause { CountsAppend result (D.failed (disk_of self.old)) (D.failed (disk_of self.new)) }
-        ensures premise { D.keeps (disk_of self.new) ↔ D.keeps (disk_of self.old) }
-        ensures found { found_records self.new ≡ found_records self.old }
     {
         if self.stopped {
             return Appended::Stopped;

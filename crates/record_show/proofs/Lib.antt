@@ -1,4 +1,4 @@
-pub mod Absorbing
+pub mod Lost
 pub mod Widths
 pub mod Counting
 pub mod Sequences

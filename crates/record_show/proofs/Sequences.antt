@@ -10,5 +10,6 @@ four old one two three new a b c d e f g h = h ∙ rw (g, f, e) (simp append_ass
 pub five : (old one two three last new a b c d k : List ℕ) → one ≡ old ++ a → two ≡ one ++ b → three ≡ two ++ c → last ≡ three ++ d → new ≡ last ++ k → new ≡ old ++ (a ++ (b ++ (c ++ (d ++ k))))
 five old one two three last new a b c d k e f g h i = i ∙ rw (h, g, f, e) (simp append_assoc)
 
-pub six : (old one two three third last new a b c d k l : List ℕ) → one ≡ old ++ a → two ≡ one ++ b → three ≡ two ++ c → third ≡ three ++ d → last ≡ third ++ k → new ≡ last ++ l → new ≡ old ++ (a ++ (b ++ (c ++ (d ++ (k ++ l)))))
-six old one two three third last new a b c d k l e f g h i j = j ∙ rw (i, h, g, f, e) (simp append_assoc)
+pub seven : (old one two three third fourth last new a b c d k l m : List ℕ) → one ≡ old ++ a → two ≡ one ++ b → three ≡ two ++ c → third ≡ three ++ d → fourth ≡ third ++ k → last ≡ fourth ++ l → new ≡ last ++ m
+    → new ≡ old ++ (a ++ (b ++ (c ++ (d ++ (k ++ (l ++ m))))))
+seven old one two three third fourth last new a b c d k l m e f g h i j n = n ∙ rw (j, i, h, g, f, e) (simp append_assoc)

@@ -21,11 +21,16 @@ counts_json p =
     with_number (codes ",\"reports\":") p.reports ++ (with_number (codes ",\"elements\":") p.elements
     ++ (with_number (codes ",\"depth\":") p.depth ++ with_number (codes ",\"size\":") p.size))
 
+-- the target of a retirement that is never absorbed, since the target retired
+abbrev pub lost_json : Option (List ℕ) → List ℕ
+lost_json None = []
+lost_json (Some target) = with_string (codes ",\"never_absorbed_by\":") target
+
 -- a process in front of which so many stand
 abbrev pub process_json : ℕ → ShownProcess → List ℕ
 process_json n p =
     comma_before n ++ (with_string (codes "{\"process\":") p.name ++ (with_string (codes ",\"state\":") (state_word p.state)
-    ++ (counts_json p ++ (with_string (codes ",\"last\":") p.last ++ codes "}"))))
+    ++ (counts_json p ++ (with_string (codes ",\"last\":") p.last ++ (lost_json p.lost_in ++ codes "}")))))
 
 -- a record in front of which so many stand
 abbrev pub record_json : ℕ → Said → List ℕ

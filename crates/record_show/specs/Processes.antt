@@ -1,6 +1,6 @@
 -- What is shown of processes, and of the file.
-use Rattle.std.specs.Prelude.{ℕ, ◌-◌, Bool, true, false, List, [], Option, Some, None, length, map, slice_get, unwrap_or, ◌==◌, if◌then◌else◌}
-use Rattle.std.specs.Option.{option_map_or}
+use Rattle.std.specs.Prelude.{ℕ, ◌-◌, Bool, true, false, List, [], Option, Some, None, length, map, option_and_then, slice_get, unwrap_or, ◌==◌, if◌then◌else◌}
+use Rattle.std.specs.Option.{option_map, option_map_or}
 use Rattle.id_tree.specs.IdTree.{IdTree, Zero}
 use Rattle.id_tree.specs.NormalForm.{depth}
 use Rattle.id_tree.specs.Size.{size}
@@ -33,6 +33,14 @@ state_by (Some id) absorbed = Live
 state_by None false = Waiting
 state_by None true = Absorbed
 
+-- the process itself, if it retired: it absorbs nothing any more
+abbrev pub if_retired : List Report → Name → Option Name
+if_retired accepted q = option_map (λ target. q) (target_of q accepted)
+
+-- the process into which p retired in vain: its retirement was not absorbed, and the target retired itself
+abbrev pub lost_in : List Report → Name → Option Name
+lost_in accepted p = if is_absorbed p accepted then None else option_and_then (if_retired accepted) (target_of p accepted)
+
 -- the line of a report as it stands in its record: without a mark
 abbrev pub line_of : Option Report → List ℕ
 line_of r = option_map_or (λ report. spelling (calls.Report (unmarked report))) r []
@@ -50,6 +58,7 @@ shown_process accepted p = record {
   depth = depth (shown_id (own_id accepted p));
   size = size (shown_id (own_id accepted p));
   last = line_of (maker accepted p (length (elements_of p accepted)));
+  lost_in = lost_in accepted p;
 }
 
 -- of each known process, in order of birth

@@ -1,5 +1,5 @@
 -- The table of what a record file holds, for people.
-use Rattle.std.specs.Prelude.{ℕ, ◌-◌, max, List, [], ◌∷◌, ◌++◌, length, codes, replicate}
+use Rattle.std.specs.Prelude.{ℕ, ◌-◌, max, List, [], ◌∷◌, ◌++◌, Option, Some, None, length, codes, replicate}
 use Rattle.std.specs.List.{flat_map}
 use Rattle.std.specs.Fmt.{decimal}
 use Rattle.record_show.specs.declared.shown.ShownState.{ShownState}
@@ -66,8 +66,13 @@ in_width wide text = text ++ (replicate (wide - length text) 32 ++ codes "  ")
 abbrev pub titles_line : List Padded → List ℕ
 titles_line cs = flat_map (λ c. in_width c.width (title c.column)) cs ++ codes "LAST ELEMENT\n"
 
+-- what is told of a retirement that is never absorbed, since its target retired
+abbrev pub lost_text : Option (List ℕ) → List ℕ
+lost_text None = []
+lost_text (Some target) = codes "  never absorbed: " ++ (target ++ codes " is retired")
+
 abbrev pub process_line : List Padded → ShownProcess → List ℕ
-process_line cs p = flat_map (λ c. in_width c.width (cell p c.column)) cs ++ (p.last ++ 10 ∷ [])
+process_line cs p = flat_map (λ c. in_width c.width (cell p c.column)) cs ++ (p.last ++ (lost_text p.lost_in ++ 10 ∷ []))
 
 abbrev pub processes_text : List ShownProcess → List ℕ
 processes_text processes = titles_line (columns processes) ++ flat_map (process_line (columns processes)) processes

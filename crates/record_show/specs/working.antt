@@ -1,2 +1,1 @@
-pub mod Absorbed
 pub mod Processes

@@ -1,11 +1,12 @@
 //! The columns of the table of processes.
 
-ghost use Rattle.std.specs.Prelude.{◌≡◌, ◌++◌, OnOk, length, replicate};
+ghost use Rattle.std.specs.Prelude.{◌≡◌, ◌++◌, OnOk, codes, length, replicate};
 ghost use Rattle.std.specs.List.{flat_map};
-ghost use Rattle.record_show.specs.Tables.{state_word, title, cell, width, as_wide, columns, in_width, titles_line, process_line};
+ghost use Rattle.record_show.specs.Tables.{state_word, title, cell, width, as_wide, columns, in_width, titles_line, lost_text, process_line};
 
 use crate::shown::{ShownProcess, ShownState};
 use itoa::Buffer;
+use report_line::Name;
 use std::alloc::AllocError;
 
 /// A column of the table, but for the last.
@@ -143,6 +144,26 @@ pub(crate) fn push_titles(out: &mut Vec<u8>, columns: &[Padded]) -> Result<(), A
     out.extend_from_slice(b"LAST ELEMENT\n")
 }
 
+// Appends that the retirement into this process is never absorbed.
+fn push_lost_in(out: &mut Vec<u8>, target: &Name) -> Result<(), AllocError>
+    ensures { OnOk result (out.new.items ≡ out.old.items ++ (codes "  never absorbed: " ++ (target.now ++ codes " is retired"))) }
+{
+    out.extend_from_slice(b"  never absorbed: ")?;
+    out.extend_from_slice(target.as_bytes())?;
+    out.extend_from_slice(b" is retired")?;
+    Ok(())
+}
+
+// Appends it, if the target of the retirement retired.
+fn push_lost(out: &mut Vec<u8>, lost_in: &Option<Name>) -> Result<(), AllocError>
+    ensures { OnOk result (out.new.items ≡ out.old.items ++ lost_text lost_in.now) }
+{
+    match lost_in {
+        None => Ok(()),
+        Some(target) => push_lost_in(out, target),
+    }
+}
+
 /// Appends the line of a process.
 pub(crate) fn push_process(
     out: &mut Vec<u8>,
@@ -155,6 +176,7 @@ pub(crate) fn push_process(
         push_cell_of(out, process, *padded)?;
     }
     out.extend_from_slice(process.last.as_bytes())?;
+    push_lost(out, &process.lost_in)?;
     out.push(b'\n')?;
     Ok(())
 }

@@ -25,7 +25,7 @@ pub(crate) fn shown_depth(id: Option<&Id>) -> usize
     match id {
         None => 0,
         Some(id) => {
-            id.known();
+            id.recall_facts();
             part_depth(&id.view())
         }
     }

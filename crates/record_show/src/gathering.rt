@@ -1,13 +1,12 @@
 //! What is shown of the processes that chains know.
 
-ghost use Rattle.std.specs.Prelude.{◌≡◌, ◌<◌, ◌-◌, IfOk, Some, length, option_copied, slice_get, slice_index_or};
+ghost use Rattle.std.specs.Prelude.{◌≡◌, ◌<◌, ◌-◌, IfOk, Some, length, option_copied, slice_get};
 ghost use Rattle.chains.specs.Processes.{Name as AnyName, known, is_absorbed};
 ghost use Rattle.chains.specs.Elements.{name_of, makers_of};
 ghost use Rattle.chains.specs.Held.{held_of};
-ghost use Rattle.record_show.specs.Processes.{state_by, line_of, maker, shown_process, shown_processes, version_number, shown_file};
+ghost use Rattle.record_show.specs.Processes.{state_by, if_retired, lost_in, line_of, maker, shown_process, shown_processes, version_number, shown_file};
 ghost use Rattle.record_show.specs.working.Processes.{IsShownBy};
 
-use crate::absorbed::absorbed;
 use crate::depth::{shown_depth, shown_size};
 use crate::shown::{ShownFile, ShownProcess, ShownState};
 use chains::{Chains, State};
@@ -46,10 +45,48 @@ fn maker_line(chains: &Chains, process: u32, k: u32) -> Result<Text, AllocError>
     }
 }
 
-// What is shown of a process of this name, where this is kept of it.
-fn shown_by(name: &Name, state: &State<'_>, absorbed: bool, last: Text) -> ShownProcess
-    ensures { IsShownBy name.now state.now absorbed last result }
+// The process of this name, if it retired.
+fn if_retired<'a>(chains: &Chains, name: &'a Name) -> Option<&'a Name>
+    ensures { option_copied result ≡ if_retired chains.now.accepted name.now }
 {
+    chains.recall_lawful();
+    let Some(number) = chains.number_of(name) else {
+        return None;
+    };
+    match chains.target_of(number) {
+        None => None,
+        Some(_) => Some(name),
+    }
+}
+
+// The process into which this one retired in vain, if it did.
+fn lost_in(chains: &Chains, process: u32) -> Option<&Name>
+    requires { process < length (known chains.now.accepted) }
+    ensures { (p : AnyName) → name_of chains.now.accepted process ≡ Some p → option_copied result ≡ lost_in chains.now.accepted p }
+{
+    if chains.is_absorbed(process) {
+        return None;
+    }
+    match chains.target_of(process) {
+        None => None,
+        Some(target) => if_retired(chains, target),
+    }
+}
+
+// What is shown of a process of this name, where this is kept of it.
+fn shown_by(
+    name: &Name,
+    state: &State<'_>,
+    absorbed: bool,
+    last: Text,
+    lost_in: Option<&Name>,
+) -> ShownProcess
+    ensures { IsShownBy name.now state.now absorbed last (option_copied lost_in.entry) result }
+{
+    let lost_in = match lost_in {
+        None => None,
+        Some(target) => Some(target.copy()),
+    };
     ShownProcess {
         name: name.copy(),
         state: state_by(state.id, absorbed),
@@ -58,13 +95,13 @@ fn shown_by(name: &Name, state: &State<'_>, absorbed: bool, last: Text) -> Shown
         depth: shown_depth(state.id),
         size: shown_size(state.id),
         last,
+        lost_in,
     }
 }
 
 // What is shown of a process by its number.
-fn shown(chains: &Chains, process: u32, absorbed: bool) -> Result<ShownProcess, AllocError>
-    requires known { process < length (known chains.now.accepted) }
-    requires absorbed { (p : AnyName) → name_of chains.now.accepted process ≡ Some p → absorbed ≡ is_absorbed p chains.now.accepted }
+fn shown(chains: &Chains, process: u32) -> Result<ShownProcess, AllocError>
+    requires { process < length (known chains.now.accepted) }
     ensures { IfOk result (λ shown. (p : AnyName) → name_of chains.now.accepted process ≡ Some p → shown ≡ shown_process chains.now.accepted p) }
 {
     let name = chains.name_of(process);
@@ -72,17 +109,17 @@ fn shown(chains: &Chains, process: u32, absorbed: bool) -> Result<ShownProcess, 
         unreachable!();
     };
     let last = maker_line(chains, process, state.elements)?;
-    Ok(shown_by(name, &state, absorbed, last))
+    let absorbed = chains.is_absorbed(process);
+    Ok(shown_by(name, &state, absorbed, last, lost_in(chains, process)))
 }
 
 /// What is shown of each known process, in order of birth.
 pub fn shown_processes(chains: &Chains) -> Result<Vec<ShownProcess>, AllocError>
     ensures { IfOk result (λ shown. shown.items ≡ shown_processes chains.now.accepted) }
 {
-    let absorbed = absorbed(chains)?;
     let mut processes = Vec::new(chains.alloc());
     for process in 0..chains.count() {
-        processes.push(shown(chains, process, absorbed[process as usize])?)?;
+        processes.push(shown(chains, process)?)?;
     }
     Ok(processes)
 }

@@ -4,11 +4,12 @@ ghost use Rattle.std.specs.Prelude.{◌≡◌, ◌++◌, ◌+◌, ◌^◌, ◌<�
 ghost use Rattle.std.specs.Option.{option_map};
 ghost use Rattle.record_file.specs.Kept.{said_in};
 ghost use Rattle.record_show.specs.Numbered.{comma_before, numbered};
-ghost use Rattle.record_show.specs.Json.{counts_json, process_json, record_json, file_json, processes_json, records_json, asked_json, json_text};
+ghost use Rattle.record_show.specs.Json.{counts_json, lost_json, process_json, record_json, file_json, processes_json, records_json, asked_json, json_text};
 
 use crate::columns::state_word;
 use crate::pushing::{push_number, push_string};
 use crate::shown::{ShownFile, ShownProcess};
+use report_line::Name;
 use std::alloc::{AllocError, Global};
 
 // Appends the comma that stands in front of each thing of a list but the first.
@@ -33,6 +34,16 @@ fn push_counts(out: &mut Vec<u8>, process: &ShownProcess) -> Result<(), AllocErr
     Ok(())
 }
 
+// Appends the target of a retirement that is never absorbed, if the target retired.
+fn push_lost(out: &mut Vec<u8>, lost_in: &Option<Name>) -> Result<(), AllocError>
+    ensures { OnOk result (out.new.items ≡ out.old.items ++ lost_json lost_in.now) }
+{
+    match lost_in {
+        None => Ok(()),
+        Some(target) => push_string(out, b",\"never_absorbed_by\":", target.as_bytes()),
+    }
+}
+
 // Appends a process in front of which so many stand.
 fn push_process(out: &mut Vec<u8>, before: usize, process: &ShownProcess) -> Result<(), AllocError>
     ensures { OnOk result (out.new.items ≡ out.old.items ++ process_json before process.now) }
@@ -42,6 +53,7 @@ fn push_process(out: &mut Vec<u8>, before: usize, process: &ShownProcess) -> Res
     push_string(out, b",\"state\":", state_word(process.state))?;
     push_counts(out, process)?;
     push_string(out, b",\"last\":", process.last.as_bytes())?;
+    push_lost(out, &process.lost_in)?;
     out.extend_from_slice(b"}")?;
     Ok(())
 }

@@ -3,7 +3,6 @@
 //! It only reads: the chains that were made of the records, what the bytes tell of the file, and the records as they stand there.
 #![tactic(auto)]
 
-mod absorbed;
 mod columns;
 mod depth;
 mod gathering;

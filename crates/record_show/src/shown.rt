@@ -30,6 +30,8 @@ pub struct ShownProcess {
     pub size: usize,
     /// The line of the report that made its last element, as it stands in its record.
     pub last: Text,
+    /// The process into which it retired in vain: it was not absorbed, and that process retired, too.
+    pub lost_in: Option<Name>,
 }
 
 /// What is shown of a file beside its processes.

@@ -3,6 +3,8 @@ use Rattle.std.specs.Prelude.{ℕ, Bool, true, false, List, [], ◌++◌, Option
 use Rattle.std.specs.Fmt.{decimal}
 use Rattle.report_line.specs.declared.code.Code.{Code}
 use Rattle.report_line.specs.declared.code.Code.TheVariants.{NothingBegun, OtherRoot, UnknownProcess, Ended, WrongNumber, NotWaiting, WrongId, NotGrown, NameTaken, WrongParts, WrongTarget, NotJoined, Full, OutOfMemory, OtherFront, OtherEpoch}
+use Rattle.report_line.specs.declared.pieces.ReplyPiece.{ReplyPiece}
+use Rattle.report_line.specs.declared.pieces.ReplyPiece.TheVariants as pieces
 use Rattle.report_line.specs.declared.reply.Outcome.{Outcome}
 use Rattle.report_line.specs.declared.reply.Outcome.TheVariants.{Before, Unknown, Stopped}
 use Rattle.report_line.specs.declared.reply.Reply.{Reply}
@@ -44,9 +46,9 @@ or_dash None = codes "-"
 or_dash (Some text) = text
 
 -- the replies that are written
-abbrev pub IsWritten : Reply → Type 0
-IsWritten (replies.Taken front) = ⊥
-IsWritten _ = ⊤
+abbrev pub HasText : Reply → Type 0
+HasText (replies.Taken front) = ⊥
+HasText _ = ⊤
 
 -- the text of a reply
 unfoldable pub reply_text : Reply → List ℕ
@@ -60,3 +62,8 @@ reply_text (replies.State name reports elements live id) = codes "STATE " ++ nam
 reply_text (replies.Settled epoch front) = codes "SETTLED " ++ decimal epoch ++ codes " " ++ decimal front
 reply_text replies.Bye = codes "BYE"
 reply_text (replies.Taken front) = []
+
+-- the text of a piece that a reply is made of
+abbrev pub piece_text : ReplyPiece → List ℕ
+piece_text (pieces.Text bytes) = bytes.now
+piece_text (pieces.Number n) = decimal n

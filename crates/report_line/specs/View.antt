@@ -26,9 +26,9 @@ abbrev pub numbered_of : NumberedView → NumberedReport
 numbered_of v = record { process = v.process.now; number = v.number; stamp = v.stamp.now; action = action_of v.action }
 
 -- these are the fields of the report
-abbrev pub Shows : ReportView → Report → Type 0
-Shows (views.Begin p) r = r ≡ Begin p.now
-Shows (views.Numbered v) r = r ≡ Numbered (numbered_of v)
+abbrev pub ShowsReport : ReportView → Report → Type 0
+ShowsReport (views.Begin p) r = r ≡ Begin p.now
+ShowsReport (views.Numbered v) r = r ≡ Numbered (numbered_of v)
 
 -- Working definition.
 

@@ -4,7 +4,7 @@ ghost use Rattle.std.specs.Prelude.{◌≡◌, ◌≢◌, ◌↔◌, Some, IsTru
 ghost use Rattle.report_line.specs.declared.call.Call.TheVariants as calls;
 ghost use Rattle.report_line.specs.Reports.{process_of, number_of, unmarked};
 ghost use Rattle.report_line.specs.Spelling.{IsAction, HasSpelling};
-ghost use Rattle.report_line.specs.View.{Shows, action_of, numbered_of};
+ghost use Rattle.report_line.specs.View.{ShowsReport, action_of, numbered_of};
 
 use crate::name::Name;
 use crate::report::{Forked, NumberedReport, Report, ReportKind};
@@ -111,16 +111,16 @@ pub enum ReportView<'a> {
 
 impl<'a> ReportKindView<'a> {
     /// Tells a proof that what stands behind the stamp has a spelling.
-    fn known(self)
+    fn recall_facts(self)
         ensures { IsAction (action_of self.entry) }
     {
         match self {
             ReportKindView::Check => {}
             ReportKindView::Present => {}
             ReportKindView::Fork(forked) => {
-                forked.kept.known();
+                forked.kept.recall_facts();
                 let _name = forked.child.as_bytes();
-                forked.given.known();
+                forked.given.recall_facts();
             }
             ReportKindView::Retire { target } => {
                 let _name = target.as_bytes();
@@ -214,7 +214,7 @@ impl PackedReport {
     /// The fields of the report.
     #[inline(always)]
     pub fn view(&self) -> ReportView<'_>
-        ensures { Shows result self.now }
+        ensures { ShowsReport result self.now }
     {
         match &self.packed {
             Packed::Begin { process } => ReportView::Begin { process },
@@ -275,7 +275,7 @@ impl PackedReport {
     }
 
     /// Tells a proof that the report has a line: of its fields only a number that is 0 is never written.
-    pub fn known(&self)
+    pub fn recall_facts(&self)
         ensures { number_of self.now ≢ Some 0 → HasSpelling (calls.Report (unmarked self.now)) }
     {
         match self.view() {
@@ -284,8 +284,8 @@ impl PackedReport {
             }
             ReportView::Numbered(fields) => {
                 let _name = fields.process.as_bytes();
-                fields.stamp.known();
-                fields.action.known();
+                fields.stamp.recall_facts();
+                fields.action.recall_facts();
             }
         }
     }

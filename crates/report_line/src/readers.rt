@@ -26,7 +26,7 @@ pub fn read_stamp(alloc: Global, word: &[u8]) -> Result<Stamp, LineFault>
 {
     match Stamp::parse(alloc, word) {
         Ok(stamp) => {
-            stamp.known();
+            stamp.recall_facts();
             Ok(stamp)
         }
         Err(StampTextFault::Memory) => Err(LineFault::Memory),
@@ -39,7 +39,7 @@ fn read_id(alloc: Global, word: &[u8]) -> Result<Id, LineFault>
 {
     match Id::parse(alloc, word) {
         Ok(id) => {
-            id.known();
+            id.recall_facts();
             Ok(id)
         }
         Err(IdFault::Memory) => Err(LineFault::Memory),

@@ -75,4 +75,18 @@ impl ReportKind {
         let forked = Shared::new(alloc, Forked { kept, child, given })?;
         Ok(ReportKind::Fork(forked))
     }
+
+    /// The same with copies of the parts and of the name.
+    pub fn fork_of(
+        alloc: Global,
+        kept: &Id,
+        child: &Name,
+        given: &Id,
+    ) -> Result<ReportKind, AllocError>
+        ensures { IfOk result (λ a. a ≡ ReportKind.Fork (record { kept = kept.now; child = child.now; given = given.now })) }
+    {
+        let kept = kept.copy(alloc)?;
+        let given = given.copy(alloc)?;
+        ReportKind::fork(alloc, kept, child.copy(), given)
+    }
 }

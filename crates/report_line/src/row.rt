@@ -34,7 +34,7 @@ fn are_same(text: &[u8], other: &[u8]) -> bool
 // How many commas a text has.
 fn commas_in(text: &[u8]) -> usize
     ensures count { result ≡ count_by (λ b. b == 44) text.now }
-    ensures few { result ≤ length text.now }
+    ensures at_most { result ≤ length text.now }
 {
     text.iter().filter(|b| **b == b',').count()
 }
@@ -109,7 +109,7 @@ impl Names {
     }
 
     /// Tells a proof that they are names.
-    pub fn known(&self)
+    pub fn recall_facts(&self)
         ensures { AreNames self.now }
     {
         let _text = &self.text;

@@ -31,7 +31,7 @@ pub struct Step {
     /// The process.
     pub process: Name,
     /// What it does.
-    pub deed: StepKind,
+    pub step_kind: StepKind,
     /// Its id and events after the step; after a fork the id is the part that it keeps.
     pub stamp: Stamp,
 }

@@ -7,14 +7,13 @@ ghost use Rattle.report_line.specs.Reports.{unmarked};
 ghost use Rattle.report_line.specs.Spelling.{spelling, mark_text, action_word, action_fields};
 ghost use Rattle.report_line.specs.View.{action_of, numbered_of};
 ghost use Rattle.report_line.specs.declared.call.Call.TheVariants as calls;
-ghost use Rattle.report_line.specs.Replies.{or_dash, outcome_word, live_word, reply_text, IsWritten};
+ghost use Rattle.report_line.specs.Replies.{piece_text, reply_text, HasText};
 ghost use Rattle.report_line.specs.Cuts.{spaced};
 
-use crate::name::Name;
 use crate::packed::{NumberedView, PackedReport, ReportKindView, ReportView};
-use crate::reply::{Outcome, Reply};
+use crate::pieces::{ReplyPiece, reply_pieces};
+use crate::reply::Reply;
 use crate::row::Names;
-use crate::text::Text;
 use itoa::Buffer;
 use std::alloc::{AllocError, Global};
 
@@ -128,102 +127,23 @@ pub fn write_settle(alloc: Global, front: u32, names: &Names) -> Result<Vec<u8>,
     Ok(out)
 }
 
-fn outcome_word(outcome: Outcome) -> &'static [u8]
-    ensures { result.now ≡ outcome_word outcome }
+fn push_piece(out: &mut Vec<u8>, piece: &ReplyPiece<'_>) -> Result<(), AllocError>
+    ensures { OnOk result (out.new.items ≡ out.old.items ++ piece_text piece.now) }
 {
-    match outcome {
-        Outcome::Before => b"before",
-        Outcome::Unknown => b"unknown",
-        Outcome::Stopped => b"stopped",
-    }
-}
-
-fn live_word(live: bool) -> &'static [u8]
-    ensures { result.now ≡ live_word live }
-{
-    if live { b"live" } else { b"retired" }
-}
-
-fn push_name(out: &mut Vec<u8>, name: &Option<Name>) -> Result<(), AllocError>
-    ensures { OnOk result (out.new.items ≡ out.old.items ++ or_dash name.now) }
-{
-    match name {
-        None => out.extend_from_slice(b"-"),
-        Some(name) => out.extend_from_slice(name.as_bytes()),
-    }
-}
-
-fn push_value(out: &mut Vec<u8>, value: &Option<Text>) -> Result<(), AllocError>
-    ensures { OnOk result (out.new.items ≡ out.old.items ++ or_dash value.now) }
-{
-    match value {
-        None => out.extend_from_slice(b"-"),
-        Some(value) => out.extend_from_slice(value.as_bytes()),
+    match piece {
+        ReplyPiece::Text(bytes) => out.extend_from_slice(bytes),
+        ReplyPiece::Number(n) => push_number(out, *n),
     }
 }
 
 /// The text of a reply, without LF.
-#[tactic(auto, unfolding(crate::specs::Replies::reply_text))]
 pub fn write_reply(alloc: Global, reply: &Reply) -> Result<Vec<u8>, AllocError>
-    requires { IsWritten reply.now }
+    requires { HasText reply.now }
     ensures { IfOk result (λ v. v.items ≡ reply_text reply.now) }
 {
     let mut out = Vec::new(alloc);
-    match reply {
-        Reply::Accepted(front) => {
-            out.extend_from_slice(b"OK ")?;
-            push_number(&mut out, *front)?;
-        }
-        Reply::Old(front) => {
-            out.extend_from_slice(b"OLD ")?;
-            push_number(&mut out, *front)?;
-        }
-        Reply::No { code, name, value } => {
-            out.extend_from_slice(b"NO ")?;
-            push_number(&mut out, u32::from(code.number()))?;
-            out.push(b' ')?;
-            push_name(&mut out, name)?;
-            out.push(b' ')?;
-            push_value(&mut out, value)?;
-        }
-        Reply::Bad(code) => {
-            out.extend_from_slice(b"BAD ")?;
-            push_number(&mut out, u32::from(*code))?;
-        }
-        Reply::Fail(outcome) => {
-            out.extend_from_slice(b"FAIL ")?;
-            out.extend_from_slice(outcome_word(*outcome))?;
-        }
-        Reply::Line(text) => {
-            out.extend_from_slice(b"LINE ")?;
-            out.extend_from_slice(text.as_bytes())?;
-        }
-        Reply::State {
-            name,
-            reports,
-            elements,
-            live,
-            id,
-        } => {
-            out.extend_from_slice(b"STATE ")?;
-            out.extend_from_slice(name.as_bytes())?;
-            out.push(b' ')?;
-            push_number(&mut out, *reports)?;
-            out.push(b' ')?;
-            push_number(&mut out, *elements)?;
-            out.push(b' ')?;
-            out.extend_from_slice(live_word(*live))?;
-            out.push(b' ')?;
-            out.extend_from_slice(id.as_bytes())?;
-        }
-        Reply::Settled { epoch, front } => {
-            out.extend_from_slice(b"SETTLED ")?;
-            push_number(&mut out, *epoch)?;
-            out.push(b' ')?;
-            push_number(&mut out, *front)?;
-        }
-        Reply::Bye => out.extend_from_slice(b"BYE")?,
-        Reply::Taken(_) => unreachable!(),
+    for piece in &reply_pieces(reply, b"") {
+        push_piece(&mut out, piece)?;
     }
     Ok(out)
 }

@@ -44,7 +44,7 @@ plain_names (Absorb r) is = (plain_name r is, tt)
 
 words_of_step : (line : List ℕ) (s : Step) → SpellsStep s line → words_in line ≡ step_words s
 words_of_step line s is =
-    ap words_in is.2 ∙ joined_words (act_word s.act) (s.process ∷ act_names s.act) (plain_word s.act, (plain_name s.process is.0, plain_names s.act is.1))
+    ap words_in is.2 ∙ joined_words (act_word s.request) (s.process ∷ act_names s.request) (plain_word s.request, (plain_name s.process is.0, plain_names s.request is.1))
 
 words_of_root : (line p : List ℕ) → SpellsRoot p line → words_in line ≡ root_words p
 words_of_root line p is = ap words_in is.1 ∙ joined_words (codes "root") (p ∷ []) ((refl, (refl, (refl, (refl, tt)))), (plain_name p is.0, tt))
@@ -63,7 +63,7 @@ found_root line None none = λ p is. none p (is.0, words_of_root line p is)
 
 -- ---- one step for each line
 
--- the first three letters of a word, by which the words of acts differ
+-- the first three letters of a word, by which the words of requests differ
 abbrev mark : List ℕ → ℕ
 mark [] = 0
 mark (x ∷ []) = 0
@@ -85,7 +85,7 @@ same_act (Absorb m) (Absorb n) k w e = ap Absorb (parts m n [] [] e).0
 same_act a b k w e = absurd (omega (arith, k))
 
 abbrev step : List ℕ → StepRequest → Step
-step p a = record { process = p; act = a }
+step p a = record { process = p; request = a }
 
 same_step : (p q : List ℕ) (a b : StepRequest) → p ≡ q → a ≡ b → step p a ≡ step q b
 same_step p q a b e f = cc
@@ -94,7 +94,7 @@ pub one_step : (line : List ℕ) (s t : Step) → SpellsStep s line → SpellsSt
 one_step line s t is also =
     let both = parts _ _ _ _ (sym (words_of_step line s is) ∙ words_of_step line t also) in
     let behind = parts _ _ _ _ both.1 in
-    same_step s.process t.process s.act t.act behind.0 (same_act s.act t.act (ap mark both.0) both.0 behind.1)
+    same_step s.process t.process s.request t.request behind.0 (same_act s.request t.request (ap mark both.0) both.0 behind.1)
 
 no_root_word : (a : StepRequest) → mark (codes "root") ≡ mark (act_word a) → ⊥
 no_root_word Work k = omega (arith, k)
@@ -109,7 +109,7 @@ no_root_word (Absorb r) k = omega (arith, k)
 pub root_or_step : (line p : List ℕ) (s : Step) → SpellsRoot p line → ¬ SpellsStep s line
 root_or_step line p s is also =
     let both = parts _ _ _ _ (sym (words_of_root line p is) ∙ words_of_step line s also) in
-    no_root_word s.act (ap mark both.0)
+    no_root_word s.request (ap mark both.0)
 
 -- ---- settlements
 
@@ -131,7 +131,7 @@ no_settle_word (Absorb r) k = omega (arith, k)
 pub settle_or_step : (line : List ℕ) (names : List (List ℕ)) (s : Step) → SpellsSettle names line → ¬ SpellsStep s line
 settle_or_step line names s is also =
     let both = parts _ _ _ _ (sym (words_of_settle line names is) ∙ words_of_step line s also) in
-    no_settle_word s.act (ap mark both.0)
+    no_settle_word s.request (ap mark both.0)
 
 no_root_there : mark (codes "settle") ≡ mark (codes "root") → ⊥
 no_root_there k = omega (arith, k)

@@ -162,7 +162,7 @@ step_told old new step given before after epoch (Ok u) takes is prints line spel
 step_told old new step given before after epoch (Err stop) takes is prints line spells =
     (prints.0, λ told so_far. subst (λ (s : Stop). StopTold (Some old) told line s) (sym prints.1) tt)
 
-pub step_refused : (old : Chronicle) (step : Step) (before : Printout) (fault : StepFault) → (fault ≢ faults.Memory → IsVerdict old.root old.history step.process step.act (Some fault))
+pub step_refused : (old : Chronicle) (step : Step) (before : Printout) (fault : StepFault) → (fault ≢ faults.Memory → IsVerdict old.root old.history step.process step.request (Some fault))
     → (line : List ℕ) → SpellsStep step line → StepTold old old before before line (Err (stops.Refused (Fault fault)))
 step_refused old step before fault refuses line spells = (refl, λ told so_far. inl (record { step = step; spells = spells; refuses = refuses }))
 

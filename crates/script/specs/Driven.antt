@@ -56,7 +56,7 @@ pub record RefusesSettle (world : Chronicle) (told : List Call) (line : List ℕ
 pub record RefusesStep (world : Chronicle) (line : List ℕ) (fault : StepFault) : Type 0 where
   pub step : Step
   pub spells : SpellsStep step line
-  pub refuses : fault ≢ faults.Memory → IsVerdict world.root world.history step.process step.act (Some fault)
+  pub refuses : fault ≢ faults.Memory → IsVerdict world.root world.history step.process step.request (Some fault)
 
 -- The world refuses the line that comes next: it is no step and no settlement, or this is why it is not taken. Want of memory may come
 -- in place of any fault, and of a beginning.

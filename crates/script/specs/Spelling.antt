@@ -7,7 +7,7 @@ use Rattle.driver.specs.declared.step.StepRequest.{StepRequest}
 use Rattle.driver.specs.declared.step.StepRequest.TheVariants.{Work, Check, Present, Send, Receive, Fork, Retire, Absorb}
 use Rattle.driver.specs.declared.step.Step.{Step}
 
--- the word that names an act
+-- the word that names a request
 abbrev pub act_word : StepRequest → List ℕ
 act_word Work = codes "work"
 act_word Check = codes "check"
@@ -29,7 +29,7 @@ act_names (Fork c) = c ∷ []
 act_names (Retire q) = q ∷ []
 act_names (Absorb r) = r ∷ []
 
--- what an act names is a name
+-- what a request names is a name
 abbrev pub HasNames : StepRequest → Type 0
 HasNames Work = ⊤
 HasNames Check = ⊤
@@ -42,7 +42,7 @@ HasNames (Absorb r) = IsTrue (is_name r)
 
 -- the words of the step
 abbrev pub step_words : Step → List (List ℕ)
-step_words s = act_word s.act ∷ s.process ∷ act_names s.act
+step_words s = act_word s.request ∷ s.process ∷ act_names s.request
 
 -- the words of the line that begins a world with this root
 abbrev pub root_words : List ℕ → List (List ℕ)
@@ -54,7 +54,7 @@ settle_words names = codes "settle" ∷ names_text names ∷ []
 
 -- the step is one of names, and this is its line: its words, parted by one space
 abbrev pub SpellsStep : Step → List ℕ → Type 0
-SpellsStep s line = IsTrue (is_name s.process) × HasNames s.act × (line ≡ join_with_byte 32 (step_words s))
+SpellsStep s line = IsTrue (is_name s.process) × HasNames s.request × (line ≡ join_with_byte 32 (step_words s))
 
 -- this is the line that begins a world with this root
 abbrev pub SpellsRoot : List ℕ → List ℕ → Type 0

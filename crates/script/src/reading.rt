@@ -20,7 +20,7 @@ fn last_name(words: &mut Words<'_>) -> Option<Name>
     if words.is_empty() { Some(name) } else { None }
 }
 
-// The act of this word and of the one name that is left.
+// The request of this word and of the one name that is left.
 fn read_named(kind: &[u8], words: &mut Words<'_>) -> Option<StepRequest>
     requires work { kind.now ≢ codes "work" }
     requires check { kind.now ≢ codes "check" }
@@ -45,15 +45,15 @@ fn read_named(kind: &[u8], words: &mut Words<'_>) -> Option<StepRequest>
     }
 }
 
-// This act, where no word is left.
-fn alone(act: StepRequest, words: &Words<'_>) -> Option<StepRequest>
-    ensures { MatchOption result (words.now ≢ []) (λ a. (a ≡ act) × (words.now ≡ [])) }
+// This request, where no word is left.
+fn alone(asked: StepRequest, words: &Words<'_>) -> Option<StepRequest>
+    ensures { MatchOption result (words.now ≢ []) (λ a. (a ≡ asked) × (words.now ≡ [])) }
 {
-    if words.is_empty() { Some(act) } else { None }
+    if words.is_empty() { Some(asked) } else { None }
 }
 
-// The act of this word and of the names that are left.
-fn read_act(kind: &[u8], words: &mut Words<'_>) -> Option<StepRequest>
+// The request of this word and of the names that are left.
+fn read_request(kind: &[u8], words: &mut Words<'_>) -> Option<StepRequest>
     ensures { FindsOne result (IsActOf kind.now words.old) }
 {
     if kind == b"work".as_slice() {
@@ -77,10 +77,10 @@ fn step_of(words: &mut Words<'_>) -> Option<Step>
     let Some(process) = take_name(words) else {
         return None;
     };
-    let Some(act) = read_act(kind, words) else {
+    let Some(request) = read_request(kind, words) else {
         return None;
     };
-    Some(Step { process, act })
+    Some(Step { process, request })
 }
 
 // The root of these words.

@@ -11,10 +11,10 @@ use Rattle.report_line.proofs.Streams.{cut_append}
 use Rattle.session.specs.Exchanges.{Exchange}
 use Rattle.session.specs.declared.kind.SessionEndKind.{SessionEndKind}
 use Rattle.session.specs.declared.kind.SessionEndKind.TheVariants as kinds
-use Rattle.client_link.specs.Links.{up, LinkState, IsSound, IsFault, IsHandOn}
+use Rattle.client_link.specs.Links.{up, LinkState, IsSound, IsFault, IsFlush}
 use Rattle.session.specs.SessionText.{Mean, NoBye, exchange_line, session_text, joined, most_reads, ServedOver, ending_line, ending_count, IsWhole, IsCutInReply, EndReason, Ends, AreNonEmptyReads, GaveAll}
-use Rattle.session.specs.declared.handing.HandOn.{HandOn}
-use Rattle.session.specs.declared.handing.HandOn.TheVariants as hand_ons
+use Rattle.session.specs.declared.flush_policy.FlushPolicy.{FlushPolicy}
+use Rattle.session.specs.declared.flush_policy.FlushPolicy.TheVariants as flush_policies
 use Rattle.session.specs.Ends.{IsReadAt, IsPrompt, EachHasGone, Leaves}
 use Rattle.session.specs.working.Parts.{AreLawful, IsSaid, FaultsAt, StepsTo, IsQuiet, GaveBy, StepsOn, Going, Closing, Closes, Ran}
 use Rattle.client_link.proofs.Sent.{appends_none, appends_then, sound_none, sound_then, fault_then}
@@ -87,7 +87,7 @@ prompt_then {K} told link pieces piece turned more before here =
 
 -- ---- one read after the other
 
-pub going_none : {S K : Type 0} (makes : S → List Exchange → S → Type 0) (grounds : S → ServedOver) (laws : AreLawful makes grounds) (told : K → LinkState) (when : HandOn) (link : K) (stand : Stand) (state : S) → stand ≡ Some [] → Going makes told when link link stand state state 0 0
+pub going_none : {S K : Type 0} (makes : S → List Exchange → S → Type 0) (grounds : S → ServedOver) (laws : AreLawful makes grounds) (told : K → LinkState) (when : FlushPolicy) (link : K) (stand : Stand) (state : S) → stand ≡ Some [] → Going makes told when link link stand state state 0 0
 unfolding cut_from
 going_none makes grounds laws told when link stand state new =
     rw new record {
@@ -110,12 +110,12 @@ going_none makes grounds laws told when link stand state new =
     }
 
 -- what a hand-on that succeeded leaves
-sound_hand_on : {E : Type 0} (old new : LinkState) (u : Unit {0}) → IsHandOn {E = E} old new (Ok u) → IsSound old new
+sound_hand_on : {E : Type 0} (old new : LinkState) (u : Unit {0}) → IsFlush {E = E} old new (Ok u) → IsSound old new
 sound_hand_on old new u hand = record { failures = hand.failures; stalls = hand.stalls; ended = hand.ended }
 
 -- the state in which the next read is made
-read_at : {S K E : Type 0} (makes : S → List Exchange → S → Type 0) (grounds : S → ServedOver) (laws : AreLawful makes grounds) (told : K → LinkState) (when : HandOn) (link now reading : K) (stand : Stand) (state mid : S) (reads count : ℕ) (u : Unit {0}) (more : List Exchange) → (s : Going makes told when link now stand state mid reads count)
-    → IsHandOn {E = E} (told now) (told reading) (Ok u) → IsReadAt told link (length s.pieces) (joined s.pieces) (s.turned ++ more)
+read_at : {S K E : Type 0} (makes : S → List Exchange → S → Type 0) (grounds : S → ServedOver) (laws : AreLawful makes grounds) (told : K → LinkState) (when : FlushPolicy) (link now reading : K) (stand : Stand) (state mid : S) (reads count : ℕ) (u : Unit {0}) (more : List Exchange) → (s : Going makes told when link now stand state mid reads count)
+    → IsFlush {E = E} (told now) (told reading) (Ok u) → IsReadAt told link (length s.pieces) (joined s.pieces) (s.turned ++ more)
 read_at makes grounds laws told when link now reading stand state mid reads count u more s hand =
     record {
       reading = reading;
@@ -149,8 +149,8 @@ stop_gave kinds.WriteFailed pieces piece gave g = all_more pieces piece gave g
 stop_gave kinds.Endless pieces piece gave g = all_more pieces piece gave g
 stop_gave kinds.Foreign pieces piece gave g = all_more pieces piece gave g
 
-pub going_on : {S K E : Type 0} (makes : S → List Exchange → S → Type 0) (grounds : S → ServedOver) (laws : AreLawful makes grounds) (told : K → LinkState) (when : HandOn) (link now reading next : K) (stand stand_after : Stand) (state mid after : S) (reads count more : ℕ) (u : Unit {0}) → Going makes told when link now stand state mid reads count
-    → IsHandOn {E = E} (told now) (told reading) (Ok u) → StepsOn makes grounds told when reading next stand stand_after mid after None more → Going makes told when link next stand_after state after (reads + 1) (count + more)
+pub going_on : {S K E : Type 0} (makes : S → List Exchange → S → Type 0) (grounds : S → ServedOver) (laws : AreLawful makes grounds) (told : K → LinkState) (when : FlushPolicy) (link now reading next : K) (stand stand_after : Stand) (state mid after : S) (reads count more : ℕ) (u : Unit {0}) → Going makes told when link now stand state mid reads count
+    → IsFlush {E = E} (told now) (told reading) (Ok u) → StepsOn makes grounds told when reading next stand stand_after mid after None more → Going makes told when link next stand_after state after (reads + 1) (count + more)
 going_on makes grounds laws told when link now reading next stand stand_after state mid after reads count more u s hand on =
     let t = on.steps in
     let cut = cut_more s.pieces t.piece stand s.stands in
@@ -194,7 +194,7 @@ LeftBy kinds.WriteFailed old now = IsFault old now
 LeftBy _ old now = IsSound old now
 
 -- a session before its ending line
-pub record Stopping {S K : Type 0} (makes : S → List Exchange → S → Type 0) (grounds : S → ServedOver) (told : K → LinkState) (when : HandOn) (link now : K) (state after : S) (kind : SessionEndKind) (count : ℕ) : Type 0 where
+pub record Stopping {S K : Type 0} (makes : S → List Exchange → S → Type 0) (grounds : S → ServedOver) (told : K → LinkState) (when : FlushPolicy) (link now : K) (state after : S) (kind : SessionEndKind) (count : ℕ) : Type 0 where
   pub pieces : List (List ℕ)
   pub front : List (List ℕ)
   pub later : List (List ℕ)
@@ -209,7 +209,7 @@ pub record Stopping {S K : Type 0} (makes : S → List Exchange → S → Type 0
   pub reads : (told now).reads ≡ up (length pieces) (told link).reads
   pub few : length pieces ≤ most_reads
   pub prompt : IsPrompt told link pieces turned
-  pub gone : when ≡ hand_ons.EachReply → EachHasGone told link turned count
+  pub gone : when ≡ flush_policies.EachReply → EachHasGone told link turned count
   pub leaves : LeftBy kind (told link) (told now)
   pub gave : GaveAll kind pieces
 
@@ -250,8 +250,8 @@ quiet_end kind old now nothing quiet is = let q = rw is at quiet in (q.0 ∙ not
 quiet_failed : (kind : SessionEndKind) (old now : LinkState) → old.waiting ≡ [] → IsQuiet (Some kind) old now → kind ≡ kinds.ReadFailed → now.waiting ≡ []
 quiet_failed kind old now nothing quiet is = let q = rw is at quiet in q ∙ nothing
 
-pub stopping : {S K E : Type 0} (makes : S → List Exchange → S → Type 0) (grounds : S → ServedOver) (laws : AreLawful makes grounds) (told : K → LinkState) (when : HandOn) (link now reading next : K) (kind : SessionEndKind) (stand stand_after : Stand) (state mid after : S) (reads count more : ℕ) (u : Unit {0}) → reads < most_reads
-    → Going makes told when link now stand state mid reads count → IsHandOn {E = E} (told now) (told reading) (Ok u) → StepsOn makes grounds told when reading next stand stand_after mid after (Some kind) more
+pub stopping : {S K E : Type 0} (makes : S → List Exchange → S → Type 0) (grounds : S → ServedOver) (laws : AreLawful makes grounds) (told : K → LinkState) (when : FlushPolicy) (link now reading next : K) (kind : SessionEndKind) (stand stand_after : Stand) (state mid after : S) (reads count more : ℕ) (u : Unit {0}) → reads < most_reads
+    → Going makes told when link now stand state mid reads count → IsFlush {E = E} (told now) (told reading) (Ok u) → StepsOn makes grounds told when reading next stand stand_after mid after (Some kind) more
     → Stopping makes grounds told when link next state after kind (count + more)
 stopping makes grounds laws told when link now reading next kind stand stand_after state mid after reads count more u few s hand on =
     let t = on.steps in
@@ -282,7 +282,7 @@ stopping makes grounds laws told when link now reading next kind stand stand_aft
     }
 
 -- all lines of all reads were answered
-said_all : {S K : Type 0} (makes : S → List Exchange → S → Type 0) (grounds : S → ServedOver) (laws : AreLawful makes grounds) (told : K → LinkState) (when : HandOn) (link now : K) (stand : Stand) (state after : S) (reads count : ℕ) (kind : SessionEndKind) → (s : Going makes told when link now stand state after reads count) → reads ≤ most_reads
+said_all : {S K : Type 0} (makes : S → List Exchange → S → Type 0) (grounds : S → ServedOver) (laws : AreLawful makes grounds) (told : K → LinkState) (when : FlushPolicy) (link now : K) (stand : Stand) (state after : S) (reads count : ℕ) (kind : SessionEndKind) → (s : Going makes told when link now stand state after reads count) → reads ≤ most_reads
     → StopsTo kind (grounds state) s.pieces (cut_of (joined s.pieces)).1 (cut_of (joined s.pieces)).0 [] s.turned (session_text s.turned) count → LeftBy kind (told link) (told now) → GaveAll kind s.pieces → Stopping makes grounds told when link now state after kind count
 said_all makes grounds laws told when link now stand state after reads count kind s few how leaves gave =
     record {
@@ -305,7 +305,7 @@ said_all makes grounds laws told when link now stand state after reads count kin
       gave = gave;
     }
 
-pub stopping_endless : {S K : Type 0} (makes : S → List Exchange → S → Type 0) (grounds : S → ServedOver) (laws : AreLawful makes grounds) (told : K → LinkState) (when : HandOn) (link now : K) (stand : Stand) (state after : S) (reads count : ℕ) → reads ≡ most_reads → Going makes told when link now stand state after reads count
+pub stopping_endless : {S K : Type 0} (makes : S → List Exchange → S → Type 0) (grounds : S → ServedOver) (laws : AreLawful makes grounds) (told : K → LinkState) (when : FlushPolicy) (link now : K) (stand : Stand) (state after : S) (reads count : ℕ) → reads ≡ most_reads → Going makes told when link now stand state after reads count
     → Stopping makes grounds told when link now state after kinds.Endless count
 stopping_endless makes grounds laws told when link now stand state after reads count all s =
     said_all makes grounds laws told when link now stand state after reads count kinds.Endless s (omega arith)
@@ -329,12 +329,12 @@ ends_by kinds.Endless grounds pieces stand front later turned text count reached
 ends_by kinds.Foreign grounds pieces stand front later turned text count reached whole = (reached, whole)
 
 -- how it ended, and what the link tells then
-pub record Finished {S K : Type 0} (makes : S → List Exchange → S → Type 0) (grounds : S → ServedOver) (told : K → LinkState) (when : HandOn) (link final : K) (state after : S) (end : SessionEndKind) (total : ℕ) : Type 0 where
+pub record Finished {S K : Type 0} (makes : S → List Exchange → S → Type 0) (grounds : S → ServedOver) (told : K → LinkState) (when : FlushPolicy) (link final : K) (state after : S) (end : SessionEndKind) (total : ℕ) : Type 0 where
   pub ended : Ran makes grounds told when link final state after end total
   pub leaves : Leaves end (told link) (told final)
 
 -- behind a session that stopped so, this more was written, and that is how it ends
-ended_then : {S K : Type 0} (makes : S → List Exchange → S → Type 0) (grounds : S → ServedOver) (laws : AreLawful makes grounds) (told : K → LinkState) (when : HandOn) (link now final : K) (state after : S) (kind end : SessionEndKind) (count total : ℕ) (more : List ℕ) → (s : Stopping makes grounds told when link now state after kind count) → GaveAll end s.pieces → (length s.turned ≤ total → length s.turned ≤ count)
+ended_then : {S K : Type 0} (makes : S → List Exchange → S → Type 0) (grounds : S → ServedOver) (laws : AreLawful makes grounds) (told : K → LinkState) (when : FlushPolicy) (link now final : K) (state after : S) (kind end : SessionEndKind) (count total : ℕ) (more : List ℕ) → (s : Stopping makes grounds told when link now state after kind count) → GaveAll end s.pieces → (length s.turned ≤ total → length s.turned ≤ count)
     → Ends end (grounds state) s.pieces (cut_of (joined s.pieces)).1 s.front s.later s.turned (s.text ++ more) total → Appends (told now).held (told final).held more → (told final).left ≡ (told now).left → (told final).reads ≡ (told now).reads
     → Ran makes grounds told when link final state after end total
 ended_then makes grounds laws told when link now final state after kind end count total more s gave counted ends sent left reads =
@@ -353,14 +353,14 @@ ended_then makes grounds laws told when link now final state after kind end coun
     }
 
 -- nothing more was written
-ended_so : {S K : Type 0} (makes : S → List Exchange → S → Type 0) (grounds : S → ServedOver) (laws : AreLawful makes grounds) (told : K → LinkState) (when : HandOn) (link now final : K) (state after : S) (kind : SessionEndKind) (count : ℕ) → (s : Stopping makes grounds told when link now state after kind count)
+ended_so : {S K : Type 0} (makes : S → List Exchange → S → Type 0) (grounds : S → ServedOver) (laws : AreLawful makes grounds) (told : K → LinkState) (when : FlushPolicy) (link now final : K) (state after : S) (kind : SessionEndKind) (count : ℕ) → (s : Stopping makes grounds told when link now state after kind count)
     → Ends kind (grounds state) s.pieces (cut_of (joined s.pieces)).1 s.front s.later s.turned s.text count → told final ≡ told now → Ran makes grounds told when link final state after kind count
 ended_so makes grounds laws told when link now final state after kind count s ends same =
     ended_then makes grounds laws told when link now final state after kind kind count count [] s s.gave (λ all. all)
     (subst (λ (l : List ℕ). Ends kind (grounds state) s.pieces (cut_of (joined s.pieces)).1 s.front s.later s.turned l count) (sym (append-nil s.text)) ends)
     (subst (λ (h : Option (List ℕ)). Appends (told now).held h []) (sym (ap (λ (x : LinkState). x.held) same)) (appends_none (told now).held)) (ap (λ (x : LinkState). x.left) same) (ap (λ (x : LinkState). x.reads) same)
 
-closed_by : {S K : Type 0} (makes : S → List Exchange → S → Type 0) (grounds : S → ServedOver) (laws : AreLawful makes grounds) (told : K → LinkState) (when : HandOn) (link now final : K) (state after : S) (kind end : SessionEndKind) (count total : ℕ) → (s : Stopping makes grounds told when link now state after kind count)
+closed_by : {S K : Type 0} (makes : S → List Exchange → S → Type 0) (grounds : S → ServedOver) (laws : AreLawful makes grounds) (told : K → LinkState) (when : FlushPolicy) (link now final : K) (state after : S) (kind end : SessionEndKind) (count total : ℕ) → (s : Stopping makes grounds told when link now state after kind count)
     → EndReason kind (grounds state) s.pieces (cut_of (joined s.pieces)).1 s.front s.later s.turned × IsSaid s.turned s.text count → IsSound (told link) (told now) → (IsSound (told link) (told final) → (told final).waiting ≡ [] → Leaves kind (told link) (told final))
     → (GaveAll kind s.pieces → AreNonEmptyReads s.pieces) → Closing kind (told now) (told final) count end total → Finished makes grounds told when link final state after end total
 closed_by makes grounds laws told when link now final state after kind end count total s how sound leaves plain c = elim c.closed [
@@ -386,7 +386,7 @@ said_whole turned text count said = (said.0 ∙ sym (append-nil (session_text tu
 same_leaves : (kind : SessionEndKind) (old now final : LinkState) → final ≡ now → Leaves kind old now → Leaves kind old final
 same_leaves kind old now final same leaves = subst (λ (x : LinkState). Leaves kind old x) (sym same) leaves
 
-pub finished : {S K : Type 0} (makes : S → List Exchange → S → Type 0) (grounds : S → ServedOver) (laws : AreLawful makes grounds) (told : K → LinkState) (when : HandOn) (link now final : K) (state after : S) (kind end : SessionEndKind) (count total : ℕ) → Stopping makes grounds told when link now state after kind count
+pub finished : {S K : Type 0} (makes : S → List Exchange → S → Type 0) (grounds : S → ServedOver) (laws : AreLawful makes grounds) (told : K → LinkState) (when : FlushPolicy) (link now final : K) (state after : S) (kind end : SessionEndKind) (count total : ℕ) → Stopping makes grounds told when link now state after kind count
     → Closes kind (told now) (told final) count end total → Finished makes grounds told when link final state after end total
 finished makes grounds laws told when link now final state after kinds.End end count total s c =
     rw (c.0, c.1) record {
@@ -411,8 +411,8 @@ finished makes grounds laws told when link now final state after kinds.Endless e
 finished makes grounds laws told when link now final state after kinds.Foreign end count total s c = closed_by makes grounds laws told when link now final state after kinds.Foreign end count total s s.how s.leaves (λ sound nothing. (sound, nothing)) (λ g. g) c
 
 -- what was written could not be handed on before a read
-pub not_handed_on : {S K E : Type 0} (makes : S → List Exchange → S → Type 0) (grounds : S → ServedOver) (laws : AreLawful makes grounds) (told : K → LinkState) (when : HandOn) (link now final : K) (stand : Stand) (state after : S) (reads count : ℕ) (e : E) → reads ≤ most_reads → Going makes told when link now stand state after reads count
-    → IsHandOn (told now) (told final) (Err e) → Finished makes grounds told when link final state after kinds.WriteFailed count
+pub not_handed_on : {S K E : Type 0} (makes : S → List Exchange → S → Type 0) (grounds : S → ServedOver) (laws : AreLawful makes grounds) (told : K → LinkState) (when : FlushPolicy) (link now final : K) (stand : Stand) (state after : S) (reads count : ℕ) (e : E) → reads ≤ most_reads → Going makes told when link now stand state after reads count
+    → IsFlush (told now) (told final) (Err e) → Finished makes grounds told when link final state after kinds.WriteFailed count
 not_handed_on makes grounds laws told when link now final stand state after reads count e few s hand =
     let all : EndReason kinds.End (grounds state) s.pieces (cut_of (joined s.pieces)).1 (cut_of (joined s.pieces)).0 [] s.turned = (s.no_bye, refl, subst (λ (x : Stand). IsSome x) (sym s.stands) s.is_open) in
     record {

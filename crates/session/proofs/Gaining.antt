@@ -8,7 +8,7 @@ use Rattle.std.proofs.lemmas.Option.{same_Some}
 use Rattle.chains.proofs.Showing.{get_behind}
 use Rattle.line_disk.specs.Disk.{View}
 use Rattle.coordinator.specs.Passes.{PassEntry, PassState, LastShown, last_turn}
-use Rattle.coordinator.specs.Standing.{IsMade}
+use Rattle.coordinator.specs.Standing.{IsStandingTurn}
 use Rattle.coordinator.specs.Calls.{IsForeignOnly}
 use Rattle.coordinator.specs.declared.fault.CallFault.{CallFault}
 use Rattle.coordinator.specs.declared.fault.CallFault.TheVariants as refused
@@ -20,7 +20,7 @@ use Rattle.report_line.specs.Replies.{reply_text}
 use Rattle.session.specs.Exchanges.{Exchange}
 use Rattle.session.specs.declared.kind.SessionEndKind.{SessionEndKind}
 use Rattle.session.specs.declared.kind.SessionEndKind.TheVariants as kinds
-use Rattle.session.specs.declared.handing.HandOn.TheVariants as hand_ons
+use Rattle.session.specs.declared.flush_policy.FlushPolicy.TheVariants as flush_policies
 use Rattle.client_link.specs.Links.{LinkState, IsEnd, Puts}
 use Rattle.session.specs.SessionText.{Means, joined, at_pass, IsForeign}
 use Rattle.session.specs.Ends.{Leaves}
@@ -51,8 +51,8 @@ module _ {D : Type 0} (keeps : D → Type 0) (view : D → View) where
       }
 
   -- one entry more
-  pub gains_one : (old new : PassState) (call : Call) → (a : IsMade keeps view old call new) → GainsEach keeps view old (exchange_of a.entry ∷ []) new
-  gains_one old new call a = (new, (subst (λ (c : Call). (made : IsMade keeps view old c new) × (exchange_of a.entry ≡ exchange_of made.entry)) (sym a.one.call_is) (a, refl)), refl)
+  pub gains_one : (old new : PassState) (call : Call) → (a : IsStandingTurn keeps view old call new) → GainsEach keeps view old (exchange_of a.entry ∷ []) new
+  gains_one old new call a = (new, (subst (λ (c : Call). (made : IsStandingTurn keeps view old c new) × (exchange_of a.entry ≡ exchange_of made.entry)) (sym a.one.call_is) (a, refl)), refl)
 
 -- why a call made no turn
 some_seen : (front seen turns last : ℕ) (entries : List PassEntry) → last ≡ last_turn entries → (front < seen) ⊎ (turns < last) → (0 < seen) ⊎ (entries ≢ [])
@@ -87,22 +87,22 @@ puts_last entries old new result shown is puts before last at =
 
 module _ {D : Type 0} (keeps : D → Type 0) (view : D → View) where
   -- a pass that was answered has an entry
-  pub some_entries : (old new : PassState) (call : Call) → IsMade keeps view old call new → new.entries ≢ []
+  pub some_entries : (old new : PassState) (call : Call) → IsStandingTurn keeps view old call new → new.entries ≢ []
   some_entries old new call a none = absurd (let n = ap length (sym a.one.entries ∙ none) in let m = length-append old.entries (a.entry ∷ []) in omega arith)
 
   -- a call that was answered, and whose reply was written whole, and was no bye, or was one
-  pub answered_on : {E : Type 0} (old new : LinkState) (line : List ℕ) (pass after : PassState) (call : Call) (u : Unit {0}) → Means line call → IsMade keeps view pass call after → PutsLast {E = E} after.entries old new (Ok u) → ¬ (call ≡ calls.Bye)
+  pub answered_on : {E : Type 0} (old new : LinkState) (line : List ℕ) (pass after : PassState) (call : Call) (u : Unit {0}) → Means line call → IsStandingTurn keeps view pass call after → PutsLast {E = E} after.entries old new (Ok u) → ¬ (call ≡ calls.Bye)
       → Serves (GainsEach keeps view) at_pass old new (line ∷ []) pass after None 1
   answered_on old new line pass after call u means a puts on =
       said_on (GainsEach keeps view) at_pass (pass_lawful keeps view) old new line pass after (exchange_of a.entry) u (subst (Means line) (sym a.one.call_is) means) (gains_one keeps view pass after call a) (puts pass.entries a.entry a.one.entries) (λ bye. on (sym a.one.call_is ∙ bye))
 
-  pub answered_bye : {E : Type 0} (old new : LinkState) (line : List ℕ) (pass after : PassState) (call : Call) (u : Unit {0}) → Means line call → IsMade keeps view pass call after → PutsLast {E = E} after.entries old new (Ok u) → call ≡ calls.Bye
+  pub answered_bye : {E : Type 0} (old new : LinkState) (line : List ℕ) (pass after : PassState) (call : Call) (u : Unit {0}) → Means line call → IsStandingTurn keeps view pass call after → PutsLast {E = E} after.entries old new (Ok u) → call ≡ calls.Bye
       → Serves (GainsEach keeps view) at_pass old new (line ∷ []) pass after (Some kinds.Bye) 1
   answered_bye old new line pass after call u means a puts bye =
       said_bye (GainsEach keeps view) at_pass (pass_lawful keeps view) old new line pass after (exchange_of a.entry) u (subst (Means line) (sym a.one.call_is) means) (gains_one keeps view pass after call a) (puts pass.entries a.entry a.one.entries) (a.one.call_is ∙ bye)
 
   -- and whose reply was cut
-  pub answered_part : {E : Type 0} (old new : LinkState) (line : List ℕ) (pass after : PassState) (call : Call) (fault : E) → Means line call → IsMade keeps view pass call after → PutsLast after.entries old new (Err fault)
+  pub answered_part : {E : Type 0} (old new : LinkState) (line : List ℕ) (pass after : PassState) (call : Call) (fault : E) → Means line call → IsStandingTurn keeps view pass call after → PutsLast after.entries old new (Err fault)
       → Serves (GainsEach keeps view) at_pass old new (line ∷ []) pass after (Some kinds.WriteFailed) 0
   answered_part old new line pass after call fault means a puts =
       said_part (GainsEach keeps view) at_pass (pass_lawful keeps view) old new line pass after (exchange_of a.entry) fault (subst (Means line) (sym a.one.call_is) means) (gains_one keeps view pass after call a) (puts pass.entries a.entry a.one.entries)
@@ -124,7 +124,7 @@ module _ {D : Type 0} (keeps : D → Type 0) (view : D → View) where
       }
 
   -- what ran over a pass
-  pub link_served : {K : Type 0} (told : K → LinkState) (link final now : K) (pass after : PassState) (kind : SessionEndKind) (count : ℕ) → Ran (GainsEach keeps view) at_pass told hand_ons.EachReply link final pass after kind count → Leaves kind (told link) (told final) → IsEnd (told final) (told now)
+  pub link_served : {K : Type 0} (told : K → LinkState) (link final now : K) (pass after : PassState) (kind : SessionEndKind) (count : ℕ) → Ran (GainsEach keeps view) at_pass told flush_policies.EachReply link final pass after kind count → Leaves kind (told link) (told final) → IsEnd (told final) (told now)
       → LinkServed keeps view told link now pass after kind count
   link_served told link final now pass after kind count r leaves ends =
       record {

@@ -5,9 +5,9 @@ use Rattle.id_tree.specs.IdTree.{One}
 use Rattle.event_tree.specs.EventTree.{Leaf}
 use Rattle.record_file.specs.File.{Said}
 use Rattle.report_line.specs.declared.report.ReportKind.TheVariants as reported
-use Rattle.law_histories.specs.Example.{a, b, right, halves}
-use Rattle.law_admission.proofs.Example.{line, name_a, name_b, one, on_left, on_right, leaf, halved}
-use Rattle.law_lines.specs.Example.{forked}
+use Rattle.law_histories.specs.Example.{a, b, right, halves, forked}
+use Rattle.law_histories.proofs.ExampleForms.{name_a, name_b, on_one, on_left, on_right, flat, halved}
+use Rattle.law_admission.proofs.Example.{line}
 use Rattle.chains.specs.Held.{Held, counting}
 use Rattle.chains.proofs.Unfailing.{stays_stopped}
 use Rattle.law_turns.specs.Traces.{Trace, Stepped, Turned, AreTurns}
@@ -43,15 +43,15 @@ can_be_recorded : AreRecordable settled_once
 can_be_recorded = (
   λ uses. (refl, name_a),
   (
-    λ uses. line a 1 One (Leaf 1) reported.Check name_a (omega arith, omega arith) one (leaf 1 (omega arith)) tt,
+    λ uses. line a 1 One (Leaf 1) reported.Check name_a (omega arith, omega arith) on_one (flat 1 (omega arith)) tt,
     (
-      λ uses. line a 2 One (Leaf 2) reported.Present name_a (omega arith, omega arith) one (leaf 2 (omega arith)) tt,
+      λ uses. line a 2 One (Leaf 2) reported.Present name_a (omega arith, omega arith) on_one (flat 2 (omega arith)) tt,
       (
         λ uses. ((omega arith, omega arith), (name_a, tt)),
         (
           λ uses. absurd uses,
           (
-            λ uses. line a 2 One (Leaf 2) (forked b) name_a (omega arith, omega arith) one (leaf 2 (omega arith)) (on_left, name_b, on_right),
+            λ uses. line a 2 One (Leaf 2) (forked b) name_a (omega arith, omega arith) on_one (flat 2 (omega arith)) (on_left, name_b, on_right),
             (λ uses. line b 1 right (halves 2 0 1) reported.Check name_b (omega arith, omega arith) on_right (halved 2 0 1 refl refl (omega arith)) tt, (tt, tt)),
           ),
         ),

@@ -13,7 +13,7 @@ use Rattle.report_line.specs.declared.call.Call.{Call}
 use Rattle.report_line.specs.declared.call.Call.TheVariants as calls
 use Rattle.session.specs.Exchanges.{Exchange}
 use Rattle.session.specs.declared.kind.SessionEndKind.{SessionEndKind}
-use Rattle.session.specs.declared.handing.HandOn.{HandOn}
+use Rattle.session.specs.declared.flush_policy.FlushPolicy.{FlushPolicy}
 use Rattle.client_link.specs.Links.{LinkState}
 use Rattle.session.specs.SessionText.{Means, IsQuestion, ServedOver, at_desk}
 use Rattle.session.specs.Turned.{AreExchanges, EachLineIsChosen, turns_of, MakesTurns}
@@ -104,7 +104,7 @@ none_said {D} keeps s line desk after call refusals.Memory means same none =
     (record { line = line; later = []; call = call; lines_are = refl; means = means; question = asks_state desk.held call none.1 }, λ worn. none.0 (omega (arith, worn)))
 
 -- what ran over a desk
-pub ended_at_desk : {D K : Type 0} (keeps : D → Type 0) (told : K → LinkState) (when : HandOn) (link final : K) (desk after : DeskState D) (kind : SessionEndKind) (count : ℕ) → IsReached desk.held
+pub ended_at_desk : {D K : Type 0} (keeps : D → Type 0) (told : K → LinkState) (when : FlushPolicy) (link final : K) (desk after : DeskState D) (kind : SessionEndKind) (count : ℕ) → IsReached desk.held
     → Ran (MakesTurns keeps) (λ (d : DeskState D). at_desk (length d.turns)) told when link final desk after kind count → Ended keeps told when link final desk after kind count
 ended_at_desk keeps told when link final desk after kind count reach r =
     record {

@@ -8,10 +8,10 @@ use Rattle.report_line.specs.declared.call.Call.TheVariants as calls
 use Rattle.session.specs.Exchanges.{Exchange}
 use Rattle.session.specs.declared.kind.SessionEndKind.{SessionEndKind}
 use Rattle.session.specs.declared.kind.SessionEndKind.TheVariants as kinds
-use Rattle.session.specs.declared.handing.HandOn.{HandOn}
-use Rattle.client_link.specs.Links.{LinkState, IsSound, IsHandOn, Puts}
+use Rattle.session.specs.declared.flush_policy.FlushPolicy.{FlushPolicy}
+use Rattle.client_link.specs.Links.{LinkState, IsSound, IsFlush, Puts}
 use Rattle.session.specs.SessionText.{Means, Mean, ServedOver, IsWorn, IsUnmade, IsForeign, exchange_line, session_text}
-use Rattle.session.specs.working.Parts.{AreLawful, IsSaid, HowFar, FaultsAt, Serves, HandsOn, ServesLines, one_reply}
+use Rattle.session.specs.working.Parts.{AreLawful, IsSaid, HowFar, FaultsAt, Serves, Flushes, ServesLines, one_reply}
 use Rattle.client_link.proofs.Sent.{appends_none, appends_keeps, appends_then, sound_none, sound_then, fault_then}
 use Rattle.session.proofs.ServedTurns.{mean_then, mean_length, far_then}
 use Rattle.session.specs.Ends.{HaveGone}
@@ -238,7 +238,7 @@ pub some_none : {X : Type 0} {x : X} → ¬ (Some x ≡ None)
 some_none e = cc
 
 -- a reply that was handed on behind its line: all else is as it was
-handed : {S E : Type 0} (makes : S → List Exchange → S → Type 0) (grounds : S → ServedOver) (old mid new : LinkState) (lines : List (List ℕ)) (state after : S) (end : Option SessionEndKind) (n : ℕ) (u : Unit {0}) → one_reply end ≡ 1 → Serves makes grounds old mid lines state after end n → IsHandOn {E = E} mid new (Ok u)
+handed : {S E : Type 0} (makes : S → List Exchange → S → Type 0) (grounds : S → ServedOver) (old mid new : LinkState) (lines : List (List ℕ)) (state after : S) (end : Option SessionEndKind) (n : ℕ) (u : Unit {0}) → one_reply end ≡ 1 → Serves makes grounds old mid lines state after end n → IsFlush {E = E} mid new (Ok u)
     → Serves makes grounds old new lines state after end n
 handed makes grounds old mid new lines state after end n u one s hand =
     record {
@@ -257,7 +257,7 @@ handed makes grounds old mid new lines state after end n u one s hand =
     }
 
 -- a reply that could not be handed on
-not_handed : {S E : Type 0} (makes : S → List Exchange → S → Type 0) (grounds : S → ServedOver) (old mid new : LinkState) (line : List ℕ) (state after : S) (end : Option SessionEndKind) (e : E) → one_reply end ≡ 1 → Serves makes grounds old mid (line ∷ []) state after end 1 → IsHandOn mid new (Err e)
+not_handed : {S E : Type 0} (makes : S → List Exchange → S → Type 0) (grounds : S → ServedOver) (old mid new : LinkState) (line : List ℕ) (state after : S) (end : Option SessionEndKind) (e : E) → one_reply end ≡ 1 → Serves makes grounds old mid (line ∷ []) state after end 1 → IsFlush mid new (Err e)
     → Serves makes grounds old new (line ∷ []) state after (Some kinds.WriteFailed) 0
 not_handed makes grounds old mid new line state after end e one s hand =
     let said = said_of end (grounds state) s.later s.turned s.text 1 one s.how in
@@ -282,8 +282,8 @@ few_turned : (front later : List (List ℕ)) (line : List ℕ) (turned : List Ex
 few_turned front later line turned parts mean = omega (arith, ap length parts, length-append front later, mean_length front turned mean)
 
 -- one line, whose reply was handed on where each is
-pub line_served : {S K : Type 0} (makes : S → List Exchange → S → Type 0) (grounds : S → ServedOver) (told : K → LinkState) (when : HandOn) (old mid new : K) (line : List ℕ) (state after : S) (end result : Option SessionEndKind) → Serves makes grounds (told old) (told mid) (line ∷ []) state after end (one_reply end)
-    → HandsOn when end (told mid) (told new) result → ServesLines makes grounds told when old new (line ∷ []) state after result (one_reply result)
+pub line_served : {S K : Type 0} (makes : S → List Exchange → S → Type 0) (grounds : S → ServedOver) (told : K → LinkState) (when : FlushPolicy) (old mid new : K) (line : List ℕ) (state after : S) (end result : Option SessionEndKind) → Serves makes grounds (told old) (told mid) (line ∷ []) state after end (one_reply end)
+    → Flushes when end (told mid) (told new) result → ServesLines makes grounds told when old new (line ∷ []) state after result (one_reply result)
 line_served makes grounds told when old mid new line state after end result s (inl none) =
     let served : Serves makes grounds (told old) (told new) (line ∷ []) state after end (one_reply end) = subst (λ (x : LinkState). Serves makes grounds (told old) x (line ∷ []) state after end (one_reply end)) (sym none.2) s in
     rw none.1 record {
@@ -315,11 +315,11 @@ line_served makes grounds told when old mid new line state after end result s (i
 
 -- ---- a loop over lines, each reply handed on where that is wanted
 
-pub lines_none : {S K : Type 0} (makes : S → List Exchange → S → Type 0) (grounds : S → ServedOver) (laws : AreLawful makes grounds) (told : K → LinkState) (when : HandOn) (link : K) (state : S) → ServesLines makes grounds told when link link [] state state None 0
+pub lines_none : {S K : Type 0} (makes : S → List Exchange → S → Type 0) (grounds : S → ServedOver) (laws : AreLawful makes grounds) (told : K → LinkState) (when : FlushPolicy) (link : K) (state : S) → ServesLines makes grounds told when link link [] state state None 0
 lines_none makes grounds laws told when link state =
     record { served = serves_none makes grounds laws (told link) state; gone = λ each rests. nothing_gone told link 0; rests = λ each rests goes. rests }
 
-lines_then : {S K : Type 0} (makes : S → List Exchange → S → Type 0) (grounds : S → ServedOver) (laws : AreLawful makes grounds) (told : K → LinkState) (when : HandOn) (end : Option SessionEndKind) (old mid new : K) (lines more later : List (List ℕ)) (state now after : S) (m n : ℕ) → ServesLines makes grounds told when old mid lines state now None m
+lines_then : {S K : Type 0} (makes : S → List Exchange → S → Type 0) (grounds : S → ServedOver) (laws : AreLawful makes grounds) (told : K → LinkState) (when : FlushPolicy) (end : Option SessionEndKind) (old mid new : K) (lines more later : List (List ℕ)) (state now after : S) (m n : ℕ) → ServesLines makes grounds told when old mid lines state now None m
     → ServesLines makes grounds told when mid new more now after end n → (end ≡ None → later ≡ []) → ServesLines makes grounds told when old new (lines ++ (more ++ later)) state after end (m + n)
 lines_then makes grounds laws told when end old mid new lines more later state now after m n s t none =
     let first = s.served in
@@ -330,7 +330,7 @@ lines_then makes grounds laws told when end old mid new lines more later state n
     }
 
 -- the line at an index, where those before it were answered, and it is the last that is served
-pub lines_to : {S K : Type 0} (makes : S → List Exchange → S → Type 0) (grounds : S → ServedOver) (laws : AreLawful makes grounds) (told : K → LinkState) (when : HandOn) (end : Option SessionEndKind) (old mid new : K) (lines : List (List ℕ)) (i : ℕ) (line : List ℕ) (state now after : S) (m n : ℕ) → slice_get lines i ≡ Some line
+pub lines_to : {S K : Type 0} (makes : S → List Exchange → S → Type 0) (grounds : S → ServedOver) (laws : AreLawful makes grounds) (told : K → LinkState) (when : FlushPolicy) (end : Option SessionEndKind) (old mid new : K) (lines : List (List ℕ)) (i : ℕ) (line : List ℕ) (state now after : S) (m n : ℕ) → slice_get lines i ≡ Some line
     → ServesLines makes grounds told when old mid (take i lines) state now None m → ServesLines makes grounds told when mid new (line ∷ []) now after end n → ¬ (end ≡ None) → ServesLines makes grounds told when old new lines state after end (m + n)
 lines_to makes grounds laws told when end old mid new lines i line state now after m n at s t stops =
     let is : line ≡ get_or lines i line = sym (get_or_from_slice_get lines i line line at) in
@@ -340,7 +340,7 @@ lines_to makes grounds laws told when end old mid new lines i line state now aft
     (lines_then makes grounds laws told when end old mid new (take i lines) (line ∷ []) (drop (i + 1) lines) state now after m n s t (λ none. absurd (stops none)))
 
 -- the line at an index, where those before it were answered, and it was too
-pub lines_on : {S K : Type 0} (makes : S → List Exchange → S → Type 0) (grounds : S → ServedOver) (laws : AreLawful makes grounds) (told : K → LinkState) (when : HandOn) (old mid new : K) (lines : List (List ℕ)) (i : ℕ) (line : List ℕ) (state now after : S) (m n : ℕ) → slice_get lines i ≡ Some line
+pub lines_on : {S K : Type 0} (makes : S → List Exchange → S → Type 0) (grounds : S → ServedOver) (laws : AreLawful makes grounds) (told : K → LinkState) (when : FlushPolicy) (old mid new : K) (lines : List (List ℕ)) (i : ℕ) (line : List ℕ) (state now after : S) (m n : ℕ) → slice_get lines i ≡ Some line
     → ServesLines makes grounds told when old mid (take i lines) state now None m → ServesLines makes grounds told when mid new (line ∷ []) now after None n → ServesLines makes grounds told when old new (take (i + 1) lines) state after None (m + n)
 lines_on makes grounds laws told when old mid new lines i line state now after m n at s t =
     let is : line ≡ get_or lines i line = sym (get_or_from_slice_get lines i line line at) in

@@ -9,7 +9,7 @@ use Rattle.session.specs.declared.kind.SessionEndKind.TheVariants as kinds
 use Rattle.client_link.specs.Links.{LinkState, IsRead}
 use Rattle.session.specs.SessionText.{ServedOver}
 use Rattle.session.specs.Ends.{EachHasGone}
-use Rattle.session.specs.declared.handing.HandOn.{HandOn}
+use Rattle.session.specs.declared.flush_policy.FlushPolicy.{FlushPolicy}
 use Rattle.session.specs.working.Parts.{AreLawful, HowFar, FaultsAt, Serves, ServesLines, Follows, StepsTo, IsQuiet, GaveBy, Steps, StepsOn}
 use Rattle.client_link.proofs.Sent.{appends_none}
 use Rattle.session.proofs.ServeSteps.{faults_then, some_none}
@@ -167,24 +167,24 @@ read_served makes grounds laws from end old mid new stand stand_after state afte
 
 -- ---- the same, where each reply is handed on
 
-pub step_failed : {S K E : Type 0} (makes : S → List Exchange → S → Type 0) (grounds : S → ServedOver) (laws : AreLawful makes grounds) (told : K → LinkState) (when : HandOn) (old new : K) (stand : Stand) (state : S) (e : E) (buf : List ℕ) → ¬ (stand ≡ None) → IsRead (told old) (told new) (Err e) buf
+pub step_failed : {S K E : Type 0} (makes : S → List Exchange → S → Type 0) (grounds : S → ServedOver) (laws : AreLawful makes grounds) (told : K → LinkState) (when : FlushPolicy) (old new : K) (stand : Stand) (state : S) (e : E) (buf : List ℕ) → ¬ (stand ≡ None) → IsRead (told old) (told new) (Err e) buf
     → StepsOn makes grounds told when old new stand stand state state (Some kinds.ReadFailed) 0
 step_failed makes grounds laws told when old new None state e buf some read = absurd (some refl)
 step_failed makes grounds laws told when old new (Some rest) state e buf some read =
     record { steps = read_failed makes grounds laws (told old) (told new) (Some rest) state e buf some read; gone = λ each rests. nothing_gone told old 0 }
 
-pub step_end : {S K E : Type 0} (makes : S → List Exchange → S → Type 0) (grounds : S → ServedOver) (laws : AreLawful makes grounds) (told : K → LinkState) (when : HandOn) (old new : K) (stand : Stand) (state : S) (n : ℕ) (buf : List ℕ) → ¬ (stand ≡ None) → n ≡ 0 → 0 < length buf → IsRead {E = E} (told old) (told new) (Ok n) buf
+pub step_end : {S K E : Type 0} (makes : S → List Exchange → S → Type 0) (grounds : S → ServedOver) (laws : AreLawful makes grounds) (told : K → LinkState) (when : FlushPolicy) (old new : K) (stand : Stand) (state : S) (n : ℕ) (buf : List ℕ) → ¬ (stand ≡ None) → n ≡ 0 → 0 < length buf → IsRead {E = E} (told old) (told new) (Ok n) buf
     → StepsOn makes grounds told when old new stand stand state state (Some kinds.End) 0
 step_end makes grounds laws told when old new None state n buf some none room read = absurd (some refl)
 step_end makes grounds laws told when old new (Some rest) state n buf some none room read =
     record { steps = read_end makes grounds laws (told old) (told new) (Some rest) state n buf some none room read; gone = λ each rests. nothing_gone told old 0 }
 
-pub step_refused : {S K E : Type 0} (makes : S → List Exchange → S → Type 0) (grounds : S → ServedOver) (laws : AreLawful makes grounds) (told : K → LinkState) (when : HandOn) (old new : K) (stand stand_after : Stand) (state : S) (n : ℕ) (buf : List ℕ) → 0 < length (take n buf) → IsRead {E = E} (told old) (told new) (Ok n) buf
+pub step_refused : {S K E : Type 0} (makes : S → List Exchange → S → Type 0) (grounds : S → ServedOver) (laws : AreLawful makes grounds) (told : K → LinkState) (when : FlushPolicy) (old new : K) (stand stand_after : Stand) (state : S) (n : ℕ) (buf : List ℕ) → 0 < length (take n buf) → IsRead {E = E} (told old) (told new) (Ok n) buf
     → StepsOn makes grounds told when old new stand stand_after state state (Some kinds.Memory) 0
 step_refused makes grounds laws told when old new stand stand_after state n buf some read =
     record { steps = read_refused makes grounds laws (told old) (told new) stand stand_after state n buf some read; gone = λ each rests. nothing_gone told old 0 }
 
-pub step_served : {S K E : Type 0} (makes : S → List Exchange → S → Type 0) (grounds : S → ServedOver) (laws : AreLawful makes grounds) (told : K → LinkState) (when : HandOn) (from end : Option SessionEndKind) (old mid new : K) (stand stand_after : Stand) (state after : S) (n count : ℕ) (buf : List ℕ) (lines : List (List ℕ)) → 0 < length (take n buf)
+pub step_served : {S K E : Type 0} (makes : S → List Exchange → S → Type 0) (grounds : S → ServedOver) (laws : AreLawful makes grounds) (told : K → LinkState) (when : FlushPolicy) (from end : Option SessionEndKind) (old mid new : K) (stand stand_after : Stand) (state after : S) (n count : ℕ) (buf : List ℕ) (lines : List (List ℕ)) → 0 < length (take n buf)
     → IsRead {E = E} (told old) (told mid) (Ok n) buf → cut_from stand (take n buf) ≡ (lines, stand_after) → ServesLines makes grounds told when mid new lines state after from count → Follows from stand_after end → StepsOn makes grounds told when old new stand stand_after state after end count
 step_served makes grounds laws told when from end old mid new stand stand_after state after n count buf lines some read cut s follows =
     let t = s.served in

@@ -6,8 +6,8 @@ use Rattle.report_line.specs.Cutting.{cut_of}
 use Rattle.session.specs.Exchanges.{Exchange}
 use Rattle.session.specs.declared.kind.SessionEndKind.{SessionEndKind}
 use Rattle.session.specs.declared.kind.SessionEndKind.TheVariants as kinds
-use Rattle.session.specs.declared.handing.HandOn.{HandOn}
-use Rattle.session.specs.declared.handing.HandOn.TheVariants as hand_ons
+use Rattle.session.specs.declared.flush_policy.FlushPolicy.{FlushPolicy}
+use Rattle.session.specs.declared.flush_policy.FlushPolicy.TheVariants as flush_policies
 use Rattle.client_link.specs.Links.{up, LinkState, IsSound, IsFault}
 use Rattle.session.specs.SessionText.{NoBye, session_text, joined, most_reads, at_desk, IsSession}
 use Rattle.session.specs.Turned.{EachLineIsChosen, MakesTurns}
@@ -47,7 +47,7 @@ pub record EachHasGone {K : Type 0} (told : K → LinkState) (link : K) (turned 
 
 -- What each read gave, the session text of it, which was written, and the exchanges, which are the turns that were made; each
 -- LINE among them is right, and is the one that the rounds choose.
-pub record Ended {D K : Type 0} (keeps : D → Type 0) (told : K → LinkState) (when : HandOn) (link after_link : K) (desk after : DeskState D) (kind : SessionEndKind) (count : ℕ) : Type 0 where
+pub record Ended {D K : Type 0} (keeps : D → Type 0) (told : K → LinkState) (when : FlushPolicy) (link after_link : K) (desk after : DeskState D) (kind : SessionEndKind) (count : ℕ) : Type 0 where
   pub pieces : List (List ℕ)
   pub turned : List Exchange
   pub text : List ℕ
@@ -58,7 +58,7 @@ pub record Ended {D K : Type 0} (keeps : D → Type 0) (told : K → LinkState) 
   pub reads : (told after_link).reads ≡ up (length pieces) (told link).reads
   pub few : length pieces ≤ most_reads
   pub prompt : IsPrompt told link pieces turned
-  pub gone : when ≡ hand_ons.EachReply → EachHasGone told link turned count
+  pub gone : when ≡ flush_policies.EachReply → EachHasGone told link turned count
   pub lines : EachLineIsRight desk.held turned
   pub chosen : EachLineIsChosen desk.held turned
 

@@ -3,7 +3,7 @@ use Rattle.std.specs.Prelude.{◌≡◌, ◌≤◌, ℕ, List, [], ◌∷◌, �
 use Rattle.std.specs.Io.KnownBytes.{Appends, Consumes}
 use Rattle.line_disk.specs.Disk.{View}
 use Rattle.coordinator.specs.Passes.{PassEntry, PassState}
-use Rattle.coordinator.specs.Standing.{IsMade}
+use Rattle.coordinator.specs.Standing.{IsStandingTurn}
 use Rattle.session.specs.Exchanges.{Exchange}
 use Rattle.session.specs.declared.kind.SessionEndKind.{SessionEndKind}
 use Rattle.client_link.specs.Links.{up, LinkState, IsEnd}
@@ -17,7 +17,7 @@ exchange_of entry = record { call = entry.call; reply = entry.receipt.reply; sho
 -- A desk made the turn, what is shown is shown over what that desk held right after it, and after OK and SETTLED the call's record stands
 -- in the file. The pass has one entry more for it, which has this exchange.
 abbrev pub GainsOne : {D : Type 0} → (D → Type 0) → (D → View) → PassState → Exchange → PassState → Type 0
-GainsOne keeps view old exchange new = (made : IsMade keeps view old exchange.call new) × (exchange ≡ exchange_of made.entry)
+GainsOne keeps view old exchange new = (made : IsStandingTurn keeps view old exchange.call new) × (exchange ≡ exchange_of made.entry)
 
 -- the pass was answered these exchanges, one after the other
 abbrev pub GainsEach : {D : Type 0} → (D → Type 0) → (D → View) → PassState → List Exchange → PassState → Type 0

@@ -38,7 +38,7 @@ pub fn exchanges_keep_lists()
 /// `LINE` is right over what is held exactly if it is right over that list.
 pub fn each_line_is_right_over_what_was_answered()
     ensures accepted { WhatIsAcceptedWasAnswered }
-    ensures same { BothHeadlinesAreOne }
+    ensures equivalent { BothHeadlinesAreOne }
 {}
 
 /// Over processes that obey the rules, with settlements among the exchanges or without, each LINE is right for the current history; and none

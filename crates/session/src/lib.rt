@@ -4,7 +4,7 @@
 //! reply before the next line's turn, or before an ending line. One client is served over a desk, or many over a coordinator by several threads.
 #![tactic(auto)]
 
-mod handing;
+mod flush_policy;
 mod kind;
 mod laws;
 mod numbered;
@@ -17,7 +17,7 @@ mod session;
 mod threads;
 mod turns;
 
-pub use handing::HandOn;
+pub use flush_policy::FlushPolicy;
 pub use kind::{SessionEnd, SessionEndKind};
 pub use laws::{
     a_question_has_one_text, each_line_is_right_for_the_current_history,

@@ -1,18 +1,17 @@
 //! One client over a coordinator.
 
 ghost use denote.Param.Send.{IsSync};
-ghost use Rattle.std.specs.Prelude.{◌≡◌, ◌≢◌, [], ◌∷◌, OnOk, OnErr, IfErr};
+ghost use Rattle.std.specs.Prelude.{◌≡◌, ◌≢◌, [], ◌∷◌};
 ghost use Rattle.report_line.specs.Cutting.{IsLine, ended};
 ghost use Rattle.report_line.specs.Replies.{reply_text};
-ghost use Rattle.coordinator.specs.Calls.{IsForeignOnly};
-ghost use Rattle.coordinator.specs.Standing.{IsMade};
+ghost use Rattle.coordinator.specs.PassTurn.{IsPassTurn};
 ghost use Rattle.desk.specs.Files.{IsShort};
 ghost use Rattle.desk.specs.Records.{IsReadOff};
 ghost use Rattle.session.specs.Gained.{GainsEach, LinkServed};
 ghost use Rattle.session.specs.working.Parts.{Serves, PutsLast, refused_as, one_reply};
 ghost use Rattle.session.specs.SessionText.{at_pass};
 
-use crate::handing::HandOn;
+use crate::flush_policy::FlushPolicy;
 use crate::kind::{SessionEnd, SessionEndKind};
 use crate::over_desk::is_bye;
 use crate::reply_line::put_reply;
@@ -52,9 +51,7 @@ fn ask<R: Threads + Wait + Sync, L: Ledger, D: Disk, G: Gate>(
 ) -> Result<(), CallFault>
     requires short { IsShort call }
     requires read { IsReadOff line.now call }
-    ensures ok { OnOk result (IsMade D.keeps D.view pass.old call pass.new) }
-    ensures err { OnErr result (pass.new ≡ pass.old) }
-    ensures foreign { IfErr result (λ fault. IsForeignOnly pass.old fault) }
+    ensures turn { IsPassTurn D.keeps D.view pass.old call pass.new result }
 {
     match call {
         Call::Line(names) => coordinator.ask(rt, pass, gate, &OpenChunks, Call::Line(names)),
@@ -149,7 +146,7 @@ pub fn serve_link<R: Threads + Wait + Sync, L: Ledger, D: Disk, G: Gate, K: Link
         coordinator,
         gate,
     };
-    let end = serve(&server, pass, link, HandOn::EachReply);
+    let end = serve(&server, pass, link, FlushPolicy::EachReply);
     link.end();
     end
 }

@@ -8,7 +8,7 @@ ghost use Rattle.session.specs.working.Parts.{Serves, ended_by, one_reply};
 ghost use Rattle.session.specs.SessionText.{at_desk};
 ghost use Rattle.session.specs.Turned.{MakesTurns};
 
-use crate::handing::HandOn;
+use crate::flush_policy::FlushPolicy;
 use crate::kind::{SessionEnd, SessionEndKind};
 use crate::reply_line::put_reply;
 use crate::server::Server;
@@ -106,8 +106,8 @@ impl<'a, D: Disk, H: Watch> Server<Desk<D>> for DeskServer<'a, H> {
 /// next line's turn is made; before each read and at the end it hands on what it wrote, and each reply by itself where that is
 /// wanted: then a turn is made, or an ending line written, only once all earlier replies have gone. What is written is the session text
 /// of what was read, its exchanges are just the turns that the desk made, and each `LINE` in it is the greatest closed cut of every
-/// lawful history that agrees at its place (`specs/Headline.antt`). What a crash leaves then says `Desk::lawful`.
-pub fn run<D: Disk, K: Link>(desk: &mut Desk<D>, link: &mut K, when: HandOn) -> SessionEnd
+/// lawful history that agrees at its place (`specs/Headline.antt`). What a crash leaves then says `Desk::recall_lawful`.
+pub fn run<D: Disk, K: Link>(desk: &mut Desk<D>, link: &mut K, when: FlushPolicy) -> SessionEnd
     ensures session { Ended D.keeps K.told when link.old link.new desk.old desk.new result.kind result.replies }
     ensures leaves { Leaves result.kind (K.told link.old) (K.told link.new) }
 {
@@ -118,12 +118,12 @@ pub fn run<D: Disk, K: Link>(desk: &mut Desk<D>, link: &mut K, when: HandOn) -> 
 pub fn run_watched<D: Disk, K: Link, H: Watch>(
     desk: &mut Desk<D>,
     link: &mut K,
-    when: HandOn,
+    when: FlushPolicy,
     watch: &H,
 ) -> SessionEnd
     ensures session { Ended D.keeps K.told when link.old link.new desk.old desk.new result.kind result.replies }
     ensures leaves { Leaves result.kind (K.told link.old) (K.told link.new) }
 {
-    desk.lawful();
+    desk.recall_lawful();
     serve(&DeskServer { watch }, desk, link, when)
 }

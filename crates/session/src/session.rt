@@ -5,7 +5,7 @@ ghost use Rattle.session.specs.SessionText.{ending_line, ending_count};
 ghost use Rattle.session.specs.Ends.{Leaves};
 ghost use Rattle.session.specs.working.Parts.{AreLawful, Follows, StepsOn, Closing, Closes, Ran};
 
-use crate::handing::HandOn;
+use crate::flush_policy::FlushPolicy;
 use crate::kind::{SessionEnd, SessionEndKind};
 use crate::server::Server;
 use crate::serving::serve_lines;
@@ -59,7 +59,7 @@ fn close_by<K: Link>(link: &mut K, kind: SessionEndKind, replies: u64) -> Sessio
             replies,
         };
     }
-    match link.hand_on() {
+    match link.flush() {
         Ok(()) => SessionEnd {
             kind,
             replies: replies + lines_of_end(kind),
@@ -110,13 +110,13 @@ fn step<S, V: Server<S>, K: Link>(
     feed: &mut Feed,
     link: &mut K,
     buf: &mut [u8; 8192],
-    when: HandOn,
+    when: FlushPolicy,
 ) -> (Option<SessionEndKind>, u64)
     requires leave { V.leave }
     requires laws { AreLawful V.makes V.grounds }
     requires some { feed.old ≢ None }
     ensures steps { StepsOn V.makes V.grounds K.told when link.old link.new feed.old feed.new state.old state.new result.0 result.1 }
-    ensures few { result.1 ≤ 8192 }
+    ensures at_most { result.1 ≤ 8192 }
 {
     let Ok(n) = link.read(buf) else {
         return (Some(SessionEndKind::ReadFailed), 0);
@@ -137,7 +137,7 @@ pub(crate) fn serve<S, V: Server<S>, K: Link>(
     server: &V,
     state: &mut S,
     link: &mut K,
-    when: HandOn,
+    when: FlushPolicy,
 ) -> SessionEnd
     requires leave { V.leave }
     requires laws { AreLawful V.makes V.grounds }
@@ -148,7 +148,7 @@ pub(crate) fn serve<S, V: Server<S>, K: Link>(
     let mut buf = [0u8; 8192];
     let mut replies = 0u64;
     for _ in 0..MOST_READS {
-        let Ok(()) = link.hand_on() else {
+        let Ok(()) = link.flush() else {
             return SessionEnd {
                 kind: SessionEndKind::WriteFailed,
                 replies,

@@ -20,7 +20,7 @@ use Rattle.stamp.specs.declared.stamp.Stamp.{Stamp}
 use Rattle.stamp.specs.declared.fault.StampTextFault.{StampTextFault}
 use Rattle.stamp.specs.declared.fault.StampTextFault.TheVariants.{Syntax, NotNormal, TooDeep, TooLarge, Memory}
 use Rattle.stamp.specs.Stamps.{IsStamp, stamp_text}
-use Rattle.stamp.specs.Faults.{Spells, IsFaultOf}
+use Rattle.stamp.specs.Faults.{Spells, IsFaultOfStamp}
 use Rattle.stamp.specs.working.Answers.{IsFree, IdTold, EventsTold, StampTold, answer_of}
 use Rattle.stamp.proofs.Cuts.{IsCut, not_free, one_cut, tree_free}
 use Rattle.stamp.proofs.Texts.{one_text}
@@ -39,7 +39,7 @@ parts_of i e front back free s =
     (cut.0, rw cut.1 s.events)
 
 -- no text of a stamp is without a semicolon
-pub no_stamp : (bytes : List ℕ) → IsFree bytes → IsFaultOf Syntax bytes
+pub no_stamp : (bytes : List ℕ) → IsFree bytes → IsFaultOfStamp Syntax bytes
 no_stamp bytes free = λ i e s. not_free (spelling i) s.events_text (rw s.parts at free)
 
 text_of : (e : EventTree) (text : List ℕ) → EventsTold (Ok e) text → IsTextOf e text
@@ -47,19 +47,19 @@ text_of e text h = rw h.1 (spelling_is_text e h.0.small)
 
 -- ---- each fault of a part as one of the whole
 
-no_id : (front back : List ℕ) → IsFree front → ids.IsFaultOf id_fault.Syntax front → IsFaultOf Syntax (front ++ 59 ∷ back)
+no_id : (front back : List ℕ) → IsFree front → ids.IsFaultOfId id_fault.Syntax front → IsFaultOfStamp Syntax (front ++ 59 ∷ back)
 no_id front back free h = λ i e s. h i (parts_of i e front back free s).0
 
-no_events : (front back : List ℕ) → IsFree front → events.IsFaultOf events_fault.Syntax back → IsFaultOf Syntax (front ++ 59 ∷ back)
+no_events : (front back : List ℕ) → IsFree front → events.IsFaultOfEvents events_fault.Syntax back → IsFaultOfStamp Syntax (front ++ 59 ∷ back)
 no_events front back free h = λ i e s. h e (parts_of i e front back free s).1
 
-unnormal_id : (front back : List ℕ) (e : EventTree) → ids.SpellsUnnormal front → IsTextOf e back → IsFaultOf NotNormal (front ++ 59 ∷ back)
+unnormal_id : (front back : List ℕ) (e : EventTree) → ids.SpellsUnnormal front → IsTextOf e back → IsFaultOfStamp NotNormal (front ++ 59 ∷ back)
 unnormal_id front back e h k = (h.tree, e, spelled h.tree e front back h.spelled k, λ n. h.unnormal n.0)
 
-unnormal_events : (front back : List ℕ) (i : IdTree) → front ≡ spelling i → events.SpellsUnnormal back → IsFaultOf NotNormal (front ++ 59 ∷ back)
+unnormal_events : (front back : List ℕ) (i : IdTree) → front ≡ spelling i → events.SpellsUnnormal back → IsFaultOfStamp NotNormal (front ++ 59 ∷ back)
 unnormal_events front back i h k = (i, k.tree, spelled i k.tree front back h k.spelled, λ n. k.unnormal n.1)
 
-deep_id : (front back : List ℕ) (e : EventTree) → ids.SpellsDeep front → IsTextOf e back → IsNormal e → IsFaultOf TooDeep (front ++ 59 ∷ back)
+deep_id : (front back : List ℕ) (e : EventTree) → ids.SpellsDeep front → IsTextOf e back → IsNormal e → IsFaultOfStamp TooDeep (front ++ 59 ∷ back)
 deep_id front back e h k n = (h.tree, e, spelled h.tree e front back h.spelled k, (h.normal, n), let deep = h.deep in omega arith)
 
 -- ---- the answer on the whole
@@ -106,7 +106,7 @@ pub told_ok : (r : Result Stamp StampTextFault) (bytes : List ℕ) → StampTold
 told_ok (Ok s) bytes h = h.1
 told_ok (Err fault) bytes h = tt
 
-pub told_err : (r : Result Stamp StampTextFault) (bytes : List ℕ) → StampTold r bytes → IfErr r (λ fault. IsFaultOf fault bytes)
+pub told_err : (r : Result Stamp StampTextFault) (bytes : List ℕ) → StampTold r bytes → IfErr r (λ fault. IsFaultOfStamp fault bytes)
 told_err (Ok s) bytes h = tt
 told_err (Err fault) bytes h = h
 
@@ -119,7 +119,7 @@ same_trees s i e is p =
     let parts = parts_of i e (spelling s.id) (events_text.spelling s.events) (id_free s.id) p in
     (ids_texts.one_spelling s.id i parts.0, one_tree s.events e _ (spelling_is_text s.events is.events.small) parts.1)
 
-pub fault_of_stamp : (fault : StampTextFault) (s : Stamp) → IsStamp s → IsFaultOf fault (stamp_text s) → fault ≡ Memory
+pub fault_of_stamp : (fault : StampTextFault) (s : Stamp) → IsStamp s → IsFaultOfStamp fault (stamp_text s) → fault ≡ Memory
 fault_of_stamp Syntax s is h = absurd (h s.id s.events (spelled_stamp s is))
 fault_of_stamp NotNormal s is h =
     let same = same_trees s h.0 h.1 is h.2 in

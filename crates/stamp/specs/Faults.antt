@@ -26,10 +26,10 @@ abbrev pub greater_depth : IdTree → EventTree → ℕ
 greater_depth i e = max (ids.depth i) (events.depth e)
 
 -- the fault that bytes have; memory may be wanting for any
-abbrev pub IsFaultOf : StampTextFault → List ℕ → Type 0
-IsFaultOf Syntax bytes = (i : IdTree) (e : EventTree) → ¬ Spells i e bytes
-IsFaultOf NotNormal bytes = (i : IdTree) × (e : EventTree) × Spells i e bytes × (¬ AreNormal i e)
-IsFaultOf TooDeep bytes = (i : IdTree) × (e : EventTree) × Spells i e bytes × AreNormal i e × (depth_limit < greater_depth i e)
-IsFaultOf TooLarge bytes =
+abbrev pub IsFaultOfStamp : StampTextFault → List ℕ → Type 0
+IsFaultOfStamp Syntax bytes = (i : IdTree) (e : EventTree) → ¬ Spells i e bytes
+IsFaultOfStamp NotNormal bytes = (i : IdTree) × (e : EventTree) × Spells i e bytes × (¬ AreNormal i e)
+IsFaultOfStamp TooDeep bytes = (i : IdTree) × (e : EventTree) × Spells i e bytes × AreNormal i e × (depth_limit < greater_depth i e)
+IsFaultOfStamp TooLarge bytes =
     (i : IdTree) × (e : EventTree) × Spells i e bytes × AreNormal i e × (greater_depth i e ≤ depth_limit) × (value_limit < events.greatest e)
-IsFaultOf Memory bytes = ⊤
+IsFaultOfStamp Memory bytes = ⊤

@@ -80,7 +80,7 @@ impl Stamp {
     {
         match self.events.join(alloc, came) {
             Ok(joined) => {
-                joined.known();
+                joined.recall_facts();
                 let events = next_events(alloc, &self.id, &joined)?;
                 match self.id.copy(alloc) {
                     Ok(id) => Ok(Stamp { id, events }),

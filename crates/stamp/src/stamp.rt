@@ -22,7 +22,7 @@ impl Stamp {
     ghost use Rattle.event_tree.specs.EventTree.{Leaf};
     ghost use Rattle.stamp.specs.declared.stamp.Stamp.{Stamp};
     ghost use Rattle.stamp.specs.Stamps.{IsStamp, stamp_text};
-    ghost use Rattle.stamp.specs.Faults.{IsFaultOf};
+    ghost use Rattle.stamp.specs.Faults.{IsFaultOfStamp};
 
     /// `1;0`, the stamp of a root at its birth. It takes no memory.
     pub fn first(alloc: Global) -> Stamp
@@ -35,11 +35,11 @@ impl Stamp {
     }
 
     /// Tells a proof what holds of each stamp.
-    pub fn known(&self)
+    pub fn recall_facts(&self)
         ensures { IsStamp self.now }
     {
-        self.id.known();
-        self.events.known();
+        self.id.recall_facts();
+        self.events.recall_facts();
     }
 
     /// Whether the two are one stamp.
@@ -53,15 +53,22 @@ impl Stamp {
     pub fn copy(&self, alloc: Global) -> Result<Stamp, AllocError>
         ensures { IfOk result (λ s. s ≡ self.now) }
     {
-        let id = self.id.copy(alloc)?;
-        let events = self.events.copy(alloc)?;
+        Stamp::of_both(alloc, &self.id, &self.events)
+    }
+
+    /// The stamp of copies of this id and these events.
+    pub fn of_both(alloc: Global, id: &Id, events: &Events) -> Result<Stamp, AllocError>
+        ensures { IfOk result (λ s. s ≡ record { id = id.now; events = events.now }) }
+    {
+        let id = id.copy(alloc)?;
+        let events = events.copy(alloc)?;
         Ok(Stamp { id, events })
     }
 
     /// The stamp that the bytes spell, all of the bytes.
     pub fn parse(alloc: Global, bytes: &[u8]) -> Result<Stamp, StampTextFault>
         ensures ok { IfOk result (λ s. bytes.now ≡ stamp_text s) }
-        ensures err { IfErr result (λ fault. IsFaultOf fault bytes.now) }
+        ensures err { IfErr result (λ fault. IsFaultOfStamp fault bytes.now) }
         ensures only { (s : Stamp) → IsStamp s → bytes.now ≡ stamp_text s → MatchResult result (λ t. t ≡ s) (λ fault. fault ≡ StampTextFault.Memory) }
     {
         let Some(at) = first_semicolon(bytes) else {
@@ -108,7 +115,7 @@ fn read_id(alloc: Global, text: &[u8]) -> Result<Id, IdFault>
     ensures { IdTold result text.now }
 {
     let id = Id::parse(alloc, text)?;
-    id.known();
+    id.recall_facts();
     Ok(id)
 }
 
@@ -116,7 +123,7 @@ fn read_events(alloc: Global, text: &[u8]) -> Result<Events, EventsFault>
     ensures { EventsTold result text.now }
 {
     let events = Events::parse(alloc, text)?;
-    events.known();
+    events.recall_facts();
     Ok(events)
 }
 

@@ -1,4 +1,4 @@
-//! The calls of the libraries, a line each; several of one line are parted by ` | `, and so are their answers. An answer is the
+//! The calls of the libraries, a line each; several of one line are separated by ` | `, and so are their answers. An answer is the
 //! value, or the name of the fault; `?` where the text is no call.
 //!
 //! - ids: `id I` (as it is written again), `owns_any I`, `disjoint I I`, `is_sum I I I` (whether the first is the sum of the
@@ -20,7 +20,7 @@
 //! - replies: `refusal CAUSE` (the refusal for this cause that names nothing);
 //! - places, a position being a number or `retired`: `knows NAME POSITION NAME POSITION`, `need NAME POSITION NAME`,
 //!   `last_known NAME POSITION NAME FROM TO`;
-//! - failed sets, `*` for all processes, `-` for none, or names parted by commas: `last_surviving NAME FAILED`,
+//! - failed sets, `*` for all processes, `-` for none, or names separated by commas: `last_surviving NAME FAILED`,
 //!   `rounds FAILED`, `certificate FAILED`;
 //! - certificates: `read TEXT` (whether it is one), `write TEXT` (as it is written again), `check TEXT` (the verdict).
 
@@ -37,17 +37,22 @@ mod processes;
 mod replies;
 mod stamps;
 
-use anyhow::Result;
+use crate::fault::Result;
+use answer::Answer;
 use bench::Bench;
 use std::alloc::Global;
 use std::io::{BufWriter, Read, Write};
 
+// Writes an answer with its LF.
+fn put_answer<W: Write>(answer: &mut Answer, out: &mut W) -> Result<()> {
+    Ok(out.write_all(answer.line()?)?)
+}
+
 // Writes the answer to a line, with its LF.
 fn put_line<W: Write>(alloc: Global, bench: &mut Bench, line: &[u8], out: &mut W) -> Result<()> {
-    let mut answer = Vec::new(alloc);
-    bench.answer(line, &mut answer)?;
-    answer.push(b'\n')?;
-    Ok(out.write_all(&answer)?)
+    let mut answer = Answer::new(alloc);
+    bench.answer(line, &mut answer);
+    put_answer(&mut answer, out)
 }
 
 // Answers each line of the input by a line.

@@ -4,11 +4,13 @@
 mod again;
 mod calls;
 mod command;
+mod fault;
 mod gates;
 mod openings;
+mod output;
 
-use anyhow::Result;
 use command::Command;
+use fault::Result;
 use std::env;
 use std::process::ExitCode;
 use std::sync::Wait;
@@ -63,16 +65,32 @@ fn run<T: Threads + Wait + Sync>(
     }
 }
 
-fn main(rt: HostRuntime) -> Result<ExitCode> {
-    let words: Vec<String> = env::args(&rt)?.collect(rt.alloc())?;
-    match command::read(&words) {
-        Some(command) => {
-            run(&rt, &rt, command)?;
-            Ok(ExitCode::from(0))
-        }
-        None => {
-            eprintln!(rt; "{USAGE}")?;
-            Ok(ExitCode::from(2))
+/// Does what these words ask for, and answers the status.
+fn do_words<T: Threads + Wait + Sync>(
+    rt: &HostRuntime,
+    threads: &T,
+    words: &[String],
+) -> Result<u8> {
+    let Some(command) = command::read(words) else {
+        eprintln!(rt; "{USAGE}")?;
+        return Ok(2);
+    };
+    run(rt, threads, command)?;
+    Ok(0)
+}
+
+/// The same of the words of the command line.
+fn do_all<T: Threads + Wait + Sync>(rt: &HostRuntime, threads: &T) -> Result<u8> {
+    let words: Vec<String> = env::args(rt)?.collect(rt.alloc())?;
+    do_words(rt, threads, &words)
+}
+
+fn main(rt: HostRuntime) -> ExitCode {
+    match do_all(&rt, &rt) {
+        Ok(status) => ExitCode::from(status),
+        Err(fault) => {
+            let _told = eprintln!(rt; "Error: {fault}");
+            ExitCode::from(1)
         }
     }
 }

@@ -1,6 +1,6 @@
 //! Whether an opening of a file writes to it.
 
-use anyhow::Result;
+use crate::fault::Result;
 use line_disk::{FileDisk, Modelled};
 use record_file::RecordReach;
 use std::fs::{self, OpenOptions};

@@ -9,5 +9,5 @@ ready_in a = record { report = a.report; process = a.process }
 
 -- there is room for the first element of a process that is born
 pub record HasBirthRoom (a : Inside) : Type 0 where
-  pub empty : a.lasting.items ≡ []
-  pub room : newborn a.report.report ≢ None → 0 < vec_capacity a.lasting
+  pub empty : a.stable.items ≡ []
+  pub room : newborn a.report.report ≢ None → 0 < vec_capacity a.stable

@@ -11,24 +11,24 @@ use Rattle.report_line.specs.declared.report.Report.TheVariants.{Begin, Numbered
 use Rattle.chains.specs.Processes.{Name, newborn}
 use Rattle.chains.specs.working.Keeping.{KeptProcess}
 
--- a process of which the report of this index is accepted, and makes a lasting element of it or not; the last run is this one then
+-- a process of which the report of this index is accepted, and makes a stable element of it or not; the last run is this one then
 abbrev pub noted : ℕ → ℕ → Bool → KeptProcess → KeptProcess
 noted index run lasts k = record {
   reports = k.reports + 1;
   last = Some index;
   birth = k.birth;
-  lasting = if lasts then k.lasting ++ index ∷ [] else k.lasting;
-  last_run = run;
+  stable = if lasts then k.stable ++ index ∷ [] else k.stable;
+  same_id_from = run;
   absorbed = k.absorbed;
 }
 
 -- a process whose retirement is absorbed
 abbrev pub taken : KeptProcess → KeptProcess
-taken k = record { reports = k.reports; last = k.last; birth = k.birth; lasting = k.lasting; last_run = k.last_run; absorbed = true }
+taken k = record { reports = k.reports; last = k.last; birth = k.birth; stable = k.stable; same_id_from = k.same_id_from; absorbed = true }
 
 -- a process that is born by the report of this index
 abbrev pub born : ℕ → KeptProcess
-born index = record { reports = 0; last = None; birth = index; lasting = index ∷ []; last_run = 0; absorbed = false }
+born index = record { reports = 0; last = None; birth = index; stable = index ∷ []; same_id_from = 0; absorbed = false }
 
 -- the process at this place, changed
 abbrev pub changed_at : (KeptProcess → KeptProcess) → ℕ → List KeptProcess → List KeptProcess

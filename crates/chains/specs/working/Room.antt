@@ -7,7 +7,7 @@ use Rattle.chains.specs.declared.process.Process.{Process}
 
 -- how many more elements find room
 abbrev pub element_room : Process → ℕ
-element_room k = vec_capacity k.lasting - vec_len k.lasting
+element_room k = vec_capacity k.stable - vec_len k.stable
 
 -- whether the report is a BEGIN
 abbrev pub is_begin : Report → Bool

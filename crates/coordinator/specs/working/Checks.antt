@@ -1,5 +1,5 @@
 -- Working definitions: lines that are held against what was accepted.
-use Rattle.std.specs.Prelude.{◌≡◌, ℕ, ◌+◌, ◌<◌, List, Some, slice_get, ⊤}
+use Rattle.std.specs.Prelude.{◌≡◌, ℕ, ◌+◌, ◌<◌, List, Some, All, slice_get, ⊤}
 use Rattle.report_line.specs.declared.reply.Reply.TheVariants.{Line}
 use Rattle.chains.specs.Kept.{Kept}
 use Rattle.chains.specs.Held.{Held, held_of}
@@ -24,6 +24,14 @@ RightOver held e = (text : List ℕ) → e.shown ≡ Line text → IsLineFor hel
 -- the entry shows another line
 abbrev pub WrongOver : Held → PassEntry → Type 0
 WrongOver held e = (text : List ℕ) × (e.shown ≡ Line text) × ¬ IsLineFor held e.call text
+
+-- the entry that stands there, if one does, is right over what is held
+abbrev pub IsRightAt : List PassState → Held → Owner → Type 0
+IsRightAt passes held o = (p : PassState) (e : PassEntry) → slice_get passes o.pass ≡ Some p → slice_get p.entries o.entry ≡ Some e → RightOver held e
+
+-- so are all that stand at these
+abbrev pub AreRight : List PassState → Held → List Owner → Type 0
+AreRight passes held os = All (IsRightAt passes held) os
 
 -- the entry of this turn that stands there, if it does
 abbrev pub IsEntryOf : List PassState → Owner → ℕ → PassState → PassEntry → Type 0

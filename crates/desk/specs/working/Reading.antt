@@ -33,5 +33,5 @@ RefusesRecord held k one Memory = ⊤
 RefusesRecord held k one _ = ⊥
 
 -- the fault for a refusal
-abbrev pub IsFaultOf : ℕ → No → DeskFault → Type 0
-IsFaultOf k refusal fault = ((refusal.code ≡ OutOfMemory) × (fault ≡ Memory)) ⊎ ((refusal.code ≢ OutOfMemory) × (fault ≡ Refused k (code_number refusal.code)))
+abbrev pub IsFaultOfRefusal : ℕ → No → DeskFault → Type 0
+IsFaultOfRefusal k refusal fault = ((refusal.code ≡ OutOfMemory) × (fault ≡ Memory)) ⊎ ((refusal.code ≢ OutOfMemory) × (fault ≡ Refused k (code_number refusal.code)))

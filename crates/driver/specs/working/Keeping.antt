@@ -8,8 +8,8 @@ use Rattle.report_line.specs.declared.step.StepKind.TheVariants.{Receive, Fork, 
 use Rattle.report_line.specs.declared.step.Step.{Step as Taken}
 use Rattle.report_line.specs.histories.History.{Name, History}
 use Rattle.law_histories.specs.Kept.{Cut, IsClosed, kept}
-use Rattle.driver.specs.declared.known.Known.{Known}
-use Rattle.driver.specs.declared.known.Known.TheVariants.{Waits}
+use Rattle.driver.specs.declared.process_status.ProcessStatus.{ProcessStatus}
+use Rattle.driver.specs.declared.process_status.ProcessStatus.TheVariants.{Waits}
 use Rattle.driver.specs.declared.tables.Tables.{Tables}
 use Rattle.driver.specs.working.Made.{Made}
 use Rattle.driver.specs.working.Marks.{Marks, reached}
@@ -18,11 +18,11 @@ use Rattle.driver.specs.working.Tables.{AreSound, history_in, reports_after, kep
 -- the step, with what it changes where its process made n reports before
 pub record IsRemade (s : Taken) (n : ℕ) (made : Made) : Type 0 where
   pub step : made.step ≡ s
-  pub reports : made.reports ≡ reports_after s.deed n
-  pub other : made.other ≡ kept_of_other s.deed s.stamp
+  pub reports : made.reports ≡ reports_after s.step_kind n
+  pub other : made.other ≡ kept_of_other s.step_kind s.stamp
 
 -- a retirement of the process waits
-abbrev pub is_waiting : Option Known → Bool
+abbrev pub is_waiting : Option ProcessStatus → Bool
 is_waiting (Some (Waits place q)) = true
 is_waiting _ = false
 
@@ -32,7 +32,7 @@ is_due t (Receive m) = is_some (get bytes_eq t.messages m)
 is_due t (Absorb r) = is_waiting (get bytes_eq t.known r)
 is_due t _ = true
 
--- the deed is a fork, by this event, of a child whose birth is in the line
+-- the kind of step is a fork, by this event, of a child whose birth is in the line
 abbrev pub bears : Marks → StepKind → ℕ → Bool
 bears marks (Fork c i) n = reached marks c n
 bears marks _ n = false

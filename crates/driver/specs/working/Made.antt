@@ -17,20 +17,20 @@ pub record Made : Type 0 where
   pub other : Option Other
   pub report : Option Report
 
--- the step of a deed, with this stamp after it
+-- the step of this kind, with this stamp after it
 abbrev pub step_of : Name → StepKind → Stamp → Taken
-step_of p d t = record { process = p; deed = d; stamp = t }
+step_of p d t = record { process = p; step_kind = d; stamp = t }
 
 -- a report with a number
-abbrev pub numbered : Name → ℕ → Stamp → ReportKind → Report
-numbered p n s a = Numbered (record { process = p; number = n; stamp = s; action = a })
+abbrev pub numbered_report : Name → ℕ → Stamp → ReportKind → Report
+numbered_report p n s a = Numbered (record { process = p; number = n; stamp = s; action = a })
 
 -- a step that is not reported, and one that is
 abbrev pub silently : Name → StepKind → Stamp → ℕ → Made
 silently p d t n = record { step = step_of p d t; reports = n; other = None; report = None }
 
 abbrev pub openly : Name → StepKind → Stamp → Option Other → ℕ → Stamp → ReportKind → Made
-openly p d t other n reported a = record { step = step_of p d t; reports = n; other = other; report = Some (numbered p n reported a) }
+openly p d t other n reported a = record { step = step_of p d t; reports = n; other = other; report = Some (numbered_report p n reported a) }
 
 -- one that is made once more, which is not reported again
 abbrev pub again : Remade → Made

@@ -16,7 +16,7 @@ use Rattle.report_line.specs.histories.Lawful.{IsAllowed}
 use Rattle.report_line.specs.histories.StepReports.{reporting_steps, report_of}
 use Rattle.report_line.specs.declared.report.Report.{Report}
 use Rattle.report_line.specs.declared.report.Report.TheVariants.{Begin, Numbered}
-use Rattle.report_line.specs.declared.report.ReportKind.TheVariants as acts
+use Rattle.report_line.specs.declared.report.ReportKind.TheVariants as report_kinds
 use Rattle.report_line.specs.declared.step.StepKind.{StepKind}
 use Rattle.report_line.specs.declared.step.StepKind.TheVariants.{Fork, Retire, Absorb}
 use Rattle.report_line.specs.Names.{is_name}
@@ -25,15 +25,15 @@ use Rattle.law_admission.specs.HandedOver.{HasLine}
 use Rattle.driver.specs.declared.step.StepRequest.{StepRequest}
 use Rattle.driver.specs.declared.fault.StepFault.{StepFault}
 use Rattle.driver.specs.declared.fault.StepFault.TheVariants as faults
-use Rattle.driver.specs.declared.making.Alive.{Alive}
-use Rattle.driver.specs.declared.making.NextReport.{NextReport}
-use Rattle.driver.specs.declared.making.ForkParts.{ForkParts}
+use Rattle.driver.specs.declared.steps.Alive.{Alive}
+use Rattle.driver.specs.declared.steps.NextReport.{NextReport}
+use Rattle.driver.specs.declared.steps.ForkParts.{ForkParts}
 use Rattle.indexmap.specs.IndexMap.{spare}
 use Rattle.driver.specs.declared.tables.Tables.{Tables}
 use Rattle.driver.specs.working.Made.{Made}
 use Rattle.driver.specs.Stamping.{stamp_of, IsStamped}
 use Rattle.driver.specs.Verdicts.{HasRetired, IsVerdict}
-use Rattle.driver.specs.working.Tables.{Changes, IsMade, AreSound, history_in}
+use Rattle.driver.specs.working.Tables.{Changes, IsMadeStep, AreSound, history_in}
 
 -- the process lives: its stamp, and how many reports it made
 pub record IsAlive (root : Name) (h : History) (p : Name) (a : Alive) : Type 0 where
@@ -74,7 +74,7 @@ abbrev pub parts_after : ℕ → IdTree → Stamp → Name → IdTree → ForkPa
 parts_after n id kept child given = record {
   number = n + 1;
   reported = record { id = id; events = kept.events };
-  action = acts.Fork (record { kept = kept.id; child = child; given = given });
+  action = report_kinds.Fork (record { kept = kept.id; child = child; given = given });
   given = given;
 }
 
@@ -123,14 +123,14 @@ RetirementTold root h p r None = (e : Event) → status root h r ≢ Retired e p
 RetirementTold root h p r (Some s) = (e : Event) × (status root h r ≡ Retired e p) × (s.now ≡ stamp_of e)
 
 -- the step that was asked is ready: stamped, allowed, and refused by no cause
-pub record Makes (root : Name) (h : History) (p : Name) (act : StepRequest) (made : Made) : Type 0 where
+pub record Makes (root : Name) (h : History) (p : Name) (request : StepRequest) (made : Made) : Type 0 where
   pub process : made.step.process ≡ p
   pub before : Event
   pub living : status root h p ≡ Living before
-  pub stamped : IsStamped root h before act made.step
-  pub allowed : IsAllowed root h before made.step made.step.deed
-  pub verdict : IsVerdict root h p act None
-  pub changes : IsMade root h made
+  pub stamped : IsStamped root h before request made.step
+  pub allowed : IsAllowed root h before made.step made.step.step_kind
+  pub verdict : IsVerdict root h p request None
+  pub changes : IsMadeStep root h made
 
 -- the same but for room
 pub record IsSame (old new : Tables) : Type 0 where
@@ -161,7 +161,7 @@ HasParts _ = ⊤
 pub record HasWholeParts (s : Taken) (old : Stamp) : Type 0 where
   pub name : IsTrue (is_name s.process)
   pub stamp : IsStamp s.stamp
-  pub deed : HasParts s.deed
+  pub step_kind : HasParts s.step_kind
   pub before : IsStamp old
 
 -- a report that is counted from 1 has a line
@@ -173,7 +173,7 @@ HasLineIfCounted (Numbered r) = r.number ≢ 0 → AreFields r
 pub record IsReady (root : Name) (h : History) (made : Made) : Type 0 where
   pub before : Event
   pub living : status root h made.step.process ≡ Living before
-  pub allowed : IsAllowed root h before made.step made.step.deed
+  pub allowed : IsAllowed root h before made.step made.step.step_kind
   pub changes : Changes h made
   pub line : HasLineOf root h made.step
 

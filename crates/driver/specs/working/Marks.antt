@@ -48,7 +48,7 @@ born _ n p m = m
 
 -- with a step of any process
 abbrev pub seen : Taken → ℕ → Name → Mark → Mark
-seen s n p m = if bytes_eq s.process p then own s.deed n (born s.deed n p m) else born s.deed n p m
+seen s n p m = if bytes_eq s.process p then own s.step_kind n (born s.step_kind n p m) else born s.step_kind n p m
 
 -- with all steps of a history
 abbrev pub walked : History → Name → Mark → Mark

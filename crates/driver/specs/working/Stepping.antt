@@ -17,6 +17,6 @@ pub record IsStepTaken (old : Tables) (asked : Step) (new : Tables) (result : Re
   pub sound : AreSound new
   pub step : IfOk result (λ given. Takes (chronicle_in old) asked (chronicle_in new) given)
   pub reports : IfOk result (λ given. reports new.root (history_in new) ≡ reports old.root (history_in old) ++ cons_option given [])
-  pub accepted : OnOk result (IsVerdict old.root (history_in old) asked.process asked.act None)
-  pub refused : IfErr result (λ fault. fault ≢ faults.Memory → IsVerdict old.root (history_in old) asked.process asked.act (Some fault))
+  pub accepted : OnOk result (IsVerdict old.root (history_in old) asked.process asked.request None)
+  pub refused : IfErr result (λ fault. fault ≢ faults.Memory → IsVerdict old.root (history_in old) asked.process asked.request (Some fault))
   pub unchanged : OnErr result (chronicle_in new ≡ chronicle_in old)

@@ -13,8 +13,8 @@ use Rattle.report_line.specs.histories.Lawful.{IsLawful}
 use Rattle.report_line.specs.histories.StepReports.{is_reported, reporting_steps, report_of}
 use Rattle.law_admission.specs.HandedOver.{handed_over, HasLine}
 use Rattle.driver.specs.Stamping.{stamp_of}
-use Rattle.driver.specs.declared.known.Known.{Known}
-use Rattle.driver.specs.declared.known.Known.TheVariants.{Born, Lives, Waits, Gone}
+use Rattle.driver.specs.declared.process_status.ProcessStatus.{ProcessStatus}
+use Rattle.driver.specs.declared.process_status.ProcessStatus.TheVariants.{Born, Lives, Waits, Gone}
 use Rattle.driver.specs.declared.tables.Tables.{Tables}
 use Rattle.driver.specs.declared.tables.Other.{Other}
 use Rattle.driver.specs.working.Made.{Made}
@@ -27,7 +27,7 @@ pub data Standing : Type 0 where
   IsGone : Standing
 
 -- how a process stands of which this is kept beside the steps, if its place is one of them
-abbrev pub standing : List Taken → Known → Option Standing
+abbrev pub standing : List Taken → ProcessStatus → Option Standing
 standing steps (Born s) = Some (LivesWith s 0)
 standing steps (Lives place n) = option_map (λ s. LivesWith s.stamp n) (slice_get steps place)
 standing steps (Waits place q) = option_map (λ s. WaitsWith s.stamp q) (slice_get steps place)
@@ -62,12 +62,12 @@ pub record AreSound (t : Tables) : Type 0 where
 
 -- ---- what a step changes
 
--- how many reports a process has after its deed, of n before
+-- how many reports a process has after its step, of n before
 abbrev pub reports_after : StepKind → ℕ → ℕ
 reports_after d n = if is_reported d then n + 1 else n
 
--- what is kept of the process after its deed at this place, with so many reports then
-abbrev pub kept_of_actor : StepKind → ℕ → ℕ → Known
+-- what is kept of the process after its step at this place, with so many reports then
+abbrev pub kept_of_actor : StepKind → ℕ → ℕ → ProcessStatus
 kept_of_actor (Retire q) place n = Waits place q
 kept_of_actor _ place n = Lives place n
 
@@ -79,21 +79,21 @@ kept_of_other _ s = None
 
 -- with the step stands what it changes
 pub record Changes (h : History) (made : Made) : Type 0 where
-  pub reports : made.reports ≡ reports_after made.step.deed (reporting_steps made.step.process h)
-  pub other : made.other ≡ kept_of_other made.step.deed made.step.stamp
+  pub reports : made.reports ≡ reports_after made.step.step_kind (reporting_steps made.step.process h)
+  pub other : made.other ≡ kept_of_other made.step.step_kind made.step.stamp
 
 -- with the step stands what it changes, and its report
-pub record IsMade (root : Name) (h : History) (made : Made) : Type 0 where
-  pub reports : made.reports ≡ reports_after made.step.deed (reporting_steps made.step.process h)
-  pub other : made.other ≡ kept_of_other made.step.deed made.step.stamp
+pub record IsMadeStep (root : Name) (h : History) (made : Made) : Type 0 where
+  pub reports : made.reports ≡ reports_after made.step.step_kind (reporting_steps made.step.process h)
+  pub other : made.other ≡ kept_of_other made.step.step_kind made.step.stamp
   pub report : made.report ≡ report_of root h made.step
 
 -- what a name has after another one is noted
-abbrev pub noted_other : Option Other → Name → Option Known → Option Known
+abbrev pub noted_other : Option Other → Name → Option ProcessStatus → Option ProcessStatus
 noted_other None q before = before
 noted_other (Some o) q before = if bytes_eq o.name q then Some o.known else before
 
--- the place of a step with this deed is noted, where it sends the message
+-- the place of a step of this kind is noted, if it sends the message
 abbrev pub noted_message : StepKind → ℕ → Name → Option ℕ → Option ℕ
 noted_message (Send n) place m before = if bytes_eq n m then Some place else before
 noted_message _ place m before = before

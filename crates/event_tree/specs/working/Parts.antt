@@ -6,6 +6,6 @@ use Rattle.event_tree.specs.declared.layout.view.EventPart.{EventPart}
 use Rattle.event_tree.specs.declared.layout.view.EventPart.TheVariants.{Leaf, Node}
 
 -- the part is a leaf, or a node of these halves
-abbrev pub Shows : EventPart → EventTree → Type 0
-Shows (Leaf n) e = e ≡ trees.Leaf n
-Shows (Node n a b) e = e ≡ trees.Node n a b
+abbrev pub ShowsEvents : EventPart → EventTree → Type 0
+ShowsEvents (Leaf n) e = e ≡ trees.Leaf n
+ShowsEvents (Node n a b) e = e ≡ trees.Node n a b

@@ -6,7 +6,7 @@ use Rattle.event_tree.specs.EventTree.{EventTree}
 use Rattle.event_tree.specs.NormalForm.{IsNormal, greatest}
 use Rattle.event_tree.specs.working.Entries.{first, later}
 use Rattle.event_tree.specs.Size.{size}
-use Rattle.event_tree.specs.Tests.{is_below_from, exceeds_from}
+use Rattle.event_tree.specs.working.Tests.{is_below_from, exceeds_from}
 use Rattle.event_tree.specs.declared.order.Bases.{Bases}
 
 abbrev pub bases_at : ℕ → ℕ → Bases

@@ -75,7 +75,7 @@ fn end_of(way: Way, e: EventView) -> Found
     requires { greatest e < 2 ^ 32 }
     ensures { IsThere way.entry e.entry result }
 {
-    e.counted();
+    e.recall_count();
     let mut way = way;
     let mut part = e;
     let mut at: usize = 0;

@@ -3,7 +3,7 @@
 ghost use Rattle.std.specs.Prelude.{◌≡◌, ◌+◌, ◌<◌, ◌≤◌, ◌^◌, length, IfOk};
 ghost use Rattle.event_tree.specs.NormalForm.{greatest, IsNormal};
 ghost use Rattle.event_tree.specs.Size.{size};
-ghost use Rattle.event_tree.specs.working.Writing.{IsWritten};
+ghost use Rattle.event_tree.specs.working.Writing.{HasTreeWritten};
 ghost use Rattle.event_tree.specs.working.Walks as walks;
 
 use super::Pick;
@@ -29,7 +29,7 @@ fn raised_into(
     requires fits { y + greatest f < 2 ^ 32 }
     requires normal { IsNormal f }
     requires room { start + size f ≤ length out.old }
-    ensures written { IfOk result (λ stop. IsWritten out.old out.new start stop (walks.clipped Pick.Greater k y f.entry)) }
+    ensures written { IfOk result (λ stop. HasTreeWritten out.old out.new start stop (walks.clipped Pick.Greater k y f.entry)) }
     ensures next { IfOk result (λ stop. stop ≤ start + size f.entry) }
 {
     if let Some(n) = f.leaf() {
@@ -58,7 +58,7 @@ fn raised_in_halves(
     requires fits { y + greatest f < 2 ^ 32 }
     requires normal { IsNormal f }
     requires room { start + size f ≤ length out.old }
-    ensures written { IfOk result (λ stop. IsWritten out.old out.new start stop (walks.clipped Pick.Greater k y f.entry)) }
+    ensures written { IfOk result (λ stop. HasTreeWritten out.old out.new start stop (walks.clipped Pick.Greater k y f.entry)) }
     ensures next { IfOk result (λ stop. stop ≤ start + size f.entry) }
 {
     if k <= y + f.root() {
@@ -91,7 +91,7 @@ fn joined_into(
     requires f_fits { y + greatest f < 2 ^ 32 }
     requires f_normal { IsNormal f }
     requires room { start + size e + size f ≤ length out.old + 1 }
-    ensures written { IfOk result (λ stop. IsWritten out.old out.new start stop (walks.combined_from Pick.Greater x e.entry y f.entry)) }
+    ensures written { IfOk result (λ stop. HasTreeWritten out.old out.new start stop (walks.combined_from Pick.Greater x e.entry y f.entry)) }
     ensures next { IfOk result (λ stop. stop < start + size e.entry + size f.entry) }
 {
     if let Some(m) = e.leaf() {
@@ -125,7 +125,7 @@ fn joined_in_halves(
     requires f_fits { y + greatest f < 2 ^ 32 }
     requires f_normal { IsNormal f }
     requires room { start + size e + size f ≤ length out.old + 1 }
-    ensures written { IfOk result (λ stop. IsWritten out.old out.new start stop (walks.combined_from Pick.Greater x e.entry y f.entry)) }
+    ensures written { IfOk result (λ stop. HasTreeWritten out.old out.new start stop (walks.combined_from Pick.Greater x e.entry y f.entry)) }
     ensures next { IfOk result (λ stop. stop < start + size e.entry + size f.entry) }
 {
     match e.part() {

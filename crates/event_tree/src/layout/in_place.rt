@@ -5,7 +5,7 @@ ghost use Rattle.event_tree.specs.EventTree.{Leaf};
 ghost use Rattle.event_tree.specs.Halves.{root};
 ghost use Rattle.event_tree.specs.Norm.{lifted, normal_node};
 ghost use Rattle.event_tree.specs.Size.{size};
-ghost use Rattle.event_tree.specs.working.Writing.{IsWritten};
+ghost use Rattle.event_tree.specs.working.Writing.{HasTreeWritten};
 
 use crate::layout::entries::Entry;
 use crate::layout::view::EventView;
@@ -14,7 +14,7 @@ use crate::layout::view::EventView;
 #[inline(always)]
 pub fn put_leaf(out: &mut [Entry], start: usize, n: u32) -> usize
     requires { start < length out.old }
-    ensures written { IsWritten out.old out.new start result (Leaf n) }
+    ensures written { HasTreeWritten out.old out.new start result (Leaf n) }
     ensures next { result ≡ start + 1 }
 {
     out[start] = Entry { value: n, size: 1 };
@@ -25,7 +25,7 @@ pub fn put_leaf(out: &mut [Entry], start: usize, n: u32) -> usize
 #[inline(always)]
 pub fn put_leaves(out: &mut [Entry], start: usize, m: u32, n: u32) -> usize
     requires { start + 2 < length out.old }
-    ensures written { IsWritten out.old out.new start result (normal_node 0 (Leaf m) (Leaf n)) }
+    ensures written { HasTreeWritten out.old out.new start result (normal_node 0 (Leaf m) (Leaf n)) }
     ensures next { result ≤ start + 3 }
 {
     if m == n {
@@ -57,7 +57,7 @@ pub fn put_all(out: &mut [Entry], start: usize, entries: &[Entry])
 pub fn put_lifted(out: &mut [Entry], start: usize, e: EventView, k: u32) -> usize
     requires fits { root e + k < 2 ^ 32 }
     requires room { start + size e ≤ length out.old }
-    ensures written { IsWritten out.old out.new start result (lifted k e.entry) }
+    ensures written { HasTreeWritten out.old out.new start result (lifted k e.entry) }
     ensures next { result ≡ start + size e.entry }
 {
     let entries = e.entries();

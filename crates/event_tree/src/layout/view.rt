@@ -7,7 +7,7 @@ ghost use Rattle.event_tree.specs.Norm.{lifted};
 ghost use Rattle.event_tree.specs.Size.{size};
 ghost use Rattle.event_tree.specs.Event.{opened_at};
 ghost use Rattle.event_tree.specs.working.Entries.{preorder, tree_of, IsPreorder};
-ghost use Rattle.event_tree.specs.working.Parts.{Shows};
+ghost use Rattle.event_tree.specs.working.Parts.{ShowsEvents};
 
 use crate::layout::entries::{Entries, Entry, push, push_leaf, push_leaf_pair};
 use std::alloc::AllocError;
@@ -53,7 +53,7 @@ impl<'a> EventView<'a> {
 
     // What stands at the top of this part.
     pub fn part(&self) -> EventPart<'a>
-        ensures { Shows result self.now }
+        ensures { ShowsEvents result self.now }
     {
         let entry = self.entries[0];
         if entry.size <= 1 {
@@ -129,7 +129,7 @@ impl<'a> EventView<'a> {
     }
 
     // Tells a proof that its entries can be counted.
-    pub fn counted(&self)
+    pub fn recall_count(&self)
         ensures { size self.now < 2 ^ 64 }
     {
         let _size = self.entries().len();

@@ -4,10 +4,10 @@ use Rattle.id_tree.specs.IdTree.{IdTree, Zero, One, Pair}
 use Rattle.id_tree.specs.NormalForm.{depth_limit}
 use Rattle.id_tree.specs.declared.fault.IdFault.{IdFault}
 use Rattle.id_tree.specs.declared.fault.IdFault.TheVariants as faults
-use Rattle.id_tree.specs.declared.reader.Part.{Part}
-use Rattle.id_tree.specs.declared.reader.Part.TheVariants as parts
-use Rattle.id_tree.specs.declared.reader.Half.{Half}
-use Rattle.id_tree.specs.declared.reader.Half.TheVariants as halves
+use Rattle.id_tree.specs.declared.reading.first_fault.Part.{Part}
+use Rattle.id_tree.specs.declared.reading.first_fault.Part.TheVariants as parts
+use Rattle.id_tree.specs.declared.reading.first_fault.Half.{Half}
+use Rattle.id_tree.specs.declared.reading.first_fault.Half.TheVariants as halves
 
 -- The pairs that are not closed yet, the innermost first, each with its left half if that was read, and the tree that was read last.
 pub record State : Type 0 where
@@ -110,7 +110,7 @@ abbrev pub last_of : Option IdTree → Option Part
 last_of None = None
 last_of (Some t) = Some (part_of t)
 
-pub record Shows (hs : List Half) (last : Option Part) (s : State) : Type 0 where
+pub record ShowsState (hs : List Half) (last : Option Part) (s : State) : Type 0 where
   pub halves : hs ≡ halves_of_pairs s.open_pairs
   pub last_is : last ≡ last_of s.last
 
@@ -118,7 +118,7 @@ pub record Shows (hs : List Half) (last : Option Part) (s : State) : Type 0 wher
 pub record StepsTo (s : State) (byte : ℕ) (hs : List Half) (last : Option Part) : Type 0 where
   pub next : State
   pub steps : step_of s byte ≡ Some next
-  pub shows : Shows hs last next
+  pub shows : ShowsState hs last next
 
 -- the only faults of a step: there is no state after it, or no memory
 abbrev pub IsStepFault : {A : Type 0} → IdFault → Option A → Type 0

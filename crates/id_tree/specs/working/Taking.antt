@@ -5,11 +5,11 @@ use Rattle.id_tree.specs.NormalForm.{IsNormal, depth}
 use Rattle.id_tree.specs.Spelling.{spelling}
 use Rattle.id_tree.specs.working.Marks.{preorder, tree_of, AreMarksOf}
 use Rattle.id_tree.specs.declared.marks.Mark.{Mark}
-use Rattle.id_tree.specs.declared.straight.Taken.{Taken}
-use Rattle.id_tree.specs.declared.straight.Halt.{Halt}
-use Rattle.id_tree.specs.declared.straight.Halt.TheVariants.{NoTree, NotNormal, Other}
-use Rattle.id_tree.specs.declared.straight.Form.{Form}
-use Rattle.id_tree.specs.declared.straight.Form.TheVariants as forms
+use Rattle.id_tree.specs.declared.reading.into_marks.Taken.{Taken}
+use Rattle.id_tree.specs.declared.reading.into_marks.Halt.{Halt}
+use Rattle.id_tree.specs.declared.reading.into_marks.Halt.TheVariants.{NoTree, NotNormal, Other}
+use Rattle.id_tree.specs.declared.reading.into_marks.Form.{Form}
+use Rattle.id_tree.specs.declared.reading.into_marks.Form.TheVariants as forms
 use Rattle.id_tree.specs.Faults.{SpellsUnnormal}
 
 -- this is the form of the tree

@@ -26,7 +26,7 @@ loop-before-preserved c =
 pub returns : goal.returns
 returns c = (
   λ yes. absurd (true≢false (sym yes)),
-  λ beyond. absurd (looked_run _ _ _ _ _ c.requires c.loop-before.invariant.1 c.loop-before.invariant.0 (omega (arith, c.loop-before-test.false, c.last_run-end.ensures.run)) beyond),
+  λ beyond. absurd (looked_run _ _ _ _ _ c.requires c.loop-before.invariant.1 c.loop-before.invariant.0 (omega (arith, c.loop-before-test.false, c.same_id_from-end.ensures.run)) beyond),
 )
 
 pub returns-in_default-get : goal.returns-in_default-get

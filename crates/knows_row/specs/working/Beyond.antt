@@ -5,14 +5,14 @@ use Rattle.event_tree.specs.Values.{IsAtOrBelow, ExceedsOn}
 use Rattle.stamp.specs.declared.stamp.Stamp.{Stamp}
 
 -- element k of these stamps
-abbrev pub numbered : List Stamp → ℕ → Option Stamp
-numbered stamps zero = None
-numbered stamps (suc k) = slice_get stamps k
+abbrev pub element_number : List Stamp → ℕ → Option Stamp
+element_number stamps zero = None
+element_number stamps (suc k) = slice_get stamps k
 
 -- the events are greater than those of element k at some point that its id owns
 pub record IsBeyondAt (events : EventTree) (stamps : List Stamp) (k : ℕ) : Type 0 where
   pub stamp : Stamp
-  pub is_element : numbered stamps k ≡ Some stamp
+  pub is_element : element_number stamps k ≡ Some stamp
   pub exceeds : ExceedsOn stamp.id events stamp.events
 
 -- and so at some element from k on

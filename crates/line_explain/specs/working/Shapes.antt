@@ -69,7 +69,7 @@ told (b ∷ bs) reason = reason
 -- why a word is not what is wanted
 abbrev pub IsStampCause : List ℕ → Why → Type 0
 IsStampCause word (why.Stamp fault) = IsStampFault fault word
-IsStampCause word why.TooLarge = stamps.IsFaultOf stamp_fault.TooLarge word
+IsStampCause word why.TooLarge = stamps.IsFaultOfStamp stamp_fault.TooLarge word
 IsStampCause word _ = ⊥
 
 abbrev pub IsIdCause : List ℕ → Why → Type 0
@@ -121,6 +121,6 @@ TellsOf kinds words first None = FitAll kinds words
 TellsOf kinds words first (Some found) = Stops kinds words first found.number found.why
 
 -- whether the words are those of a call, and why they are not
-abbrev pub IsTold : List (List ℕ) → Option WrongWord → Type 0
-IsTold words None = AreOfCall words
-IsTold words (Some found) = IsWrongAt words found.number found.why
+abbrev pub IsFirstWrongWord : List (List ℕ) → Option WrongWord → Type 0
+IsFirstWrongWord words None = AreOfCall words
+IsFirstWrongWord words (Some found) = IsWrongAt words found.number found.why

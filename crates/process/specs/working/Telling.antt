@@ -30,7 +30,7 @@ pub record IsReported (old : Process) (stamp : Stamp) (action : ReportKind) (tol
   pub line_is : IsLineOf old.epoch (next_report old stamp action) told.line.items
 
 -- an event was counted, and reported with this action
-pub record IsTold (old : Process) (action : ReportKind) (told : ReportedStep) : Type 0 where
+pub record IsReportedStep (old : Process) (action : ReportKind) (told : ReportedStep) : Type 0 where
   pub number : told.number ≡ old.reports + 1
   pub stamped : Counts old.stamp told.stamp
   pub line_is : IsLineOf old.epoch (next_report old told.stamp action) told.line.items

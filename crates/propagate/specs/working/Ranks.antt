@@ -34,8 +34,8 @@ pub record AreNextRanks (accepted : List Report) (cut next : List ℕ) : Type 0 
 
 -- the cut after so many rounds from the first one, each of which changed something
 abbrev pub RanksAfter : List Report → List ℕ → ℕ → List ℕ → Type 0
-RanksAfter accepted tops zero cut = cut ≡ tops
-RanksAfter accepted tops (suc t) cut = (before : List ℕ) × RanksAfter accepted tops t before × AreNextRanks accepted before cut × (before ≢ cut)
+RanksAfter accepted surviving_ranks zero cut = cut ≡ surviving_ranks
+RanksAfter accepted surviving_ranks (suc t) cut = (before : List ℕ) × RanksAfter accepted surviving_ranks t before × AreNextRanks accepted before cut × (before ≢ cut)
 
 -- a reason chain that ends at the place, all of whose places but the first entry are past the cut
 pub record IsGrounded (accepted : List Report) (failed cut : List ℕ) (last : Place) (chain : List Place) : Type 0 where
@@ -46,16 +46,16 @@ pub record IsGrounded (accepted : List Report) (failed cut : List ℕ) (last : P
 
 -- each process below its last surviving rank has such a chain, at its own number, that ends at its next position
 abbrev pub AreGrounded : List Report → List ℕ → List ℕ → List ℕ → List (List Place) → Type 0
-AreGrounded accepted failed tops cut chains =
-    (p : ℕ) → p < length cut → slice_index cut p < slice_index tops p
+AreGrounded accepted failed surviving_ranks cut chains =
+    (p : ℕ) → p < length cut → slice_index cut p < slice_index surviving_ranks p
     → IsGrounded accepted failed cut (place_at accepted p (slice_index cut p + 1)) (get_or chains p [])
 
 -- a cut after some rounds, with its chains
-pub record IsStage (accepted : List Report) (failed tops cut : List ℕ) (chains : List (List Place)) : Type 0 where
-  pub complete : length cut ≡ length tops
-  pub surviving : (p : ℕ) → p < length cut → slice_index cut p ≤ slice_index tops p
+pub record IsStage (accepted : List Report) (failed surviving_ranks cut : List ℕ) (chains : List (List Place)) : Type 0 where
+  pub complete : length cut ≡ length surviving_ranks
+  pub surviving : (p : ℕ) → p < length cut → slice_index cut p ≤ slice_index surviving_ranks p
   pub kept : length chains ≡ length cut
-  pub grounded : AreGrounded accepted failed tops cut chains
+  pub grounded : AreGrounded accepted failed surviving_ranks cut chains
 
 -- But for the processes that fell in the last round, which these are, each process is known by no place of the cut after
 -- its own position.

@@ -5,14 +5,14 @@ use Rattle.serde_json.specs.Data.{Data, Items, no_items, item}
 use Rattle.serde_json.specs.Written.{has_float, compact_text}
 
 -- the value has no float, and this is its text
-pub record IsWritten (d : Data) (text : List ℕ) : Type 0 where
+pub record IsJsonText (d : Data) (text : List ℕ) : Type 0 where
   pub no_float : has_float d ≡ false
   pub text_is : compact_text d ≡ text
 
 -- values with their texts, one each
 abbrev pub AreWritten : Items → List (List ℕ) → Type 0
 AreWritten no_items [] = ⊤
-AreWritten (item d ds) (text ∷ texts) = IsWritten d text × AreWritten ds texts
+AreWritten (item d ds) (text ∷ texts) = IsJsonText d text × AreWritten ds texts
 AreWritten no_items (text ∷ texts) = ⊥
 AreWritten (item d ds) [] = ⊥
 

@@ -8,8 +8,8 @@ use Rattle.chains.specs.declared.state.State.{State}
 use Rattle.record_show.specs.declared.shown.ShownProcess.{ShownProcess}
 use Rattle.record_show.specs.Processes.{shown_id, state_by}
 
-abbrev pub shown_with : Name → Option IdTree → Bool → ℕ → ℕ → List ℕ → ShownProcess
-shown_with p id absorbed reports elements last = record {
+abbrev pub shown_with : Name → Option IdTree → Bool → ℕ → ℕ → List ℕ → Option Name → ShownProcess
+shown_with p id absorbed reports elements last lost_in = record {
   name = p;
   state = state_by id absorbed;
   reports = reports;
@@ -17,7 +17,8 @@ shown_with p id absorbed reports elements last = record {
   depth = depth (shown_id id);
   size = size (shown_id id);
   last = last;
+  lost_in = lost_in;
 }
 
-pub record IsShownBy (p : Name) (state : State) (absorbed : Bool) (last : List ℕ) (shown : ShownProcess) : Type 0 where
-  pub is : shown ≡ shown_with p (option_copied state.id) absorbed state.reports state.elements last
+pub record IsShownBy (p : Name) (state : State) (absorbed : Bool) (last : List ℕ) (lost_in : Option Name) (shown : ShownProcess) : Type 0 where
+  pub is : shown ≡ shown_with p (option_copied state.id) absorbed state.reports state.elements last lost_in

@@ -10,7 +10,7 @@ pub data Occurs (root : Name) : History → Event → Type 0 where
   root_birth : Occurs root [] (birth_of_root root)
   step : {h : History} {s : Step} → Occurs root (s ∷ h) (event_of h s)
   birth : {h : History} {s : Step} {child : Name} {given : IdTree}
-      → s.deed ≡ Fork child given → Occurs root (s ∷ h) (birth_by h s child given)
+      → s.step_kind ≡ Fork child given → Occurs root (s ∷ h) (birth_by h s child given)
   earlier : {h : History} {s : Step} {x : Event} → Occurs root h x → Occurs root (s ∷ h) x
 
 -- the edges of a history: those that the newest step adds, and the earlier ones
@@ -20,13 +20,13 @@ pub data Edge (root : Name) : History → Event → Event → Type 0 where
       → status root h s.process ≡ Living last → Edge root (s ∷ h) last (event_of h s)
   -- from a fork to the birth
   to_birth : {h : History} {s : Step} {child : Name} {given : IdTree}
-      → s.deed ≡ Fork child given → Edge root (s ∷ h) (event_of h s) (birth_by h s child given)
+      → s.step_kind ≡ Fork child given → Edge root (s ∷ h) (event_of h s) (birth_by h s child given)
   -- from a send to each receive of its message
   to_receive : {h : History} {s : Step} {m : Message} {sent : Event}
-      → s.deed ≡ Receive m → sending h m ≡ Some sent → Edge root (s ∷ h) sent (event_of h s)
+      → s.step_kind ≡ Receive m → sending h m ≡ Some sent → Edge root (s ∷ h) sent (event_of h s)
   -- from a retirement to its absorption
   to_absorption : {h : History} {s : Step} {retired : Name} {retirement : Event}
-      → s.deed ≡ Absorb retired → status root h retired ≡ Retired retirement s.process → Edge root (s ∷ h) retirement (event_of h s)
+      → s.step_kind ≡ Absorb retired → status root h retired ≡ Retired retirement s.process → Edge root (s ∷ h) retirement (event_of h s)
   earlier : {h : History} {s : Step} {a b : Event} → Edge root h a b → Edge root (s ∷ h) a b
 
 -- `a` is in the past of `b`: they are the same, or a path of edges leads from `a` to `b`

@@ -38,7 +38,7 @@ birth_of_root root = record { process = root; number = 0; kind = Birth; id = One
 
 -- the event of the step `s` after the steps `h`
 abbrev pub event_of : History → Step → Event
-event_of h s = record { process = s.process; number = length (s ∷ h); kind = Does s.deed; id = s.stamp.id; values = s.stamp.events }
+event_of h s = record { process = s.process; number = length (s ∷ h); kind = Does s.step_kind; id = s.stamp.id; values = s.stamp.events }
 
 -- the birth of the process `child` by the step `s` after the steps `h`
 abbrev pub birth_by : History → Step → Name → IdTree → Event
@@ -68,8 +68,8 @@ unfoldable pub status : Name → History → Name → Status
 status root [] p = if bytes_eq p root then Living (birth_of_root root) else Unborn
 status root (s ∷ h) p =
     if bytes_eq p s.process
-    then status_of_actor s.deed (event_of h s)
-    else status_of_other h s s.deed p (status root h p)
+    then status_of_actor s.step_kind (event_of h s)
+    else status_of_other h s s.step_kind p (status root h p)
 
 -- the last event of a process that lives, or that retired and was not absorbed
 abbrev pub last_of : Status → Option Event
@@ -86,4 +86,4 @@ sends _ m = false
 -- the event that sent a message
 unfoldable pub sending : History → Message → Option Event
 sending [] m = None
-sending (s ∷ h) m = if sends s.deed m then Some (event_of h s) else sending h m
+sending (s ∷ h) m = if sends s.step_kind m then Some (event_of h s) else sending h m

@@ -48,7 +48,7 @@ pub record IsLawfulAbsorption (root : Name) (h : History) (before : Event) (s : 
   pub disjoint : AreDisjoint before.id retirement.id
   pub together : AreTogether before.id retirement.id s.stamp.id
 
--- what each deed asks of a step `s` after the steps `h`, where `before` is the process's last event
+-- what each kind of step asks of a step `s` after the steps `h`, where `before` is the process's last event
 abbrev pub IsAllowed : Name → History → Event → Step → StepKind → Type 0
 IsAllowed root h before s Work = IsOwnWork before before.values s
 IsAllowed root h before s Check = IsOwnWork before before.values s
@@ -63,4 +63,4 @@ IsAllowed root h before s (Absorb retired) = IsLawfulAbsorption root h before s 
 pub data IsLawful (root : Name) : History → Type 0 where
   start : IsLawful root []
   next : {h : History} {s : Step} {before : Event}
-      → IsLawful root h → status root h s.process ≡ Living before → IsAllowed root h before s s.deed → IsLawful root (s ∷ h)
+      → IsLawful root h → status root h s.process ≡ Living before → IsAllowed root h before s s.step_kind → IsLawful root (s ∷ h)

@@ -26,7 +26,7 @@ is_reported (Absorb retired) = true
 -- how many reporting steps of the process a history has
 abbrev pub reporting_steps : Name → History → ℕ
 reporting_steps p [] = 0
-reporting_steps p (s ∷ h) = if bytes_eq p s.process && is_reported s.deed then suc (reporting_steps p h) else reporting_steps p h
+reporting_steps p (s ∷ h) = if bytes_eq p s.process && is_reported s.step_kind then suc (reporting_steps p h) else reporting_steps p h
 
 -- the id of a process that stands so
 abbrev pub id_of : Status → IdTree
@@ -36,26 +36,26 @@ id_of (Retired last into) = last.id
 id_of Absorbed = Zero
 
 -- a report of the step `s` after the steps `h`, with this id, the number of this reporting step and the values after it
-abbrev pub numbered : History → Step → IdTree → ReportKind → Report
-numbered h s id a =
+abbrev pub step_report : History → Step → IdTree → ReportKind → Report
+step_report h s id a =
     Numbered (record { process = s.process; number = reporting_steps s.process h + 1; stamp = record { id = id; events = s.stamp.events }; action = a })
 
--- The report of the step `s` after the steps `h`, by its deed, which stands beside it, if it makes one. The id of its stamp
+-- The report of the step `s` after the steps `h`, by its kind, which stands beside it, if it makes one. The id of its stamp
 -- is the one after the step, and for a fork the one before the split.
 abbrev pub report_by : Name → History → Step → StepKind → Option Report
 report_by root h s Work = None
-report_by root h s Check = Some (numbered h s s.stamp.id reported.Check)
-report_by root h s Present = Some (numbered h s s.stamp.id reported.Present)
+report_by root h s Check = Some (step_report h s s.stamp.id reported.Check)
+report_by root h s Present = Some (step_report h s s.stamp.id reported.Present)
 report_by root h s (Send m) = None
 report_by root h s (Receive m) = None
 report_by root h s (Fork child given) =
-    Some (numbered h s (id_of (status root h s.process)) (reported.Fork (record { kept = s.stamp.id; child = child; given = given })))
-report_by root h s (Retire target) = Some (numbered h s s.stamp.id (reported.Retire target))
-report_by root h s (Absorb retired) = Some (numbered h s s.stamp.id (reported.Absorb retired))
+    Some (step_report h s (id_of (status root h s.process)) (reported.Fork (record { kept = s.stamp.id; child = child; given = given })))
+report_by root h s (Retire target) = Some (step_report h s s.stamp.id (reported.Retire target))
+report_by root h s (Absorb retired) = Some (step_report h s s.stamp.id (reported.Absorb retired))
 
 -- the report of the step `s` after the steps `h`, if it makes one
 abbrev pub report_of : Name → History → Step → Option Report
-report_of root h s = report_by root h s s.deed
+report_of root h s = report_by root h s s.step_kind
 
 -- the reports of a history, in order: the oldest first
 abbrev pub reports : Name → History → List Report

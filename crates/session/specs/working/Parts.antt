@@ -20,11 +20,11 @@ use Rattle.session.specs.Exchanges.{Exchange}
 use Rattle.session.specs.declared.kind.SessionEndKind.{SessionEndKind}
 use Rattle.session.specs.declared.kind.SessionEndKind.TheVariants as kinds
 use Rattle.client_link.specs.declared.link.LinkFault.{LinkFault}
-use Rattle.client_link.specs.Links.{up, LinkState, IsSound, IsFault, IsHandOn, Puts}
+use Rattle.client_link.specs.Links.{up, LinkState, IsSound, IsFault, IsFlush, Puts}
 use Rattle.session.specs.SessionText.{Mean, NoBye, LastSaysBye, ServedOver, IsWorn, IsUnmade, IsForeign, session_text, ending_line, ending_count, IsCutShort, IsCutInReply, joined, most_reads, AreNonEmptyReads, IsSession}
 use Rattle.session.specs.Turned.{MakesTurns}
-use Rattle.session.specs.declared.handing.HandOn.{HandOn}
-use Rattle.session.specs.declared.handing.HandOn.TheVariants as hand_ons
+use Rattle.session.specs.declared.flush_policy.FlushPolicy.{FlushPolicy}
+use Rattle.session.specs.declared.flush_policy.FlushPolicy.TheVariants as flush_policies
 use Rattle.session.specs.Ends.{IsPrompt, EachHasGone}
 
 -- ---- a turn
@@ -121,17 +121,17 @@ end_after (Err e) end = Some kinds.WriteFailed
 
 -- The reply to a line at which the session ends so was handed on, or that failed; or nothing was done, where there is none, or where they
 -- are not handed on one by one.
-abbrev pub HandsOn : HandOn → Option SessionEndKind → LinkState → LinkState → Option SessionEndKind → Type 0
-HandsOn when end old new result =
-    ((when ≡ hand_ons.EachReply → one_reply end ≡ 0) × (result ≡ end) × (new ≡ old))
-    ⊎ ((one_reply end ≡ 1) × ((tried : Result (Unit {0}) LinkFault) × IsHandOn old new tried × (result ≡ end_after tried end)))
+abbrev pub Flushes : FlushPolicy → Option SessionEndKind → LinkState → LinkState → Option SessionEndKind → Type 0
+Flushes when end old new result =
+    ((when ≡ flush_policies.EachReply → one_reply end ≡ 0) × (result ≡ end) × (new ≡ old))
+    ⊎ ((one_reply end ≡ 1) × ((tried : Result (Unit {0}) LinkFault) × IsFlush old new tried × (result ≡ end_after tried end)))
 
 -- Lines were served; where each reply is handed on, and none waited before, all earlier ones had gone before each turn, the last one
 -- where it is counted, and where it goes on none waits.
-pub record ServesLines {S K : Type 0} (makes : S → List Exchange → S → Type 0) (grounds : S → ServedOver) (told : K → LinkState) (when : HandOn) (old new : K) (lines : List (List ℕ)) (state after : S) (end : Option SessionEndKind) (count : ℕ) : Type 0 where
+pub record ServesLines {S K : Type 0} (makes : S → List Exchange → S → Type 0) (grounds : S → ServedOver) (told : K → LinkState) (when : FlushPolicy) (old new : K) (lines : List (List ℕ)) (state after : S) (end : Option SessionEndKind) (count : ℕ) : Type 0 where
   pub served : Serves makes grounds (told old) (told new) lines state after end count
-  pub gone : when ≡ hand_ons.EachReply → (told old).waiting ≡ [] → EachHasGone told old served.turned count
-  pub rests : when ≡ hand_ons.EachReply → (told old).waiting ≡ [] → end ≡ None → (told new).waiting ≡ []
+  pub gone : when ≡ flush_policies.EachReply → (told old).waiting ≡ [] → EachHasGone told old served.turned count
+  pub rests : when ≡ flush_policies.EachReply → (told old).waiting ≡ [] → end ≡ None → (told new).waiting ≡ []
 
 -- ---- reads
 
@@ -184,14 +184,14 @@ pub record Steps {S : Type 0} (makes : S → List Exchange → S → Type 0) (gr
   pub reads : new.reads ≡ up 1 old.reads
 
 -- the same, where each reply is handed on: all earlier ones had gone before each turn, and the last one where it is counted
-pub record StepsOn {S K : Type 0} (makes : S → List Exchange → S → Type 0) (grounds : S → ServedOver) (told : K → LinkState) (when : HandOn) (old new : K) (stand stand_after : Stand) (state after : S) (end : Option SessionEndKind) (count : ℕ) : Type 0 where
+pub record StepsOn {S K : Type 0} (makes : S → List Exchange → S → Type 0) (grounds : S → ServedOver) (told : K → LinkState) (when : FlushPolicy) (old new : K) (stand stand_after : Stand) (state after : S) (end : Option SessionEndKind) (count : ℕ) : Type 0 where
   pub steps : Steps makes grounds (told old) (told new) stand stand_after state after end count
-  pub gone : when ≡ hand_ons.EachReply → (told old).waiting ≡ [] → EachHasGone told old steps.turned count
+  pub gone : when ≡ flush_policies.EachReply → (told old).waiting ≡ [] → EachHasGone told old steps.turned count
 
 -- ---- a session
 
 -- so many reads were made, and each line that they complete was answered
-pub record Going {S K : Type 0} (makes : S → List Exchange → S → Type 0) (told : K → LinkState) (when : HandOn) (link now : K) (stand : Stand) (state after : S) (reads count : ℕ) : Type 0 where
+pub record Going {S K : Type 0} (makes : S → List Exchange → S → Type 0) (told : K → LinkState) (when : FlushPolicy) (link now : K) (stand : Stand) (state after : S) (reads count : ℕ) : Type 0 where
   pub pieces : List (List ℕ)
   pub turned : List Exchange
   pub made : length pieces ≡ reads
@@ -207,7 +207,7 @@ pub record Going {S K : Type 0} (makes : S → List Exchange → S → Type 0) (
   pub reads_are : (told now).reads ≡ up reads (told link).reads
   pub sound : IsSound (told link) (told now)
   pub prompt : IsPrompt told link pieces turned
-  pub gone : when ≡ hand_ons.EachReply → EachHasGone told link turned count
+  pub gone : when ≡ flush_policies.EachReply → EachHasGone told link turned count
 
 -- the ending line was written and all was handed on, or that failed
 pub record Closing (kind : SessionEndKind) (old new : LinkState) (count : ℕ) (end : SessionEndKind) (total : ℕ) : Type 0 where
@@ -227,7 +227,7 @@ Closes kinds.WriteFailed old new count end total = (end ≡ kinds.WriteFailed) �
 Closes kind old new count end total = Closing kind old new count end total
 
 -- what each read gave, the session text of it, which was written, and the exchanges, which are the turns that were made
-pub record Ran {S K : Type 0} (makes : S → List Exchange → S → Type 0) (grounds : S → ServedOver) (told : K → LinkState) (when : HandOn) (link final : K) (state after : S) (kind : SessionEndKind) (count : ℕ) : Type 0 where
+pub record Ran {S K : Type 0} (makes : S → List Exchange → S → Type 0) (grounds : S → ServedOver) (told : K → LinkState) (when : FlushPolicy) (link final : K) (state after : S) (kind : SessionEndKind) (count : ℕ) : Type 0 where
   pub pieces : List (List ℕ)
   pub turned : List Exchange
   pub text : List ℕ
@@ -238,4 +238,4 @@ pub record Ran {S K : Type 0} (makes : S → List Exchange → S → Type 0) (gr
   pub reads : (told final).reads ≡ up (length pieces) (told link).reads
   pub few : length pieces ≤ most_reads
   pub prompt : IsPrompt told link pieces turned
-  pub gone : when ≡ hand_ons.EachReply → EachHasGone told link turned count
+  pub gone : when ≡ flush_policies.EachReply → EachHasGone told link turned count

@@ -17,7 +17,7 @@ use Rattle.stamp.specs.declared.stamp.Stamp.{Stamp}
 use Rattle.stamp.specs.declared.fault.StampTextFault.{StampTextFault}
 use Rattle.stamp.specs.declared.fault.StampTextFault.TheVariants.{Syntax, NotNormal, TooDeep, TooLarge, Memory}
 use Rattle.stamp.specs.Stamps.{IsStamp, stamp_text}
-use Rattle.stamp.specs.Faults.{IsFaultOf}
+use Rattle.stamp.specs.Faults.{IsFaultOfStamp}
 
 -- no byte is a semicolon
 abbrev pub IsFree : List ℕ → Type 0
@@ -26,15 +26,15 @@ IsFree text = IsTrue (list_all (λ b. not (b == 59)) text)
 -- what an answer tells of the text that was read
 abbrev pub IdTold : Result IdTree IdFault → List ℕ → Type 0
 IdTold (Ok i) text = IsId i × (text ≡ ids.spelling i)
-IdTold (Err fault) text = ids_faults.IsFaultOf fault text
+IdTold (Err fault) text = ids_faults.IsFaultOfId fault text
 
 abbrev pub EventsTold : Result EventTree EventsFault → List ℕ → Type 0
 EventsTold (Ok e) text = IsEvents e × (text ≡ events.spelling e)
-EventsTold (Err fault) text = events_faults.IsFaultOf fault text
+EventsTold (Err fault) text = events_faults.IsFaultOfEvents fault text
 
 abbrev pub StampTold : Result Stamp StampTextFault → List ℕ → Type 0
 StampTold (Ok s) text = IsStamp s × (text ≡ stamp_text s)
-StampTold (Err fault) text = IsFaultOf fault text
+StampTold (Err fault) text = IsFaultOfStamp fault text
 
 -- the stamp, or the first fault of the order
 abbrev pub answer_of : Result IdTree IdFault → Result EventTree EventsFault → Result Stamp StampTextFault

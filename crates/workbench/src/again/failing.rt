@@ -4,7 +4,8 @@ ghost use Rattle.std.specs.Prelude.{◌≡◌};
 
 use super::over_disk::PARTS;
 use super::shared::answer;
-use anyhow::Result;
+use crate::fault::Result;
+use crate::output::Output;
 use line_disk::{Effect, MemoryDisk};
 use std::alloc::Global;
 use std::io::Read;
@@ -37,6 +38,6 @@ pub fn answer_all<T: Wait + Threads + Sync>(
         Blank::new(PARTS),
         disk_of(alloc, call, effect)?,
         &input,
-        &mut rt.stdout(),
+        &mut Output::new(rt.stdout()),
     )
 }

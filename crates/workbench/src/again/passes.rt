@@ -4,8 +4,9 @@ ghost use Rattle.std.specs.Prelude.{◌≡◌};
 ghost use Rattle.coordinator.specs.Passes.{ledger_parts};
 
 use super::over_disk::{PARTS, coordinator_over, put_closed};
-use anyhow::Result;
-use coordinator::{Coordinator, Pass, Unclosed};
+use crate::fault::{Fault, Result};
+use crate::output::Output;
+use coordinator::{CallFault, Coordinator, Pass, Unclosed};
 use line_disk::MemoryDisk;
 use report_line::Call;
 use std::alloc::Global;
@@ -14,111 +15,117 @@ use std::marker::Brand;
 use std::sync::Wait;
 use std::sync::ledger::{Blank, Ledger};
 
-// Writes a line with a number behind a word.
-fn put_number<W: Write>(alloc: Global, word: &str, number: u64, out: &mut W) -> Result<()> {
-    let text = format!(in alloc; "{word} {number}\n")?;
-    Ok(out.write_all(text.as_bytes())?)
-}
-
-// Makes a turn.
+// Makes a turn. It stands alone, since its clause is long.
 fn turn<L: Ledger, R: Wait>(
     rt: &R,
     coordinator: &Coordinator<L, MemoryDisk>,
     pass: &mut Pass<L>,
+) -> Result<(), CallFault> {
+    coordinator.call(rt, pass, Call::Bad(1))
+}
+
+// Takes a pass, which makes a turn.
+fn take<L: Ledger, R: Wait>(
+    rt: &R,
+    coordinator: &Coordinator<L, MemoryDisk>,
+    passes: &mut Vec<Pass<L>>,
 ) -> Result<()> {
-    Ok(coordinator.call(rt, pass, Call::Bad(1))?)
+    let mut pass = coordinator.pass(rt)?;
+    turn(rt, coordinator, &mut pass)?;
+    passes.push(pass)?;
+    Ok(())
 }
 
 // Takes so many passes, each of which makes a turn, or writes why there are no more.
-fn take<L: Ledger, R: Wait, W: Write>(
+fn take_many<L: Ledger, R: Wait, W: Write + Drop>(
     rt: &R,
     coordinator: &Coordinator<L, MemoryDisk>,
     passes: &mut Vec<Pass<L>>,
     count: u32,
-    out: &mut W,
+    out: &mut Output<W>,
 ) -> Result<()> {
     for _ in 0..count {
-        match coordinator.pass(rt) {
-            Ok(mut pass) => {
-                turn(rt, coordinator, &mut pass)?;
-                passes.push(pass)?;
-            }
-            Err(fault) => {
-                let text = format!(in coordinator.alloc(); "{fault}\n")?;
-                out.write_all(text.as_bytes())?;
+        match take(rt, coordinator, passes) {
+            Ok(()) => {}
+            Err(Fault::Pass(fault)) => {
+                out.put_made(format!(in coordinator.alloc(); "{fault}\n"));
                 return Ok(());
             }
+            Err(fault) => return Err(fault),
         }
     }
     Ok(())
 }
 
 // Closes a coordinator whose close is refused, and writes why. What is handed back is as it was.
-fn close_short<L: Ledger, W: Write>(
+fn close_short<L: Ledger, W: Write + Drop>(
     alloc: Global,
     coordinator: Coordinator<L, MemoryDisk>,
     passes: Vec<Pass<L>>,
-    out: &mut W,
-) -> Result<Option<(Coordinator<L, MemoryDisk>, Vec<Pass<L>>)>> {
-    let Err(unclosed) = coordinator.close(passes) else {
-        return Ok(None);
-    };
-    let Unclosed {
-        fault,
-        coordinator,
-        passes,
-    } = unclosed;
-    let text = format!(in alloc; "{fault}\n")?;
-    out.write_all(text.as_bytes())?;
-    Ok(Some((coordinator, passes)))
+    out: &mut Output<W>,
+) -> Option<(Coordinator<L, MemoryDisk>, Vec<Pass<L>>)> {
+    match coordinator.close(passes) {
+        Ok(_) => None,
+        Err(
+            Unclosed {
+                fault,
+                coordinator,
+                passes,
+            },
+        ) => {
+            out.put_made(format!(in alloc; "{fault}\n"));
+            Some((coordinator, passes))
+        }
+    }
 }
 
 // Closes the coordinator with this pass, too.
-fn close_with<L: Ledger, W: Write>(
+fn close_with<L: Ledger, W: Write + Drop>(
     coordinator: Coordinator<L, MemoryDisk>,
     mut passes: Vec<Pass<L>>,
     last: Pass<L>,
-    out: &mut W,
+    out: &mut Output<W>,
 ) -> Result<()> {
     passes.push(last)?;
     put_closed(coordinator, passes, out)
 }
 
 // Closes the coordinator without this pass, and then with it.
-fn close_without<L: Ledger, W: Write>(
+fn close_without<L: Ledger, W: Write + Drop>(
     alloc: Global,
     coordinator: Coordinator<L, MemoryDisk>,
     passes: Vec<Pass<L>>,
     last: Pass<L>,
-    out: &mut W,
+    out: &mut Output<W>,
 ) -> Result<()> {
-    put_number(alloc, "PASS", u64::from(last.number()), out)?;
-    match close_short(alloc, coordinator, passes, out)? {
+    let number = last.number();
+    out.put_made(format!(in alloc; "PASS {number}\n"));
+    match close_short(alloc, coordinator, passes, out) {
         Some((coordinator, passes)) => close_with(coordinator, passes, last, out),
-        None => Ok(()),
+        None => out.end(),
     }
 }
 
 // Closes the coordinator without its last pass, and then with it.
-fn close_twice<L: Ledger, W: Write>(
+fn close_twice<L: Ledger, W: Write + Drop>(
     alloc: Global,
     coordinator: Coordinator<L, MemoryDisk>,
     mut passes: Vec<Pass<L>>,
-    out: &mut W,
+    out: &mut Output<W>,
 ) -> Result<()> {
     match passes.pop() {
         Some(last) => close_without(alloc, coordinator, passes, last, out),
-        None => Ok(()),
+        None => out.end(),
     }
 }
 
 // Takes so many passes of a coordinator of its own, and closes it.
-fn take_all<L: Ledger, R: Wait, W: Write>(
+fn take_all<L: Ledger, R: Wait, W: Write + Drop>(
     rt: &R,
     alloc: Global,
     blank: Blank,
     count: u32,
-    out: &mut W,
+    out: &mut Output<W>,
 ) -> Result<()>
     requires name { blank.name ≡ L.name }
     requires parts { (blank.parts ≡ L.parts) × (blank.parts ≡ ledger_parts) }
@@ -126,7 +133,7 @@ fn take_all<L: Ledger, R: Wait, W: Write>(
     let disk = MemoryDisk::new(alloc, &[])?;
     let coordinator = coordinator_over::<L, _, W>(alloc, blank, disk, 1, out)?;
     let mut passes = Vec::new(alloc);
-    take(rt, &coordinator, &mut passes, count, out)?;
+    take_many(rt, &coordinator, &mut passes, count, out)?;
     close_twice(alloc, coordinator, passes, out)
 }
 
@@ -134,5 +141,11 @@ fn take_all<L: Ledger, R: Wait, W: Write>(
 /// the coordinator is not closed without it, and how it ends with all.
 pub fn put_passes<T: Wait>(rt: &HostRuntime, threads: &T, count: u32) -> Result<()> {
     let alloc = rt.alloc();
-    take_all::<Brand, _, _>(threads, alloc, Blank::new(PARTS), count, &mut rt.stdout())
+    take_all::<Brand, _, _>(
+        threads,
+        alloc,
+        Blank::new(PARTS),
+        count,
+        &mut Output::new(rt.stdout()),
+    )
 }

@@ -5,8 +5,9 @@ ghost use Rattle.coordinator.specs.Passes.{ledger_parts};
 
 use super::over_disk::{PARTS, coordinator_over, put_closed};
 use super::shared::File;
-use anyhow::Result;
-use client_link::Streams;
+use crate::fault::Result;
+use crate::output::Output;
+use client_link::{Link, Streams};
 use coordinator::{Coordinator, OpenGate, Pass};
 use line_disk::FileDisk;
 use record_file::RecordReach;
@@ -33,6 +34,16 @@ fn word_of(kind: SessionEndKind) -> &'static str {
     }
 }
 
+// Serves the client of this link. It stands alone, since its clause is long.
+fn serve_client<L: Ledger, R: Wait + Threads + Sync, K: Link>(
+    rt: &R,
+    coordinator: &Coordinator<L, File>,
+    pass: &mut Pass<L>,
+    link: &mut K,
+) -> SessionEnd {
+    serve_link(rt, coordinator, pass, &OpenGate, link)
+}
+
 // Serves the client of these streams, with the buffer that a link of the program has. Answers how the session ended.
 fn serve_streams<L: Ledger, R: Wait + Threads + Sync, I: Read + Drop, W: Write + Drop>(
     rt: &R,
@@ -43,7 +54,7 @@ fn serve_streams<L: Ledger, R: Wait + Threads + Sync, I: Read + Drop, W: Write +
 ) -> Result<SessionEnd> {
     let output = BufWriter::new(coordinator.alloc(), output)?;
     let mut link = Streams::new(input, output);
-    let end = serve_link(rt, coordinator, pass, &OpenGate, &mut link);
+    let end = serve_client(rt, coordinator, pass, &mut link);
     let (_input, output) = link.into_inner();
     // What could not be handed on is not tried once more, as it would be where the buffer is dropped.
     let (_output, _unwritten) = output.into_parts();
@@ -51,38 +62,43 @@ fn serve_streams<L: Ledger, R: Wait + Threads + Sync, I: Read + Drop, W: Write +
 }
 
 // Writes how a session ended.
-fn put_kind<W: Write>(alloc: Global, end: SessionEnd, out: &mut W) -> Result<()> {
+fn put_kind<W: Write + Drop>(alloc: Global, end: SessionEnd, out: &mut Output<W>) {
     let SessionEnd { kind, replies } = end;
     let word = word_of(kind);
-    let text = format!(in alloc; "{word} {replies}\n")?;
-    Ok(out.write_all(text.as_bytes())?)
+    out.put_made(format!(in alloc; "{word} {replies}\n"));
 }
 
-// Serves the client by one pass, and tells how the session ended; answers the pass.
-fn serve_by<L: Ledger, R: Wait + Threads + Sync, I: Read + Drop, W: Write + Drop, E: Write>(
+// Serves the client by one pass, and writes how the session ended; answers the pass.
+fn serve_by<L: Ledger, R: Wait + Threads + Sync, I: Read + Drop, W: Write + Drop, E: Write + Drop>(
     rt: &R,
     coordinator: &Coordinator<L, File>,
     input: I,
     output: W,
-    told: &mut E,
+    told: &mut Output<E>,
 ) -> Result<Vec<Pass<L>>> {
     let mut pass = coordinator.pass(rt)?;
     let end = serve_streams(rt, coordinator, &mut pass, input, output)?;
-    put_kind(coordinator.alloc(), end, told)?;
+    put_kind(coordinator.alloc(), end, told);
     let mut passes = Vec::new(coordinator.alloc());
     passes.push(pass)?;
     Ok(passes)
 }
 
 // Serves the client over a coordinator of its own, and tells how that ended.
-fn serve_over<L: Ledger, R: Wait + Threads + Sync, I: Read + Drop, W: Write + Drop, E: Write>(
+fn serve_over<
+    L: Ledger,
+    R: Wait + Threads + Sync,
+    I: Read + Drop,
+    W: Write + Drop,
+    E: Write + Drop,
+>(
     rt: &R,
     alloc: Global,
     blank: Blank,
     disk: File,
     input: I,
     output: W,
-    told: &mut E,
+    told: &mut Output<E>,
 ) -> Result<()>
     requires name { blank.name ≡ L.name }
     requires parts { (blank.parts ≡ L.parts) × (blank.parts ≡ ledger_parts) }
@@ -108,6 +124,6 @@ pub fn serve_one<T: Wait + Threads + Sync>(
         disk,
         rt.reader(),
         rt.stdout(),
-        &mut rt.stderr(),
+        &mut Output::new(rt.stderr()),
     )
 }

@@ -2,13 +2,13 @@
 
 ghost use Rattle.std.specs.Prelude.{◌≡◌, ◌≤◌, length, IfOk};
 ghost use Rattle.report_line.specs.Cutting.{line_limit};
-ghost use Rattle.report_line.specs.Replies.{IsWritten};
+ghost use Rattle.report_line.specs.Replies.{HasText};
 ghost use Rattle.desk.specs.Files.{IsShort};
 ghost use Rattle.coordinator.specs.Passes.{ledger_parts};
 
 use super::over_disk::{PARTS, coordinator_over, put_closed};
-use super::put_again;
-use anyhow::{Error, Result};
+use crate::fault::{Fault, Result};
+use crate::output::Output;
 use coordinator::{CallFault, Coordinator, Gate, OpenGate, Pass};
 use line_disk::{Disk, FileDisk, Modelled};
 use record_file::RecordReach;
@@ -27,7 +27,7 @@ const LONGEST: usize = 8192;
 pub type File = FileDisk<Modelled>;
 
 // Makes the turn of a call.
-fn ask_once<L: Ledger, D: Disk, G: Gate + Sync, R: Wait + Threads + Sync>(
+fn turn<L: Ledger, D: Disk, G: Gate + Sync, R: Wait + Threads + Sync>(
     rt: &R,
     coordinator: &Coordinator<L, D>,
     pass: &mut Pass<L>,
@@ -56,42 +56,54 @@ fn read(alloc: Global, line: &[u8]) -> Result<Call, LineFault>
 }
 
 // Makes the turn of a line.
-fn ask<L: Ledger, D: Disk, G: Gate + Sync, R: Wait + Threads + Sync, W: Write>(
+fn ask_once<L: Ledger, D: Disk, G: Gate + Sync, R: Wait + Threads + Sync>(
     rt: &R,
     coordinator: &Coordinator<L, D>,
     pass: &mut Pass<L>,
     gate: &G,
     line: &[u8],
-    out: &mut W,
 ) -> Result<()>
     requires { length line.now ≤ line_limit }
 {
     let call = read(coordinator.alloc(), line)?;
-    match ask_once(rt, coordinator, pass, gate, call) {
-        Ok(()) => return Ok(()),
-        Err(CallFault::Memory) => put_again(out, b"call")?,
-        Err(fault) => return Err(Error::from(fault)),
+    Ok(turn(rt, coordinator, pass, gate, call)?)
+}
+
+// The same, at the second try if memory was missing.
+fn ask<L: Ledger, D: Disk, G: Gate + Sync, R: Wait + Threads + Sync, W: Write + Drop>(
+    rt: &R,
+    coordinator: &Coordinator<L, D>,
+    pass: &mut Pass<L>,
+    gate: &G,
+    line: &[u8],
+    out: &mut Output<W>,
+) -> Result<()>
+    requires { length line.now ≤ line_limit }
+{
+    match ask_once(rt, coordinator, pass, gate, line) {
+        Err(Fault::Call(CallFault::Memory)) => {
+            out.put_again(b"call");
+            ask_once(rt, coordinator, pass, gate, line)
+        }
+        done => done,
     }
-    let call = read(coordinator.alloc(), line)?;
-    Ok(ask_once(rt, coordinator, pass, gate, call)?)
 }
 
 // Writes a reply with its LF.
-fn put_reply<W: Write>(alloc: Global, reply: &Reply, out: &mut W) -> Result<()>
-    requires { IsWritten reply.now }
+fn put_reply<W: Write + Drop>(alloc: Global, reply: &Reply, out: &mut Output<W>)
+    requires { HasText reply.now }
 {
-    let mut text = write_reply(alloc, reply)?;
-    text.push(b'\n')?;
-    Ok(out.write_all(&text)?)
+    out.put_made(write_reply(alloc, reply));
+    out.put(b"\n");
 }
 
 // Writes what the pass shows last.
-fn put_shown<L: Ledger, W: Write>(alloc: Global, pass: &Pass<L>, out: &mut W) -> Result<()> {
+fn put_shown<L: Ledger, W: Write + Drop>(alloc: Global, pass: &Pass<L>, out: &mut Output<W>) {
     let Some(shown) = pass.shown() else {
-        return Ok(());
+        return;
     };
     match shown {
-        Reply::Taken(_) => Ok(()),
+        Reply::Taken(_) => {}
         Reply::Accepted(_)
         | Reply::Old(_)
         | Reply::No { .. }
@@ -105,29 +117,29 @@ fn put_shown<L: Ledger, W: Write>(alloc: Global, pass: &Pass<L>, out: &mut W) ->
 }
 
 /// Makes the turn of each line, and writes what the pass shows for it.
-pub fn put_replies<L: Ledger, D: Disk, G: Gate + Sync, R: Wait + Threads + Sync, W: Write>(
+pub fn put_replies<L: Ledger, D: Disk, G: Gate + Sync, R: Wait + Threads + Sync, W: Write + Drop>(
     rt: &R,
     coordinator: &Coordinator<L, D>,
     pass: &mut Pass<L>,
     gate: &G,
     input: &[u8],
-    out: &mut W,
+    out: &mut Output<W>,
 ) -> Result<()> {
     for line in input.split(|b| *b == b'\n') {
         if line.len() > 0 && line.len() <= LONGEST {
             ask(rt, coordinator, pass, gate, line, out)?;
-            put_shown(coordinator.alloc(), pass, out)?;
+            put_shown(coordinator.alloc(), pass, out);
         }
     }
     Ok(())
 }
 
 // Answers the lines by one pass; answers that.
-fn answer_by<L: Ledger, D: Disk, R: Wait + Threads + Sync, W: Write>(
+fn answer_by<L: Ledger, D: Disk, R: Wait + Threads + Sync, W: Write + Drop>(
     rt: &R,
     coordinator: &Coordinator<L, D>,
     input: &[u8],
-    out: &mut W,
+    out: &mut Output<W>,
 ) -> Result<Vec<Pass<L>>> {
     let mut pass = coordinator.pass(rt)?;
     put_replies(rt, coordinator, &mut pass, &OpenGate, input, out)?;
@@ -137,13 +149,13 @@ fn answer_by<L: Ledger, D: Disk, R: Wait + Threads + Sync, W: Write>(
 }
 
 /// Answers the lines over a coordinator of its own.
-pub fn answer<L: Ledger, D: Disk + Drop, R: Wait + Threads + Sync, W: Write>(
+pub fn answer<L: Ledger, D: Disk + Drop, R: Wait + Threads + Sync, W: Write + Drop>(
     rt: &R,
     alloc: Global,
     blank: Blank,
     disk: D,
     input: &[u8],
-    out: &mut W,
+    out: &mut Output<W>,
 ) -> Result<()>
     requires name { blank.name ≡ L.name }
     requires parts { (blank.parts ≡ L.parts) × (blank.parts ≡ ledger_parts) }
@@ -170,6 +182,6 @@ pub fn answer_all<T: Wait + Threads + Sync>(
         Blank::new(PARTS),
         disk,
         &input,
-        &mut rt.stdout(),
+        &mut Output::new(rt.stdout()),
     )
 }

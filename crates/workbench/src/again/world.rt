@@ -1,7 +1,7 @@
 //! The steps and settlements of a world.
 
-use super::put_again;
-use anyhow::{Error, Result};
+use crate::fault::Result;
+use crate::output::Output;
 use chains::Position;
 use driver::{NamedPosition, StepFault, World};
 use report_line::{Name, PackedReport, Report, write_marked};
@@ -20,14 +20,19 @@ fn begin_once(alloc: Global, line: &str) -> Result<(World, Report), StepFault> {
     }
 }
 
-// The same, at the second try where memory was wanting.
-fn begin<W: Write>(alloc: Global, line: &str, out: &mut W) -> Result<(World, Report)> {
+// The same, at the second try if memory was missing.
+fn begin<W: Write + Drop>(
+    alloc: Global,
+    line: &str,
+    out: &mut Output<W>,
+) -> Result<(World, Report), StepFault> {
     match begin_once(alloc, line) {
-        Ok(begun) => return Ok(begun),
-        Err(StepFault::Memory) => put_again(out, b"root")?,
-        Err(fault) => return Err(Error::from(fault)),
+        Err(StepFault::Memory) => {
+            out.put_again(b"root");
+            begin_once(alloc, line)
+        }
+        done => done,
     }
-    Ok(begin_once(alloc, line)?)
 }
 
 // The world takes the step of a line.
@@ -38,41 +43,55 @@ fn step_once(world: &mut World, line: &str) -> Result<Option<Report>, StepFault>
     }
 }
 
-// The same, at the second try where memory was wanting.
-fn step<W: Write>(world: &mut World, line: &str, out: &mut W) -> Result<Option<Report>> {
+// The same, at the second try if memory was missing.
+fn step<W: Write + Drop>(
+    world: &mut World,
+    line: &str,
+    out: &mut Output<W>,
+) -> Result<Option<Report>, StepFault> {
     match step_once(world, line) {
-        Ok(given) => return Ok(given),
-        Err(StepFault::Memory) => put_again(out, b"step")?,
-        Err(fault) => return Err(Error::from(fault)),
+        Err(StepFault::Memory) => {
+            out.put_again(b"step");
+            step_once(world, line)
+        }
+        done => done,
     }
-    Ok(step_once(world, line)?)
 }
 
-// The world returns to a line, at the second try where memory was wanting.
-fn settle<W: Write>(
+// The world returns to a line. It stands alone, since its clause is long.
+fn settle_once(
     world: &mut World,
     failed: &[Name],
     line: &[NamedPosition],
-    out: &mut W,
-) -> Result<()> {
-    match world.settle(failed, line) {
-        Ok(()) => return Ok(()),
-        Err(StepFault::Memory) => put_again(out, b"return")?,
-        Err(fault) => return Err(Error::from(fault)),
-    }
-    Ok(world.settle(failed, line)?)
+) -> Result<(), StepFault> {
+    world.settle(failed, line)
 }
 
-// The names in a word, parted by commas.
+// The same, at the second try if memory was missing.
+fn settle<W: Write + Drop>(
+    world: &mut World,
+    failed: &[Name],
+    line: &[NamedPosition],
+    out: &mut Output<W>,
+) -> Result<(), StepFault> {
+    match settle_once(world, failed, line) {
+        Err(StepFault::Memory) => {
+            out.put_again(b"return");
+            settle_once(world, failed, line)
+        }
+        done => done,
+    }
+}
+
+// The names in a word, separated by commas.
 fn names_of(alloc: Global, word: &str) -> Result<Vec<Name>, AllocError> {
     word.split(',')
         .filter_map(|part| Name::from_bytes(part.as_bytes()))
         .collect(alloc)
 }
 
-// The line that the words spell: names with their positions.
-fn line_of(alloc: Global, words: &[&str]) -> Result<Vec<NamedPosition>, AllocError> {
-    let mut line = Vec::new(alloc);
+// Adds what the words spell to the line: names with their positions.
+fn add_positions(line: &mut Vec<NamedPosition>, words: &[&str]) -> Result<(), AllocError> {
     for pair in words.chunks(2) {
         if let [name, number] = *pair
             && let Some(name) = Name::from_bytes(name.as_bytes())
@@ -82,64 +101,96 @@ fn line_of(alloc: Global, words: &[&str]) -> Result<Vec<NamedPosition>, AllocErr
             line.push(NamedPosition { name, position })?;
         }
     }
-    Ok(line)
-}
-
-// The world takes a step, or returns to a line. Answers the report, if there is one.
-fn take<W: Write>(
-    alloc: Global,
-    world: &mut World,
-    line: &str,
-    out: &mut W,
-) -> Result<Option<Report>> {
-    let words: Vec<&str> = line.split(' ').collect(alloc)?;
-    if let ["return", failed, ref places @ ..] = *words {
-        let failed = names_of(alloc, failed)?;
-        let line = line_of(alloc, places)?;
-        settle(world, &failed, &line, out)?;
-        return Ok(None);
-    }
-    step(world, line, out)
-}
-
-// Writes a report.
-fn put_packed<W: Write>(
-    alloc: Global,
-    epoch: u32,
-    report: &PackedReport,
-    out: &mut W,
-) -> Result<()> {
-    let mut text = write_marked(alloc, epoch, report)?;
-    text.push(b'\n')?;
-    Ok(out.write_all(&text)?)
-}
-
-// The same, if there is one.
-fn put_report<W: Write>(
-    alloc: Global,
-    epoch: u32,
-    report: Option<Report>,
-    out: &mut W,
-) -> Result<()> {
-    match report {
-        Some(report) => put_packed(alloc, epoch, &PackedReport::of(report), out),
-        None => Ok(()),
-    }
-}
-
-// The world goes on by these lines.
-fn go_on<W: Write>(alloc: Global, world: &mut World, lines: &[&str], out: &mut W) -> Result<()> {
-    for line in lines {
-        let report = take(alloc, world, line, out)?;
-        put_report(alloc, world.epoch(), report, out)?;
-    }
     Ok(())
 }
 
+// The world returns to the line that these words spell, where these failed.
+fn settle_by<W: Write + Drop>(
+    alloc: Global,
+    world: &mut World,
+    failed: &str,
+    places: &[&str],
+    out: &mut Output<W>,
+) -> Result<()> {
+    let failed = names_of(alloc, failed)?;
+    let mut line = Vec::new(alloc);
+    add_positions(&mut line, places)?;
+    Ok(settle(world, &failed, &line, out)?)
+}
+
+// The world takes the step of a line, or returns to one. Answers the report, if there is one.
+fn take<W: Write + Drop>(
+    alloc: Global,
+    world: &mut World,
+    line: &str,
+    words: &[&str],
+    out: &mut Output<W>,
+) -> Result<Option<Report>> {
+    if let ["return", failed, ref places @ ..] = *words {
+        settle_by(alloc, world, failed, places, out)?;
+        return Ok(None);
+    }
+    Ok(step(world, line, out)?)
+}
+
+// Writes a report.
+fn put_packed<W: Write + Drop>(
+    alloc: Global,
+    epoch: u32,
+    report: &PackedReport,
+    out: &mut Output<W>,
+) {
+    out.put_made(write_marked(alloc, epoch, report));
+    out.put(b"\n");
+}
+
+// The same, if there is one.
+fn put_report<W: Write + Drop>(
+    alloc: Global,
+    epoch: u32,
+    report: Option<Report>,
+    out: &mut Output<W>,
+) {
+    if let Some(report) = report {
+        put_packed(alloc, epoch, &PackedReport::of(report), out);
+    }
+}
+
+// The world goes on by a line.
+fn go_on_by<W: Write + Drop>(
+    alloc: Global,
+    world: &mut World,
+    line: &str,
+    out: &mut Output<W>,
+) -> Result<()> {
+    let words: Vec<&str> = line.split(' ').collect(alloc)?;
+    let report = take(alloc, world, line, &words, out)?;
+    put_report(alloc, world.epoch(), report, out);
+    Ok(())
+}
+
+// The world goes on by these lines.
+fn go_on<W: Write + Drop>(
+    alloc: Global,
+    world: &mut World,
+    lines: &[&str],
+    out: &mut Output<W>,
+) -> Result<()> {
+    for line in lines {
+        go_on_by(alloc, world, line, out)?;
+    }
+    out.end()
+}
+
 // A world that the first line begins goes on by the others.
-fn drive<W: Write>(alloc: Global, first: &str, lines: &[&str], out: &mut W) -> Result<()> {
+fn drive<W: Write + Drop>(
+    alloc: Global,
+    first: &str,
+    lines: &[&str],
+    out: &mut Output<W>,
+) -> Result<()> {
     let (mut world, report) = begin(alloc, first, out)?;
-    put_report(alloc, 0, Some(report), out)?;
+    put_report(alloc, 0, Some(report), out);
     go_on(alloc, &mut world, lines, out)
 }
 
@@ -151,7 +202,7 @@ pub fn drive_all(rt: &HostRuntime) -> Result<()> {
     rt.reader().read_to_string(&mut input)?;
     let lines: Vec<&str> = input.lines().collect(alloc)?;
     match lines.split_first() {
-        Some((first, lines)) => drive(alloc, first, lines, &mut rt.stdout()),
+        Some((first, lines)) => drive(alloc, first, lines, &mut Output::new(rt.stdout())),
         None => Ok(()),
     }
 }

@@ -1,10 +1,10 @@
 //! Calls on certificates.
 
-use super::answer::put_by;
+use super::answer::{Answer, Written, put_by};
 use super::processes::failed_of;
 use chains::{Chains, Failed};
 use propagate::certificate;
-use reason_check::check;
+use reason_check::{Verdict, check};
 use reasons::{Certificate, CertificateFault, from_json, to_json};
 use std::alloc::AllocError;
 use std::fmt;
@@ -26,44 +26,41 @@ fn certificate_of(chains: &Chains, text: &str) -> Result<Certificate, TextFault>
     from_json(chains, text.as_bytes()).map_err(TextFault)
 }
 
-fn put_text(
-    chains: &Chains,
-    certificate: &Certificate,
-    out: &mut Vec<u8>,
-) -> Result<(), AllocError> {
-    let text = to_json(chains, certificate)?;
-    out.extend_from_slice(text.as_bytes())
+fn put_text(chains: &Chains, certificate: &Certificate, out: &mut Answer) {
+    let text = to_json(chains, certificate);
+    out.put_made(text);
 }
 
 // The certificate of the line, if these failed.
-fn put_found(chains: &Chains, failed: &Failed, out: &mut Vec<u8>) -> Result<(), AllocError> {
-    let found = certificate(chains, failed)?;
-    put_text(chains, &found, out)
+fn put_found(chains: &Chains, failed: &Failed, out: &mut Answer) {
+    match certificate(chains, failed) {
+        Ok(found) => put_text(chains, &found, out),
+        Err(_) => out.run_out(),
+    }
+}
+
+impl Written for Verdict {
+    fn append_to(&self, text: &mut Vec<u8>) -> Result<(), AllocError> {
+        self.write_to(text)
+    }
 }
 
 /// Answers a call on certificates, by its word and the text behind it; whether it is one.
-pub fn answer(
-    chains: &Chains,
-    word: &str,
-    text: &str,
-    out: &mut Vec<u8>,
-) -> Result<bool, AllocError> {
+pub fn answer(chains: &Chains, word: &str, text: &str, out: &mut Answer) -> bool {
     match word {
         "certificate" => put_by(failed_of(chains, text), out, |failed, out| {
             put_found(chains, failed, out)
-        })?,
-        "read" => put_by(certificate_of(chains, text), out, |_, out| {
-            out.extend_from_slice(b"READ")
-        })?,
+        }),
+        "read" => put_by(certificate_of(chains, text), out, |_, out| out.put(b"READ")),
         // What is read, written again.
         "write" => put_by(certificate_of(chains, text), out, |read, out| {
             put_text(chains, read, out)
-        })?,
+        }),
         // The verdict on it.
         "check" => put_by(certificate_of(chains, text), out, |read, out| {
-            check(chains, read).write_to(out)
-        })?,
-        _ => return Ok(false),
+            out.put_value(&check(chains, read))
+        }),
+        _ => return false,
     }
-    Ok(true)
+    true
 }

@@ -3,7 +3,7 @@
 ghost use Rattle.std.specs.Prelude.{◌<◌, length, IfOk};
 ghost use Rattle.chains.specs.Processes.{known};
 
-use super::answer::{put_fault, put_number, put_whether};
+use super::answer::Answer;
 use chains::{Chains, Failed, KeepFault, Line, Place, Position};
 use knows_row::{knows, last_known, need};
 use propagate::greatest_cut;
@@ -69,18 +69,23 @@ fn are_known<'a>(chains: &Chains, word: &'a str) -> Result<(), WordFault<'a>> {
     }
 }
 
-// The names in the word, parted by commas.
-fn names_of(alloc: Global, word: &str) -> Result<Names, AllocError> {
-    let mut names = Names::new(alloc);
+// Adds the names in the word, which are separated by commas.
+fn add_names(names: &mut Names, word: &str) -> Result<(), AllocError> {
     for part in word.split(',') {
         if let Some(name) = Name::from_bytes(part.as_bytes()) {
             names.push(name)?;
         }
     }
+    Ok(())
+}
+
+fn names_of(alloc: Global, word: &str) -> Result<Names, AllocError> {
+    let mut names = Names::new(alloc);
+    add_names(&mut names, word)?;
     Ok(names)
 }
 
-/// The failed set that a word names: `*` for all processes, `-` for none, or names parted by commas.
+/// The failed set that a word names: `*` for all processes, `-` for none, or names separated by commas.
 pub fn failed_of<'a>(chains: &Chains, word: &'a str) -> Result<Failed, WordFault<'a>> {
     if word == "*" {
         return Ok(Failed::all(chains)?);
@@ -89,10 +94,8 @@ pub fn failed_of<'a>(chains: &Chains, word: &'a str) -> Result<Failed, WordFault
         are_known(chains, word)?;
     }
     let names = names_of(chains.alloc(), word)?;
-    match Failed::from_names(chains, &names) {
-        Ok(failed) => Ok(failed),
-        Err(_) => Err(WordFault::Memory), // All are known.
-    }
+    // All are known.
+    Failed::from_names(chains, &names).map_err(|_| WordFault::Memory)
 }
 
 fn number_of(word: &str) -> Result<u32, WordFault<'_>> {
@@ -120,32 +123,40 @@ fn place_of<'a>(
     })
 }
 
-// The line of these places, each a name and a position.
-fn line_of<'a>(chains: &Chains, words: &[&'a str]) -> Result<Line, WordFault<'a>> {
-    let mut line = Line::new(chains.alloc());
+// Adds these places to the line, each a name and a position.
+fn add_places<'a>(
+    line: &mut Line,
+    chains: &Chains,
+    words: &[&'a str],
+) -> Result<(), WordFault<'a>> {
     for pair in words.chunks(2) {
         let [process, position] = *pair else {
             return Err(WordFault::Number);
         };
         line.push(place_of(chains, process, position)?)?;
     }
-    Ok(line)
+    Ok(())
+}
+
+// What the line keeps.
+fn kept_by<'a>(chains: &Chains, line: &Line) -> Result<Chains, WordFault<'a>> {
+    chains.keep(line).map_err(|fault| match fault {
+        KeepFault::Unfit => WordFault::Unfit,
+        KeepFault::Memory => WordFault::Memory,
+    })
 }
 
 /// What the line of these places keeps.
 pub fn kept_of<'a>(chains: &Chains, words: &[&'a str]) -> Result<Chains, WordFault<'a>> {
-    let line = line_of(chains, words)?;
-    match chains.keep(&line) {
-        Ok(kept) => Ok(kept),
-        Err(KeepFault::Unfit) => Err(WordFault::Unfit),
-        Err(KeepFault::Memory) => Err(WordFault::Memory),
-    }
+    let mut line = Line::new(chains.alloc());
+    add_places(&mut line, chains, words)?;
+    kept_by(chains, &line)
 }
 
-fn put_position(position: Position, out: &mut Vec<u8>) -> Result<(), AllocError> {
+fn put_position(position: Position, out: &mut Answer) {
     match position {
-        Position::At(k) => put_number(k, out),
-        Position::Retired => out.extend_from_slice(b"retired"),
+        Position::At(k) => out.put_number(k),
+        Position::Retired => out.put(b"retired"),
     }
 }
 
@@ -154,11 +165,11 @@ fn put_last_surviving<'a>(
     chains: &Chains,
     process: &'a str,
     failed: &'a str,
-    out: &mut Vec<u8>,
+    out: &mut Answer,
 ) -> Result<(), WordFault<'a>> {
     let process = process_of(chains, process)?;
     let failed = failed_of(chains, failed)?;
-    put_position(chains.last_surviving(process, &failed), out)?;
+    put_position(chains.last_surviving(process, &failed), out);
     Ok(())
 }
 
@@ -166,13 +177,11 @@ fn rounds_of(chains: &Chains, failed: &Failed) -> Result<u32, AllocError> {
     Ok(greatest_cut(chains, failed)?.rounds)
 }
 
-fn put_rounds<'a>(
-    chains: &Chains,
-    failed: &'a str,
-    out: &mut Vec<u8>,
-) -> Result<(), WordFault<'a>> {
+fn put_rounds<'a>(chains: &Chains, failed: &'a str, out: &mut Answer) -> Result<(), WordFault<'a>> {
     let failed = failed_of(chains, failed)?;
-    put_number(rounds_of(chains, &failed)?, out)?;
+    let rounds = rounds_of(chains, &failed);
+    drop(failed);
+    out.put_number(rounds?);
     Ok(())
 }
 
@@ -181,11 +190,11 @@ fn put_whether_knowing<'a>(
     chains: &Chains,
     (knowing, place): (&'a str, &'a str),
     (process, position): (&'a str, &'a str),
-    out: &mut Vec<u8>,
+    out: &mut Answer,
 ) -> Result<(), WordFault<'a>> {
     let place = place_of(chains, knowing, place)?;
     let known = place_of(chains, process, position)?;
-    put_whether(knows(chains, place, known.process, known.position), out)?;
+    out.put_whether(knows(chains, place, known.process, known.position));
     Ok(())
 }
 
@@ -193,11 +202,11 @@ fn put_need<'a>(
     chains: &Chains,
     (needing, place): (&'a str, &'a str),
     process: &'a str,
-    out: &mut Vec<u8>,
+    out: &mut Answer,
 ) -> Result<(), WordFault<'a>> {
     let place = place_of(chains, needing, place)?;
     let process = process_of(chains, process)?;
-    put_number(need(chains, place, process), out)?;
+    out.put_number(need(chains, place, process));
     Ok(())
 }
 
@@ -207,43 +216,31 @@ fn put_last_known<'a>(
     (knowing, place): (&'a str, &'a str),
     process: &'a str,
     (from, to): (&'a str, &'a str),
-    out: &mut Vec<u8>,
+    out: &mut Answer,
 ) -> Result<(), WordFault<'a>> {
     let place = place_of(chains, knowing, place)?;
     let process = process_of(chains, process)?;
     let (from, to) = (number_of(from)?, number_of(to)?);
-    put_number(last_known(chains, place, process, from, to), out)?;
+    out.put_number(last_known(chains, place, process, from, to));
     Ok(())
 }
 
-// Writes what the words ask for; whether they are a call.
-fn put_call<'a>(
-    chains: &Chains,
-    words: &[&'a str],
-    out: &mut Vec<u8>,
-) -> Result<bool, WordFault<'a>> {
-    match *words {
-        ["last_surviving", process, failed] => put_last_surviving(chains, process, failed, out)?,
-        ["rounds", failed] => put_rounds(chains, failed, out)?,
-        ["knows", process, position, other, after] => {
-            put_whether_knowing(chains, (process, position), (other, after), out)?
-        }
-        ["need", process, position, other] => put_need(chains, (process, position), other, out)?,
-        ["last_known", process, position, other, from, to] => {
-            put_last_known(chains, (process, position), other, (from, to), out)?
-        }
-        _ => return Ok(false),
-    }
-    Ok(true)
-}
-
 /// Answers a call on processes and places; whether the words are one.
-pub fn answer(chains: &Chains, words: &[&str], out: &mut Vec<u8>) -> Result<bool, AllocError> {
-    match put_call(chains, words, out) {
-        Ok(is_call) => Ok(is_call),
-        Err(fault) => {
-            put_fault(&fault, out)?;
-            Ok(true)
+pub fn answer(chains: &Chains, words: &[&str], out: &mut Answer) -> bool {
+    let done = match *words {
+        ["last_surviving", process, failed] => put_last_surviving(chains, process, failed, out),
+        ["rounds", failed] => put_rounds(chains, failed, out),
+        ["knows", process, position, other, after] => {
+            put_whether_knowing(chains, (process, position), (other, after), out)
         }
+        ["need", process, position, other] => put_need(chains, (process, position), other, out),
+        ["last_known", process, position, other, from, to] => {
+            put_last_known(chains, (process, position), other, (from, to), out)
+        }
+        _ => return false,
+    };
+    if let Err(fault) = done {
+        out.put_fault(&fault);
     }
+    true
 }

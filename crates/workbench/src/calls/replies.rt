@@ -1,7 +1,7 @@
 //! Replies as they are written.
 
+use super::answer::Answer;
 use report_line::{Code, Reply, write_reply};
-use std::alloc::AllocError;
 
 /// The cause of a refusal that a word names.
 fn code_of(word: &str) -> Option<Code> {
@@ -25,24 +25,24 @@ fn code_of(word: &str) -> Option<Code> {
 }
 
 // The refusal for this cause that names nothing.
-fn put_refusal(code: Code, out: &mut Vec<u8>) -> Result<(), AllocError> {
+fn put_refusal(code: Code, out: &mut Answer) {
     let reply = Reply::No {
         code,
         name: None,
         value: None,
     };
-    let text = write_reply(*out.allocator(), &reply)?;
-    out.extend_from_slice(&text)
+    let text = write_reply(out.alloc(), &reply);
+    out.put_made(text);
 }
 
 /// Answers a call on replies, which is a refusal that names nothing; whether the words are one.
-pub fn answer(words: &[&str], out: &mut Vec<u8>) -> Result<bool, AllocError> {
+pub fn answer(words: &[&str], out: &mut Answer) -> bool {
     let ["refusal", word] = *words else {
-        return Ok(false);
+        return false;
     };
-    let Some(code) = code_of(word) else {
-        return Ok(false);
-    };
-    put_refusal(code, out)?;
-    Ok(true)
+    match code_of(word) {
+        Some(code) => put_refusal(code, out),
+        None => return false,
+    }
+    true
 }

@@ -1,6 +1,6 @@
 //! Calls on stamps.
 
-use super::answer::{Spelled, put_by, put_by_two, put_by_word};
+use super::answer::{Answer, Spelled, Written, put_by_two, put_by_word};
 use event_tree::Events;
 use stamp::{Stamp, StampTextFault};
 use std::alloc::{AllocError, Global};
@@ -13,56 +13,59 @@ impl Spelled for Stamp {
     }
 }
 
-fn put_first(out: &mut Vec<u8>) -> Result<(), AllocError> {
-    Stamp::first(*out.allocator()).write_to(out)
+impl Written for Stamp {
+    fn append_to(&self, text: &mut Vec<u8>) -> Result<(), AllocError> {
+        self.write_to(text)
+    }
 }
 
-fn put_copy(stamp: &Stamp, out: &mut Vec<u8>) -> Result<(), AllocError> {
-    stamp.copy(*out.allocator())?.write_to(out)
+fn put_first(out: &mut Answer) {
+    let first = Stamp::first(out.alloc());
+    out.put_value(&first);
 }
 
-fn put_after_event(stamp: &Stamp, out: &mut Vec<u8>) -> Result<(), AllocError> {
-    put_by(stamp.event(*out.allocator()), out, Stamp::write_to)
+fn put_copy(stamp: &Stamp, out: &mut Answer) {
+    let copy = stamp.copy(out.alloc());
+    out.put_made(copy);
 }
 
-fn put_message(stamp: &Stamp, out: &mut Vec<u8>) -> Result<(), AllocError> {
-    stamp.peek(*out.allocator())?.write_to(out)
+fn put_after_event(stamp: &Stamp, out: &mut Answer) {
+    let after = stamp.event(out.alloc());
+    out.put_given(after);
 }
 
-fn put_both(stamps: &(Stamp, Stamp), out: &mut Vec<u8>) -> Result<(), AllocError> {
-    stamps.0.write_to(out)?;
-    out.push(b' ')?;
-    stamps.1.write_to(out)
+fn put_message(stamp: &Stamp, out: &mut Answer) {
+    let message = stamp.peek(out.alloc());
+    out.put_made(message);
 }
 
-fn put_fork(stamp: &Stamp, out: &mut Vec<u8>) -> Result<(), AllocError> {
-    put_by(stamp.fork(*out.allocator()), out, put_both)
+fn put_fork(stamp: &Stamp, out: &mut Answer) {
+    let stamps = stamp.fork(out.alloc());
+    out.put_given(stamps);
 }
 
-// The stamp behind a message with these events.
-fn put_received(stamp: &Stamp, came: &Events, out: &mut Vec<u8>) -> Result<(), AllocError> {
-    put_by(stamp.receive(*out.allocator(), came), out, Stamp::write_to)
+// The stamp after a message with these events.
+fn put_received(stamp: &Stamp, came: &Events, out: &mut Answer) {
+    let after = stamp.receive(out.alloc(), came);
+    out.put_given(after);
 }
 
-fn put_absorbed(stamp: &Stamp, retired: &Stamp, out: &mut Vec<u8>) -> Result<(), AllocError> {
-    put_by(
-        stamp.absorb(*out.allocator(), retired),
-        out,
-        Stamp::write_to,
-    )
+fn put_absorbed(stamp: &Stamp, retired: &Stamp, out: &mut Answer) {
+    let after = stamp.absorb(out.alloc(), retired);
+    out.put_given(after);
 }
 
 /// Answers a call on stamps; whether the words are one.
-pub fn answer(words: &[&str], out: &mut Vec<u8>) -> Result<bool, AllocError> {
+pub fn answer(words: &[&str], out: &mut Answer) -> bool {
     match *words {
-        ["first"] => put_first(out)?,
-        ["stamp", stamp] => put_by_word(stamp, out, put_copy)?,
-        ["event", stamp] => put_by_word(stamp, out, put_after_event)?,
-        ["peek", stamp] => put_by_word(stamp, out, put_message)?,
-        ["fork", stamp] => put_by_word(stamp, out, put_fork)?,
-        ["receive", stamp, came] => put_by_two(stamp, came, out, put_received)?,
-        ["absorb", stamp, retired] => put_by_two(stamp, retired, out, put_absorbed)?,
-        _ => return Ok(false),
+        ["first"] => put_first(out),
+        ["stamp", stamp] => put_by_word(stamp, out, put_copy),
+        ["event", stamp] => put_by_word(stamp, out, put_after_event),
+        ["peek", stamp] => put_by_word(stamp, out, put_message),
+        ["fork", stamp] => put_by_word(stamp, out, put_fork),
+        ["receive", stamp, came] => put_by_two(stamp, came, out, put_received),
+        ["absorb", stamp, retired] => put_by_two(stamp, retired, out, put_absorbed),
+        _ => return false,
     }
-    Ok(true)
+    true
 }

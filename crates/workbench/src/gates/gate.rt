@@ -1,6 +1,6 @@
 //! A gate at which lines wait for other threads.
 
-use anyhow::Result;
+use crate::output::Output;
 use coordinator::Gate;
 use knows_row::ChunkGate;
 use std::alloc::Global;
@@ -122,30 +122,27 @@ impl HeldGate {
     }
 
     // Writes how many runs there were.
-    fn put_runs<W: Write>(&self, alloc: Global, out: &mut W) -> Result<()> {
+    fn put_runs<W: Write + Drop>(&self, alloc: Global, out: &mut Output<W>) {
         let first = self.first.load(Ordering::SeqCst);
         let second = self.second.load(Ordering::SeqCst);
         let third = self.third.load(Ordering::SeqCst);
         let later = self.later.load(Ordering::SeqCst);
-        let text = format!(in alloc; " RUNS {first} {second} {third} {later}")?;
-        Ok(out.write_all(text.as_bytes())?)
+        out.put_made(format!(in alloc; " RUNS {first} {second} {third} {later}"));
     }
 
     // Writes how many lines there were, and the pass of the last one.
-    fn put_lines<W: Write>(&self, alloc: Global, out: &mut W) -> Result<()> {
+    fn put_lines<W: Write + Drop>(&self, alloc: Global, out: &mut Output<W>) {
         let lines = self.lines.load(Ordering::SeqCst);
         let pass = self.pass.load(Ordering::SeqCst);
-        let text = format!(in alloc; "LINES {lines} LAST {pass}")?;
-        Ok(out.write_all(text.as_bytes())?)
+        out.put_made(format!(in alloc; "LINES {lines} LAST {pass}"));
     }
 
     /// Writes what was counted.
-    pub fn put<W: Write>(&self, alloc: Global, out: &mut W) -> Result<()> {
-        self.put_lines(alloc, out)?;
-        self.put_runs(alloc, out)?;
+    pub fn put<W: Write + Drop>(&self, alloc: Global, out: &mut Output<W>) {
+        self.put_lines(alloc, out);
+        self.put_runs(alloc, out);
         let late = self.late.load(Ordering::SeqCst);
-        let text = format!(in alloc; " LATE {late}\n")?;
-        Ok(out.write_all(text.as_bytes())?)
+        out.put_made(format!(in alloc; " LATE {late}\n"));
     }
 }
 

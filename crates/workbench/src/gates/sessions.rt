@@ -6,7 +6,8 @@ ghost use Rattle.coordinator.specs.Passes.{ledger_parts};
 use super::gate::{HeldGate, Place};
 use crate::again::over_disk::{PARTS, coordinator_over, put_closed};
 use crate::again::shared::put_replies;
-use anyhow::Result;
+use crate::fault::Result;
+use crate::output::Output;
 use client_link::MemoryLink;
 use coordinator::{Coordinator, Gate, OpenGate, Pass, PassFault};
 use line_disk::MemoryDisk;
@@ -51,10 +52,16 @@ pub fn texts_of(input: &[u8]) -> Texts<'_> {
     }
 }
 
-// A client: what it sends, its pass, and what it got.
+// A client: what it sends, and its pass.
 #[derive(Drop)]
 struct Client<'a, L: Ledger> {
     text: &'a [u8],
+    pass: Pass<L>,
+}
+
+// A client that was answered: its pass, and what it got.
+#[derive(Drop)]
+struct Answered<L: Ledger> {
     pass: Pass<L>,
     got: Vec<u8>,
 }
@@ -66,51 +73,79 @@ fn make_client<'a, L: Ledger, R: Wait>(
     text: &'a [u8],
 ) -> Result<Client<'a, L>, PassFault> {
     let pass = coordinator.pass(rt)?;
-    Ok(Client {
-        text,
-        pass,
-        got: Vec::new(coordinator.alloc()),
-    })
+    Ok(Client { text, pass })
 }
 
-// Serves the client by a session.
-fn serve<'a, L: Ledger, G: Gate, R: Threads + Wait + Sync>(
+// Serves the client of this link. It stands alone, since its clause is long.
+fn serve_link_of<L: Ledger, G: Gate, R: Threads + Wait + Sync>(
     rt: &R,
     coordinator: &Coordinator<L, MemoryDisk>,
     gate: &G,
-    mut client: Client<'a, L>,
-) -> Result<Client<'a, L>, AllocError> {
-    let mut link = MemoryLink::new(coordinator.alloc(), &[client.text], 64)?;
-    let _end = serve_link(rt, coordinator, &mut client.pass, gate, &mut link);
-    client.got.extend_from_slice(link.written())?;
-    Ok(client)
+    pass: &mut Pass<L>,
+    link: &mut MemoryLink,
+) {
+    let _end = serve_link(rt, coordinator, pass, gate, link);
+}
+
+// Serves a client that sends this text; answers what it got.
+fn serve_text<L: Ledger, G: Gate, R: Threads + Wait + Sync>(
+    rt: &R,
+    coordinator: &Coordinator<L, MemoryDisk>,
+    gate: &G,
+    pass: &mut Pass<L>,
+    text: &[u8],
+) -> Result<Vec<u8>, AllocError> {
+    let alloc = coordinator.alloc();
+    let mut link = MemoryLink::new(alloc, &[text], 64)?;
+    serve_link_of(rt, coordinator, gate, pass, &mut link);
+    Vec::from_slice(alloc, link.written())
+}
+
+// Answers a client that sends this text by calls; answers what it got.
+fn answer_text<L: Ledger, R: Threads + Wait + Sync>(
+    rt: &R,
+    coordinator: &Coordinator<L, MemoryDisk>,
+    gate: &HeldGate,
+    pass: &mut Pass<L>,
+    text: &[u8],
+) -> Result<Vec<u8>> {
+    let mut out = Output::new(Vec::new(coordinator.alloc()));
+    put_replies(rt, coordinator, pass, gate, text, &mut out)?;
+    out.end()?;
+    Ok(out.into_stream())
+}
+
+// Serves the client by a session.
+fn serve<L: Ledger, G: Gate, R: Threads + Wait + Sync>(
+    rt: &R,
+    coordinator: &Coordinator<L, MemoryDisk>,
+    gate: &G,
+    client: Client<'_, L>,
+) -> Result<Answered<L>> {
+    let Client { text, mut pass } = client;
+    let got = serve_text(rt, coordinator, gate, &mut pass, text)?;
+    Ok(Answered { pass, got })
 }
 
 // Answers the client by calls.
-fn answer<'a, L: Ledger, R: Threads + Wait + Sync>(
+fn answer<L: Ledger, R: Threads + Wait + Sync>(
     rt: &R,
     coordinator: &Coordinator<L, MemoryDisk>,
     gate: &HeldGate,
-    client: Client<'a, L>,
-) -> Result<Client<'a, L>, AllocError> {
-    let Client {
-        text,
-        mut pass,
-        mut got,
-    } = client;
-    match put_replies(rt, coordinator, &mut pass, gate, text, &mut got) {
-        Ok(()) => Ok(Client { text, pass, got }),
-        Err(_) => Err(AllocError),
-    }
+    client: Client<'_, L>,
+) -> Result<Answered<L>> {
+    let Client { text, mut pass } = client;
+    let got = answer_text(rt, coordinator, gate, &mut pass, text)?;
+    Ok(Answered { pass, got })
 }
 
 // Serves the client once another one is held at the gate, which goes on then.
-fn serve_and_open<'a, L: Ledger, R: Threads + Wait + Sync>(
+fn serve_and_open<L: Ledger, R: Threads + Wait + Sync>(
     rt: &R,
     coordinator: &Coordinator<L, MemoryDisk>,
     gate: &HeldGate,
-    client: Client<'a, L>,
-) -> Result<Client<'a, L>, AllocError> {
+    client: Client<'_, L>,
+) -> Result<Answered<L>> {
     gate.wait();
     let served = serve(rt, coordinator, &OpenGate, client);
     gate.open();
@@ -118,12 +153,12 @@ fn serve_and_open<'a, L: Ledger, R: Threads + Wait + Sync>(
 }
 
 // Serves or answers the client, who may be held at the gate.
-fn serve_held<'a, L: Ledger, R: Threads + Wait + Sync>(
+fn serve_held<L: Ledger, R: Threads + Wait + Sync>(
     rt: &R,
     coordinator: &Coordinator<L, MemoryDisk>,
     gate: &HeldGate,
-    client: Client<'a, L>,
-) -> Result<Client<'a, L>, AllocError> {
+    client: Client<'_, L>,
+) -> Result<Answered<L>> {
     if gate.is_of_session() {
         serve(rt, coordinator, gate, client)
     } else {
@@ -131,41 +166,61 @@ fn serve_held<'a, L: Ledger, R: Threads + Wait + Sync>(
     }
 }
 
+// Both, if both were made.
+fn both_of<T: Drop>(one: Result<T>, other: Result<T>) -> Result<(T, T)> {
+    let one = one?;
+    Ok((one, other?))
+}
+
 // Serves two clients at once, of which the second may be held at the gate.
-fn serve_both<'a, L: Ledger + Send + Sync, R: Threads + Wait + Sync>(
+fn serve_both<L: Ledger + Send + Sync, R: Threads + Wait + Sync>(
     rt: &R,
     coordinator: &Coordinator<L, MemoryDisk>,
     gate: &HeldGate,
-    one: Client<'a, L>,
-    other: Client<'a, L>,
-) -> Result<(Client<'a, L>, Client<'a, L>), AllocError> {
+    one: Client<'_, L>,
+    other: Client<'_, L>,
+) -> Result<(Answered<L>, Answered<L>)> {
     let (one, other) = join(
         rt,
         move || serve_and_open(rt, coordinator, gate, one),
         move || serve_held(rt, coordinator, gate, other),
     );
-    Ok((one?, other?))
+    both_of(one, other)
+}
+
+// Serves the clients of these two texts at once.
+fn serve_texts<L: Ledger + Send + Sync, R: Threads + Wait + Sync>(
+    rt: &R,
+    coordinator: &Coordinator<L, MemoryDisk>,
+    gate: &HeldGate,
+    one: &[u8],
+    other: &[u8],
+) -> Result<(Answered<L>, Answered<L>)> {
+    let one = make_client(rt, coordinator, one)?;
+    let other = make_client(rt, coordinator, other)?;
+    serve_both(rt, coordinator, gate, one, other)
 }
 
 // Writes what a client got, and keeps its pass.
-fn put_client<'a, L: Ledger, W: Write>(
+fn put_client<L: Ledger, W: Write + Drop>(
     passes: &mut Vec<Pass<L>>,
-    client: Client<'a, L>,
-    out: &mut W,
+    client: Answered<L>,
+    out: &mut Output<W>,
 ) -> Result<()> {
-    let Client { text: _, pass, got } = client;
+    let Answered { pass, got } = client;
     passes.push(pass)?;
-    out.write_all(&got)?;
-    Ok(out.write_all(b"\n")?)
+    out.put(&got);
+    out.put(b"\n");
+    Ok(())
 }
 
 // Serves the first client.
-fn put_first<L: Ledger, R: Threads + Wait + Sync, W: Write>(
+fn put_first<L: Ledger, R: Threads + Wait + Sync, W: Write + Drop>(
     rt: &R,
     coordinator: &Coordinator<L, MemoryDisk>,
     text: &[u8],
     passes: &mut Vec<Pass<L>>,
-    out: &mut W,
+    out: &mut Output<W>,
 ) -> Result<()> {
     let first = make_client(rt, coordinator, text)?;
     let first = serve(rt, coordinator, &OpenGate, first)?;
@@ -173,42 +228,41 @@ fn put_first<L: Ledger, R: Threads + Wait + Sync, W: Write>(
 }
 
 // Serves the other two at once.
-fn put_both<L: Ledger + Send + Sync, R: Threads + Wait + Sync, W: Write>(
+fn put_both<L: Ledger + Send + Sync, R: Threads + Wait + Sync, W: Write + Drop>(
     rt: &R,
     coordinator: &Coordinator<L, MemoryDisk>,
     gate: &HeldGate,
     texts: &Texts<'_>,
     passes: &mut Vec<Pass<L>>,
-    out: &mut W,
+    out: &mut Output<W>,
 ) -> Result<()> {
-    let second = make_client(rt, coordinator, texts.second)?;
-    let third = make_client(rt, coordinator, texts.third)?;
-    let (second, third) = serve_both(rt, coordinator, gate, second, third)?;
+    let (second, third) = serve_texts(rt, coordinator, gate, texts.second, texts.third)?;
     put_client(passes, second, out)?;
     put_client(passes, third, out)
 }
 
 // The same at a gate of their own, and what that counted.
-fn put_gated<L: Ledger + Send + Sync, R: Threads + Wait + Sync, W: Write>(
+fn put_gated<L: Ledger + Send + Sync, R: Threads + Wait + Sync, W: Write + Drop>(
     rt: &R,
     coordinator: &Coordinator<L, MemoryDisk>,
     place: Place,
     texts: &Texts<'_>,
     passes: &mut Vec<Pass<L>>,
-    out: &mut W,
+    out: &mut Output<W>,
 ) -> Result<()> {
     let gate = HeldGate::new(place);
     put_both(rt, coordinator, &gate, texts, passes, out)?;
-    gate.put(coordinator.alloc(), out)
+    gate.put(coordinator.alloc(), out);
+    Ok(())
 }
 
 // Serves three clients; answers their passes.
-fn serve_all<L: Ledger + Send + Sync, R: Threads + Wait + Sync, W: Write>(
+fn serve_all<L: Ledger + Send + Sync, R: Threads + Wait + Sync, W: Write + Drop>(
     rt: &R,
     coordinator: &Coordinator<L, MemoryDisk>,
     place: Place,
     texts: &Texts<'_>,
-    out: &mut W,
+    out: &mut Output<W>,
 ) -> Result<Vec<Pass<L>>> {
     let mut passes = Vec::new(coordinator.alloc());
     put_first(rt, coordinator, texts.first, &mut passes, out)?;
@@ -217,14 +271,14 @@ fn serve_all<L: Ledger + Send + Sync, R: Threads + Wait + Sync, W: Write>(
 }
 
 // The same over a coordinator of its own, which is closed.
-fn put_all<L: Ledger + Send + Sync, R: Threads + Wait + Sync, W: Write>(
+fn put_all<L: Ledger + Send + Sync, R: Threads + Wait + Sync, W: Write + Drop>(
     rt: &R,
     alloc: Global,
     blank: Blank,
     workers: usize,
     place: Place,
     texts: &Texts<'_>,
-    out: &mut W,
+    out: &mut Output<W>,
 ) -> Result<()>
     requires name { blank.name ≡ L.name }
     requires parts { (blank.parts ≡ L.parts) × (blank.parts ≡ ledger_parts) }
@@ -255,6 +309,6 @@ pub fn answer_all<T: Wait + Threads + Sync>(
         workers.get().min(64) as usize,
         place,
         &texts_of(&input),
-        &mut rt.stdout(),
+        &mut Output::new(rt.stdout()),
     )
 }

@@ -6,7 +6,8 @@ ghost use Rattle.coordinator.specs.Passes.{ledger_parts};
 use super::sessions::{Texts, texts_of};
 use super::streams::{Got, Meeting, Sent, Who};
 use crate::again::over_disk::{PARTS, coordinator_over, put_closed};
-use anyhow::{Error, Result};
+use crate::fault::{Fault, Result};
+use crate::output::Output;
 use client_link::Streams;
 use coordinator::{Coordinator, OpenGate, Pass};
 use crossbeam_channel::{Receiver, bounded};
@@ -42,11 +43,11 @@ fn channel_of<'t, 'm, R: Wait>(
     links: Vec<ClientLink<'t, 'm>>,
 ) -> Result<Receiver<ClientLink<'t, 'm>>> {
     let Ok((sender, receiver)) = bounded::<ClientLink<'t, 'm>, _>(alloc, 2) else {
-        return Err(Error::from(AllocError));
+        return Err(Fault::Memory(AllocError));
     };
     for link in links {
         if sender.send(rt, link).is_err() {
-            return Err(Error::from(AllocError));
+            return Err(Fault::Memory(AllocError));
         }
     }
     Ok(receiver)
@@ -71,40 +72,56 @@ fn keep<'t, 'm, L: Ledger>(
     Ok(())
 }
 
-// Serves the clients of these links by two workers; answers what each got.
+// Keeps the same of these sessions.
+fn keep_all<'t, 'm, L: Ledger>(
+    alloc: Global,
+    sessions: Vec<Served<L, MemoryDisk, ClientLink<'t, 'm>>>,
+    passes: &mut Vec<Pass<L>>,
+    texts: &mut Vec<Vec<u8>>,
+) -> Result<()> {
+    for session in sessions {
+        keep(alloc, session, passes, texts)?;
+    }
+    Ok(())
+}
+
+// Serves the clients of these links by two workers, and keeps what each got.
 fn serve<'t, 'm, L: Ledger + Send + Sync, R: Threads + Wait + Sync>(
     rt: &R,
     coordinator: &Coordinator<L, MemoryDisk>,
     links: Vec<ClientLink<'t, 'm>>,
     passes: &mut Vec<Pass<L>>,
-) -> Result<Vec<Vec<u8>>> {
+    texts: &mut Vec<Vec<u8>>,
+) -> Result<()> {
     let alloc = coordinator.alloc();
     let links = channel_of(rt, alloc, links)?;
-    let lists = workers(rt, alloc, coordinator, &OpenGate, 2, links)?;
-    let mut texts = Vec::new(alloc);
-    for sessions in lists {
-        for session in sessions {
-            keep(alloc, session, passes, &mut texts)?;
-        }
+    for sessions in workers(rt, alloc, coordinator, &OpenGate, 2, links)? {
+        keep_all(alloc, sessions, passes, texts)?;
     }
-    Ok(texts)
+    Ok(())
+}
+
+// Writes these texts in order.
+fn put_texts<W: Write + Drop>(texts: &mut Vec<Vec<u8>>, out: &mut Output<W>) -> Result<()> {
+    texts.sort()?;
+    for text in texts.iter() {
+        out.put(text);
+        out.put(b"\n");
+    }
+    Ok(())
 }
 
 // Serves the clients, and writes what they got, in the order of these texts.
-fn put_served<'t, 'm, L: Ledger + Send + Sync, R: Threads + Wait + Sync, W: Write>(
+fn put_served<'t, 'm, L: Ledger + Send + Sync, R: Threads + Wait + Sync, W: Write + Drop>(
     rt: &R,
     coordinator: &Coordinator<L, MemoryDisk>,
     links: Vec<ClientLink<'t, 'm>>,
     passes: &mut Vec<Pass<L>>,
-    out: &mut W,
+    out: &mut Output<W>,
 ) -> Result<()> {
-    let mut texts = serve(rt, coordinator, links, passes)?;
-    texts.sort()?;
-    for text in &texts {
-        out.write_all(text)?;
-        out.write_all(b"\n")?;
-    }
-    Ok(())
+    let mut texts = Vec::new(coordinator.alloc());
+    serve(rt, coordinator, links, passes, &mut texts)?;
+    put_texts(&mut texts, out)
 }
 
 // The link of the client that is served alone.
@@ -133,14 +150,14 @@ fn both<'t, 'm>(
 }
 
 // Serves the client that is served alone, and then the other two.
-fn put_links<L: Ledger + Send + Sync, R: Threads + Wait + Sync, W: Write>(
+fn put_links<L: Ledger + Send + Sync, R: Threads + Wait + Sync, W: Write + Drop>(
     rt: &R,
     coordinator: &Coordinator<L, MemoryDisk>,
     texts: &Texts<'_>,
     most: usize,
     meeting: &Meeting,
     passes: &mut Vec<Pass<L>>,
-    out: &mut W,
+    out: &mut Output<W>,
 ) -> Result<()> {
     let links = alone(coordinator.alloc(), texts, most, meeting)?;
     put_served(rt, coordinator, links, passes, out)?;
@@ -149,28 +166,28 @@ fn put_links<L: Ledger + Send + Sync, R: Threads + Wait + Sync, W: Write>(
 }
 
 // The same by a meeting of their own, and how many waited in vain.
-fn put_meeting<L: Ledger + Send + Sync, R: Threads + Wait + Sync, W: Write>(
+fn put_meeting<L: Ledger + Send + Sync, R: Threads + Wait + Sync, W: Write + Drop>(
     rt: &R,
     coordinator: &Coordinator<L, MemoryDisk>,
     texts: &Texts<'_>,
     most: usize,
     passes: &mut Vec<Pass<L>>,
-    out: &mut W,
+    out: &mut Output<W>,
 ) -> Result<()> {
     let meeting = Meeting::new();
     put_links(rt, coordinator, texts, most, &meeting, passes, out)?;
     let late = meeting.late();
-    let text = format!(in coordinator.alloc(); "LATE {late}\n")?;
-    Ok(out.write_all(text.as_bytes())?)
+    out.put_made(format!(in coordinator.alloc(); "LATE {late}\n"));
+    Ok(())
 }
 
 // Serves three clients; answers the passes.
-fn serve_all<L: Ledger + Send + Sync, R: Threads + Wait + Sync, W: Write>(
+fn serve_all<L: Ledger + Send + Sync, R: Threads + Wait + Sync, W: Write + Drop>(
     rt: &R,
     coordinator: &Coordinator<L, MemoryDisk>,
     texts: &Texts<'_>,
     most: usize,
-    out: &mut W,
+    out: &mut Output<W>,
 ) -> Result<Vec<Pass<L>>> {
     let mut passes = Vec::new(coordinator.alloc());
     put_meeting(rt, coordinator, texts, most, &mut passes, out)?;
@@ -178,13 +195,13 @@ fn serve_all<L: Ledger + Send + Sync, R: Threads + Wait + Sync, W: Write>(
 }
 
 // The same over a coordinator of its own, which is closed.
-fn put_all<L: Ledger + Send + Sync, R: Threads + Wait + Sync, W: Write>(
+fn put_all<L: Ledger + Send + Sync, R: Threads + Wait + Sync, W: Write + Drop>(
     rt: &R,
     alloc: Global,
     blank: Blank,
     texts: &Texts<'_>,
     most: usize,
-    out: &mut W,
+    out: &mut Output<W>,
 ) -> Result<()>
     requires name { blank.name ≡ L.name }
     requires parts { (blank.parts ≡ L.parts) × (blank.parts ≡ ledger_parts) }
@@ -212,6 +229,6 @@ pub fn answer_all<T: Wait + Threads + Sync>(
         Blank::new(PARTS),
         &texts_of(&input),
         most.get() as usize,
-        &mut rt.stdout(),
+        &mut Output::new(rt.stdout()),
     )
 }

@@ -14,7 +14,7 @@ index_mut-requires c =
 pub loop-name-preserved : goal.loop-name-preserved
 loop-name-preserved c =
     one_found c.args.chains.now.accepted c.args.names.now c.loop-name.left c.in-Some.name c.next.new.self c.in-Some-number_of.number c.loop-name.flags.items c.loop-name.invariant c.in-Some.ensures.name
-    (distinct_known c.args.chains.now.accepted c.lawful.ensures.folded) c.in-Some-number_of.ensures
+    (distinct_known c.args.chains.now.accepted c.recall_lawful.ensures.folded) c.in-Some-number_of.ensures
 
 pub returns-clause-known : goal.returns-clause-known
 returns-clause-known c = (all_found c.args.chains.now.accepted c.args.names.now c.loop-name.left c.loop-name.flags.items c.in_default-next.ensures.name c.loop-name.invariant).0

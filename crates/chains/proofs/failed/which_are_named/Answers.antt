@@ -14,4 +14,4 @@ index_mut-requires c =
 pub loop-name-preserved : goal.loop-name-preserved
 loop-name-preserved c =
     marked_known c.args.chains.now.accepted c.args.names.now c.loop-name.left c.in-Some.name c.next.new.self c.in-Some-number_of.number c.loop-name.flags.items c.loop-name.invariant c.in-Some.ensures.name
-    (distinct_known c.args.chains.now.accepted c.lawful.ensures.folded) c.in-Some-number_of.ensures
+    (distinct_known c.args.chains.now.accepted c.recall_lawful.ensures.folded) c.in-Some-number_of.ensures

@@ -10,7 +10,7 @@ use Rattle.chains.proofs.keeping.fold_fit_if_settled.Goals as goal
 
 pub returns-then-not-is_settled : goal.returns-then-not-is_settled
 returns-then-not-is_settled c =
-    kept_same (held_of c.args.chains.now) (limits_in (known c.args.chains.now.accepted) c.args.limits.now) c.args.i (held_of c.args.kept.now) c.is_settled.result c.lawful.ensures.marked c.requires.within c.is_settled.ensures
+    kept_same (held_of c.args.chains.now) (limits_in (known c.args.chains.now.accepted) c.args.limits.now) c.args.i (held_of c.args.kept.now) c.is_settled.result c.recall_lawful.ensures.marked c.requires.within c.is_settled.ensures
     c.if-not-is_settled.true c.requires.kept
 
 pub fold_fit-requires-clause-fit : goal.fold_fit-requires-clause-fit
@@ -20,16 +20,16 @@ fold_fit-requires-clause-fit c =
     (sym (c.is_settled.ensures c.in_ok-marked.marked.report c.in_ok-marked.ensures.report) ∙ c.if-not-is_settled.false) c.requires.folded)
 
 pub fold_fit-requires-clause-past : goal.fold_fit-requires-clause-past
-fold_fit-requires-clause-past c = past_at c.args.chains.now.epochs c.args.chains.now.epoch c.args.kept.now.epoch c.args.i c.in_ok-marked.marked.epoch c.lawful.ensures.past c.in_ok-marked.ensures.epoch c.requires.kept.epoch
+fold_fit-requires-clause-past c = past_at c.args.chains.now.epochs c.args.chains.now.epoch c.args.kept.now.epoch c.args.i c.in_ok-marked.marked.epoch c.recall_lawful.ensures.past c.in_ok-marked.ensures.epoch c.requires.kept.epoch
 
-pub fold_fit-requires-clause-few : goal.fold_fit-requires-clause-few
-fold_fit-requires-clause-few c =
-    kept_few (held_of c.args.chains.now) (limits_in (known c.args.chains.now.accepted) c.args.limits.now) c.args.i (held_of c.args.kept.now) c.requires.kept c.requires.within c.lawful.ensures.counted c.lawful.ensures.few_lines
+pub fold_fit-requires-clause-at_most : goal.fold_fit-requires-clause-at_most
+fold_fit-requires-clause-at_most c =
+    kept_few (held_of c.args.chains.now) (limits_in (known c.args.chains.now.accepted) c.args.limits.now) c.args.i (held_of c.args.kept.now) c.requires.kept c.requires.within c.recall_lawful.ensures.counted c.recall_lawful.ensures.lines_at_most
 
-pub fold_fit-requires-clause-few_known : goal.fold_fit-requires-clause-few_known
-fold_fit-requires-clause-few_known c =
+pub fold_fit-requires-clause-known_at_most : goal.fold_fit-requires-clause-known_at_most
+fold_fit-requires-clause-known_at_most c =
     kept_few_known (held_of c.args.chains.now) (limits_in (known c.args.chains.now.accepted) c.args.limits.now) c.args.i (held_of c.args.kept.now) c.in_ok-marked.marked.report c.requires.kept c.in_ok-marked.ensures.report
-    (sym (c.is_settled.ensures c.in_ok-marked.marked.report c.in_ok-marked.ensures.report) ∙ c.if-not-is_settled.false) c.lawful.ensures.few_known
+    (sym (c.is_settled.ensures c.in_ok-marked.marked.report c.in_ok-marked.ensures.report) ∙ c.if-not-is_settled.false) c.recall_lawful.ensures.known_at_most
 
 pub returns : goal.returns
 returns c =
@@ -37,6 +37,6 @@ returns c =
     on_ok_weaker c.fold_fit.result
     (λ folded.
     subst (IsKeptTo (held_of c.args.chains.now) limits (c.args.i + 1)) (sym folded)
-    (kept_more (held_of c.args.chains.now) limits c.args.i (held_of c.args.kept.now) c.in_ok-marked.marked c.lawful.ensures.marked c.in_ok-marked.ensures.report c.in_ok-marked.ensures.epoch
+    (kept_more (held_of c.args.chains.now) limits c.args.i (held_of c.args.kept.now) c.in_ok-marked.marked c.recall_lawful.ensures.marked c.in_ok-marked.ensures.report c.in_ok-marked.ensures.epoch
     (sym (c.is_settled.ensures c.in_ok-marked.marked.report c.in_ok-marked.ensures.report) ∙ c.if-not-is_settled.false) c.requires.kept))
     c.fold_fit.ensures

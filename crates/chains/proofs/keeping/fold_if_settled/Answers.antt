@@ -10,20 +10,20 @@ use Rattle.chains.proofs.keeping.fold_if_settled.Goals as goal
 
 pub returns-then-not-is_settled-clause-ok : goal.returns-then-not-is_settled-clause-ok
 returns-then-not-is_settled-clause-ok c =
-    kept_same (held_of c.args.chains.now) (limits_in (known c.args.chains.now.accepted) c.args.limits.now) c.args.i (held_of c.args.kept.now) c.is_settled.result c.lawful.ensures.marked c.requires.within c.is_settled.ensures
+    kept_same (held_of c.args.chains.now) (limits_in (known c.args.chains.now.accepted) c.args.limits.now) c.args.i (held_of c.args.kept.now) c.is_settled.result c.recall_lawful.ensures.marked c.requires.within c.is_settled.ensures
     c.if-not-is_settled.true c.requires.kept
 
 pub fold-requires-clause-past : goal.fold-requires-clause-past
-fold-requires-clause-past c = past_at c.args.chains.now.epochs c.args.chains.now.epoch c.args.kept.now.epoch c.args.i c.in-Ok.marked.epoch c.lawful.ensures.past c.in-Ok.ensures.epoch c.requires.kept.epoch
+fold-requires-clause-past c = past_at c.args.chains.now.epochs c.args.chains.now.epoch c.args.kept.now.epoch c.args.i c.in-Ok.marked.epoch c.recall_lawful.ensures.past c.in-Ok.ensures.epoch c.requires.kept.epoch
 
-pub fold-requires-clause-few : goal.fold-requires-clause-few
-fold-requires-clause-few c =
-    kept_few (held_of c.args.chains.now) (limits_in (known c.args.chains.now.accepted) c.args.limits.now) c.args.i (held_of c.args.kept.now) c.requires.kept c.requires.within c.lawful.ensures.counted c.lawful.ensures.few_lines
+pub fold-requires-clause-at_most : goal.fold-requires-clause-at_most
+fold-requires-clause-at_most c =
+    kept_few (held_of c.args.chains.now) (limits_in (known c.args.chains.now.accepted) c.args.limits.now) c.args.i (held_of c.args.kept.now) c.requires.kept c.requires.within c.recall_lawful.ensures.counted c.recall_lawful.ensures.lines_at_most
 
-pub fold-requires-clause-few_known : goal.fold-requires-clause-few_known
-fold-requires-clause-few_known c =
+pub fold-requires-clause-known_at_most : goal.fold-requires-clause-known_at_most
+fold-requires-clause-known_at_most c =
     kept_few_known (held_of c.args.chains.now) (limits_in (known c.args.chains.now.accepted) c.args.limits.now) c.args.i (held_of c.args.kept.now) c.in-Ok.marked.report c.requires.kept c.in-Ok.ensures.report
-    (sym (c.is_settled.ensures c.in-Ok.marked.report c.in-Ok.ensures.report) ∙ c.if-not-is_settled.false) c.lawful.ensures.few_known
+    (sym (c.is_settled.ensures c.in-Ok.marked.report c.in-Ok.ensures.report) ∙ c.if-not-is_settled.false) c.recall_lawful.ensures.known_at_most
 
 pub returns-in-Ok-clause-ok : goal.returns-in-Ok-clause-ok
 returns-in-Ok-clause-ok c =
@@ -31,7 +31,7 @@ returns-in-Ok-clause-ok c =
     on_ok_weaker c.fold.result
     (λ folded.
     subst (IsKeptTo (held_of c.args.chains.now) limits (c.args.i + 1)) (sym folded.1)
-    (kept_more (held_of c.args.chains.now) limits c.args.i (held_of c.args.kept.now) c.in-Ok.marked c.lawful.ensures.marked c.in-Ok.ensures.report c.in-Ok.ensures.epoch
+    (kept_more (held_of c.args.chains.now) limits c.args.i (held_of c.args.kept.now) c.in-Ok.marked c.recall_lawful.ensures.marked c.in-Ok.ensures.report c.in-Ok.ensures.epoch
     (sym (c.is_settled.ensures c.in-Ok.marked.report c.in-Ok.ensures.report) ∙ c.if-not-is_settled.false) c.requires.kept))
     c.fold.ensures.ok
 

@@ -3,8 +3,8 @@ use Rattle.chains.proofs.keeping.has_elements_to.Goals as goal
 
 pub returns-in-None : goal.returns-in-None
 returns-in-None c =
-    has_none c.args.chains.now.accepted c.args.kept.now.accepted c.args.process c.element_rank-upto.result c.args.position c.name_of.result.now c.name_of.ensures c.element_rank-upto.ensures.few c.element_rank-upto.ensures.rank
-    c.lawful.ensures.folded c.in-None.ensures
+    has_none c.args.chains.now.accepted c.args.kept.now.accepted c.args.process c.element_rank-upto.result c.args.position c.name_of.result.now c.name_of.ensures c.element_rank-upto.ensures.at_most c.element_rank-upto.ensures.rank
+    c.recall_lawful.ensures.folded c.in-None.ensures
 
 pub returns-in-Some : goal.returns-in-Some
 returns-in-Some c =

@@ -16,14 +16,14 @@ returns-then-not-have_elements-clause-unfit c = λ _.
 
 pub count_from-requires-clause-counted : goal.count_from-requires-clause-counted
 count_from-requires-clause-counted c =
-    kept_counted (held_of c.args.chains.now) (limits_in (known c.args.chains.now.accepted) c.args.limits.now) (held_of c.fold_settled.new.kept) c.front.result c.epoch.result c.in_ok-fold_settled.ensures.ok c.lawful.ensures.counted
+    kept_counted (held_of c.args.chains.now) (limits_in (known c.args.chains.now.accepted) c.args.limits.now) (held_of c.fold_settled.new.kept) c.front.result c.epoch.result c.in_ok-fold_settled.ensures.ok c.recall_lawful.ensures.counted
     c.front.ensures c.epoch.ensures
 
 pub returns-clause-ok : goal.returns-clause-ok
 returns-clause-ok c = (
   can_be_kept c.args.chains.now.accepted c.fold_settled.new.kept.accepted c.args.line.now c.requires.line
-      (kept_is (held_of c.args.chains.now) c.args.limits.now (held_of c.fold_settled.new.kept) c.args.line.now c.requires.limits c.in_ok-fold_settled.ensures.ok) c.lawful-2.ensures.folded
+      (kept_is (held_of c.args.chains.now) c.args.limits.now (held_of c.fold_settled.new.kept) c.args.line.now c.requires.limits c.in_ok-fold_settled.ensures.ok) c.recall_lawful-2.ensures.folded
       (c.have_elements.ensures.0 c.if-not-have_elements.false),
   (rw (c.front.ensures, c.epoch.ensures) at c.count_from.ensures)
-      ∙ kept_all c.args.chains.now c.fold_settled.new.kept (positions_of c.args.line.now) (limits_in (known c.args.chains.now.accepted) c.args.limits.now) c.requires.limits.each c.lawful.ensures.marked c.in_ok-fold_settled.ensures.ok,
+      ∙ kept_all c.args.chains.now c.fold_settled.new.kept (positions_of c.args.line.now) (limits_in (known c.args.chains.now.accepted) c.args.limits.now) c.requires.limits.each c.recall_lawful.ensures.marked c.in_ok-fold_settled.ensures.ok,
 )

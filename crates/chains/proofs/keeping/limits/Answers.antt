@@ -14,5 +14,5 @@ loop-i-preserved c =
 
 pub returns : goal.returns
 returns c =
-    limits_all c.args.chains.now.accepted (positions_of c.args.line.now) c.loop-i.limits.items c.lawful.ensures.folded
+    limits_all c.args.chains.now.accepted (positions_of c.args.line.now) c.loop-i.limits.items c.recall_lawful.ensures.folded
     (subst (λ (n : ℕ). AreLimitsTo c.args.chains.now.accepted (positions_of c.args.line.now) n c.loop-i.limits.items) (omega (arith, c.loop-i-test.false, c.loop-i.auto.i-end, c.requires)) c.loop-i.invariant)

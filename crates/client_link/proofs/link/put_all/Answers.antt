@@ -6,4 +6,4 @@ pub returns-in_err-put : goal.returns-in_err-put
 returns-in_err-put g c =
     let p = err_from_is_err_and c.from_residual.result c.from_residual.ensures.1 in
     let invariant = c.loop-piece.invariant in
-    rw p.1 (piece_cut _ _ _ c.in_err-put.field-0.0 p.0 c.args.pieces.now c.loop-piece.piece-index _ c.loop-piece-test.true invariant.sent invariant.sound invariant.left invariant.reads c.in_err-put.ensures)
+    rw p.1 (piece_cut (λ p. p.now) _ _ _ c.in_err-put.field-0.0 p.0 c.args.pieces.now c.loop-piece.piece-index _ c.loop-piece-test.true invariant.sent invariant.sound invariant.left invariant.reads c.in_err-put.ensures)

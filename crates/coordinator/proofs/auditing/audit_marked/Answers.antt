@@ -15,7 +15,7 @@ returns-in-Err-check_lines-clause-err g c = wrong_cause (held_of c.args.opening.
 
 pub total-shares-requires : goal.total-shares-requires
 total-shares-requires g c =
-    omega (arith, sum_small c.mark_all.new.marks c.in-Ok.ensures.ok.once, c.in-Ok.ensures.length, c.requires.few)
+    omega (arith, sum_small c.mark_all.new.marks c.in-Ok.ensures.ok.once, c.in-Ok.ensures.length, c.requires.at_most)
 
 pub returns-then-shares-turns-clause-err : goal.returns-then-shares-turns-clause-err
 returns-then-shares-turns-clause-err g c =

@@ -12,4 +12,4 @@ returns-clause-ok g c =
     let held : desk.opening ≡ held_of c.args.opening.now = sym (c.in_default.ensures.opening ∙ ap (λ d. d.opening) same) in
     let audited = subst (λ d. IsAudited d.opening d.turns c.args.passes.now) same c.in_default.ensures.ok in
     ended g.D.Disk.keeps g.D.Disk.view (held_of c.args.opening.now) c.args.passes.now desk c.end_desk.result.disk c.end_desk.result.turns c.end_desk.result.front
-    c.lawful.ensures.lawful held audited c.end_desk.ensures.turns c.end_desk.ensures.front c.end_desk.ensures.disk
+    c.recall_lawful.ensures.lawful held audited c.end_desk.ensures.turns c.end_desk.ensures.front c.end_desk.ensures.disk

@@ -12,7 +12,7 @@ returns-in-Ok-clause-ok g c =
     let held : desk.opening ≡ held_of c.args.opening.now = sym (c.in-Ok.ensures.opening ∙ ap (λ d. d.opening) same) in
     let audited = subst (λ d. IsAudited d.opening d.turns c.args.passes.now) same c.in-Ok.ensures.ok in
     ended g.D.Disk.keeps g.D.Disk.view (held_of c.args.opening.now) c.args.passes.now desk c.end_desk-ended.result.disk c.end_desk-ended.result.turns c.end_desk-ended.result.front
-    c.lawful.ensures.lawful held audited c.end_desk-ended.ensures.turns c.end_desk-ended.ensures.front c.end_desk-ended.ensures.disk
+    c.recall_lawful.ensures.lawful held audited c.end_desk-ended.ensures.turns c.end_desk-ended.ensures.front c.end_desk-ended.ensures.disk
 
 pub returns-in-Err-clause-left : goal.returns-in-Err-clause-left
 returns-in-Err-clause-left g c =
@@ -20,7 +20,7 @@ returns-in-Err-clause-left g c =
     let same : c.desk.result.now ≡ desk = c.desk.ensures ∙ sym c.into_desk-desk.ensures in
     record {
       desk = desk;
-      lawful = c.lawful.ensures.lawful;
+      lawful = c.recall_lawful.ensures.lawful;
       cause = subst (λ d. IsAuditCause (held_of c.args.opening.now) d c.args.passes.now c.in-Err.fault) same c.in-Err.ensures.err;
       turns_are = c.end_desk-ended.ensures.turns;
       front_is = c.end_desk-ended.ensures.front;

@@ -13,26 +13,26 @@ returns-in-Done-clause-writes g c =
     let m = c.args.ready.report in
     let told = says c.epoch.result c.args.line.now in
     let is = told_same c.epoch.result c.args.line.now (said_of m) c.epoch.ensures c.requires.line in
-    let tells = appends g.D.Disk.keeps g.D.Disk.view g.D.Disk.failed _ _ told (said_of m) is c.append.ensures.found c.append.ensures.any_moment c.append.ensures.premise in
+    let tells = appends g.D.Disk.keeps g.D.Disk.view g.D.Disk.failed _ _ told (said_of m) is c.append.ensures.append.found c.append.ensures.append.any_moment c.append.ensures.append.premise in
     writes_done g.D.Disk.keeps g.D.Disk.view g.D.Disk.failed _ _ told (said_of m) is tells (report_recorded m c.accepted.result) c.accepted.result (ap (report_recorded m) c.accepted.ensures)
     (λ said a b. accepted_placed c.accepted.result _ c.accepted.ensures said (said_of m) a b) (accepted_uses c.accepted.result _ c.accepted.ensures) (accepted_counts c.accepted.result _ c.accepted.ensures)
-    c.in-Done.ensures.done c.in-Done.ensures.after c.in-Done.ensures.so_far c.in-Done.ensures.cause
+    c.in-Done.ensures.append.done c.in-Done.ensures.append.after c.in-Done.ensures.append.so_far c.in-Done.ensures.append.cause
 
 pub returns-in-Before-clause-writes : goal.returns-in-Before-clause-writes
 returns-in-Before-clause-writes g c =
     let m = c.args.ready.report in
     let told = says c.epoch.result c.args.line.now in
     let is = told_same c.epoch.result c.args.line.now (said_of m) c.epoch.ensures c.requires.line in
-    let tells = appends g.D.Disk.keeps g.D.Disk.view g.D.Disk.failed _ _ told (said_of m) is c.append.ensures.found c.append.ensures.any_moment c.append.ensures.premise in
+    let tells = appends g.D.Disk.keeps g.D.Disk.view g.D.Disk.failed _ _ told (said_of m) is c.append.ensures.append.found c.append.ensures.append.any_moment c.append.ensures.append.premise in
     writes_before g.D.Disk.keeps g.D.Disk.view g.D.Disk.failed _ _ told (said_of m) is tells (report_recorded m c.failed.result) c.failed.result c.failed.ensures (ap (report_recorded m) c.failed.ensures)
-    (λ runs. let e = c.in-Before.ensures.stops.0 runs in cc) c.in-Before.ensures.after c.in-Before.ensures.so_far c.in-Before.ensures.cause
+    (λ runs. let e = c.in-Before.ensures.append.stops.0 runs in cc) c.in-Before.ensures.append.after c.in-Before.ensures.append.so_far c.in-Before.ensures.append.cause
 
 pub returns-in-Unknown-clause-writes : goal.returns-in-Unknown-clause-writes
 returns-in-Unknown-clause-writes g c =
     let m = c.args.ready.report in
     let told = says c.epoch.result c.args.line.now in
     let is = told_same c.epoch.result c.args.line.now (said_of m) c.epoch.ensures c.requires.line in
-    let tells = appends g.D.Disk.keeps g.D.Disk.view g.D.Disk.failed _ _ told (said_of m) is c.append.ensures.found c.append.ensures.any_moment c.append.ensures.premise in
+    let tells = appends g.D.Disk.keeps g.D.Disk.view g.D.Disk.failed _ _ told (said_of m) is c.append.ensures.append.found c.append.ensures.append.any_moment c.append.ensures.append.premise in
     let x = c.failed-in-Unknown in
     writes_unknown g.D.Disk.keeps g.D.Disk.view g.D.Disk.failed _ _ told (said_of m) is tells (report_recorded m x.result) x.result x.ensures (ap (report_recorded m) x.ensures)
-    (λ runs. let e = c.in-Unknown.ensures.stops.0 runs in cc) c.in-Unknown.ensures.after c.in-Unknown.ensures.so_far c.in-Unknown.ensures.cause
+    (λ runs. let e = c.in-Unknown.ensures.append.stops.0 runs in cc) c.in-Unknown.ensures.append.after c.in-Unknown.ensures.append.so_far c.in-Unknown.ensures.append.cause

@@ -6,4 +6,4 @@ use Rattle.desk.proofs.placing.reported.Goals as goal
 pub returns-in-Err-clause-turn : goal.returns-in-Err-clause-turn
 returns-in-Err-clause-turn g c =
     refused_by_turn (held_of c.args.chains.now) (held_with c.prepare.new.chains (is_stopped c.args.store.now)) c.args.report.now c.in-Err.refusal c.refused_by.result c.in-Err.ensures.answer
-    (held_beside c.prepare.new.chains c.args.chains.now (is_stopped c.args.store.now) c.requires.running c.prepare.ensures.same) c.refused_by.ensures
+    (held_beside c.prepare.new.chains c.args.chains.now (is_stopped c.args.store.now) c.requires.running c.prepare.ensures.unchanged) c.refused_by.ensures

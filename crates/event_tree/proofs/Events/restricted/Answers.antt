@@ -6,7 +6,7 @@ use Rattle.event_tree.proofs.Events.restricted.Goals as goal
 pub invariant_of-result : goal.invariant_of-result
 invariant_of-result c =
     let is : c.in_ok-node.node ≡ restricted_from c.args.id.now 0 c.self.inside.node = search rules in
-    rw is (IsEvents_restricted _ _ c.known.ensures.shallow c.self.invariant)
+    rw is (IsEvents_restricted _ _ c.recall_facts.ensures.shallow c.self.invariant)
 
 pub returns : goal.returns
 returns c =

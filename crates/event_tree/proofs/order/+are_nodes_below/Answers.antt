@@ -1,6 +1,6 @@
 use Rattle.std.proofs.Common.{◌≡◌, true, ◌∙◌, sym, refl, arith}
 use Rattle.event_tree.specs.working.Entries.{first}
-use Rattle.event_tree.specs.Tests.{is_below_from}
+use Rattle.event_tree.specs.working.Tests.{is_below_from}
 use Rattle.event_tree.proofs.Pending.{below_a_leaf, leaf_below, leaf_not_below, first_pair, left_open, left_behind, none_left, not_left}
 use Rattle.event_tree.proofs.order.+are_nodes_below.Goals as goal
 use Rattle.event_tree.proofs.order.+are_nodes_below.Goals.{then-one-gt1+then-other-gt1+else-open-lt16+else-not-are_nodes_below, then-one-gt1+else-other-gt1+else-not-is_first_at_most, else-one-gt1+else-bases-one}

@@ -1,5 +1,5 @@
 use Rattle.event_tree.specs.Size.{size}
-use Rattle.event_tree.specs.Tests.{is_below_from}
+use Rattle.event_tree.specs.working.Tests.{is_below_from}
 use Rattle.event_tree.specs.working.Pending.{sizes, IsLeft}
 use Rattle.event_tree.proofs.order.+are_nodes_below.Given as goal
 

@@ -1,5 +1,5 @@
 use Rattle.std.proofs.Common.{◌+◌, ◌∙◌, sym, ap, eq-eqb}
-use Rattle.event_tree.specs.Tests.{is_below_from}
+use Rattle.event_tree.specs.working.Tests.{is_below_from}
 use Rattle.event_tree.proofs.Orders.{below_leaf, below_limit}
 use Rattle.event_tree.proofs.order.is_node_below.Goals as goal
 

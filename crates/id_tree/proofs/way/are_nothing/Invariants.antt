@@ -1,5 +1,5 @@
 use Rattle.std.proofs.Common.{◌≡◌, length}
-use Rattle.id_tree.specs.OneWay.{are_nothing}
+use Rattle.id_tree.specs.working.WayOfMarks.{are_nothing}
 use Rattle.id_tree.proofs.way.are_nothing.Given as goal
 
 -- what is left tells what the whole does

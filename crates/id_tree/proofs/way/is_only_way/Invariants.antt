@@ -1,5 +1,5 @@
 use Rattle.std.proofs.Common.{◌≡◌, length}
-use Rattle.id_tree.specs.OneWay.{is_only_way}
+use Rattle.id_tree.specs.working.WayOfMarks.{is_only_way}
 use Rattle.id_tree.proofs.way.is_only_way.Given as goal
 
 -- what is left tells what the whole does

@@ -7,10 +7,10 @@ use Rattle.knows_row.specs.Needs.{IsUnknownCount}
 use Rattle.knows_row.proofs.by_runs.look.Goals as goal
 
 pub overflow_add-start : goal.overflow_add-start
-overflow_add-start c = omega (arith, c.requires.within, c.lawful.ensures.few_known, c.loop-k-test.true, c.loop-k.auto.k-end, c.loop-k.invariant.0)
+overflow_add-start c = omega (arith, c.requires.within, c.recall_lawful.ensures.known_at_most, c.loop-k-test.true, c.loop-k.auto.k-end, c.loop-k.invariant.0)
 
 pub overflow_cast-start : goal.overflow_cast-start
-overflow_cast-start c = omega (arith, c.requires.within, c.lawful.ensures.few_known, c.loop-k-test.true, c.loop-k.auto.k-end, c.loop-k.invariant.0)
+overflow_cast-start c = omega (arith, c.requires.within, c.recall_lawful.ensures.known_at_most, c.loop-k-test.true, c.loop-k.auto.k-end, c.loop-k.invariant.0)
 
 pub loop-k-preserved : goal.loop-k-preserved
 loop-k-preserved c =

@@ -21,7 +21,7 @@ look_by_runs-requires-clause-bounds g c κs within =
     let accepted = c.args.chains.now.accepted in
     let rows = c.in_ok-thresholds.thresholds in
     subst (λ (all : List ℕ). AreBoundsOf accepted c.deref-4.result.now all rows) (sym (c.deref-5.ensures.value ∙ c.in_ok-all.ensures))
-    (subst (λ (lasts : List ℕ). AreBoundsOf accepted lasts (all_known accepted) rows) (sym (c.deref-4.ensures.value ∙ c.in_ok-lasts.ensures)) (bounds_of accepted (lawful accepted c.lawful.ensures.folded) c.deref.result.now c.deref-2.result.now c.deref-3.result.now rows
+    (subst (λ (lasts : List ℕ). AreBoundsOf accepted lasts (all_known accepted) rows) (sym (c.deref-4.ensures.value ∙ c.in_ok-lasts.ensures)) (bounds_of accepted (lawful accepted c.recall_lawful.ensures.folded) c.deref.result.now c.deref-2.result.now c.deref-3.result.now rows
     (c.deref.ensures.value ∙ c.in_ok-lasts.ensures) (c.deref-2.ensures.value ∙ c.in_ok-before.ensures) (c.deref-3.ensures.value ∙ c.in_ok-all.ensures) c.in_ok-thresholds.ensures))
 
 pub look_by_runs-requires-clause-complete : goal.look_by_runs-requires-clause-complete
@@ -34,6 +34,6 @@ returns g c =
     let accepted = c.args.chains.now.accepted in
     record {
       of_list = refl;
-      bounds = bounds_of accepted (lawful accepted c.lawful.ensures.folded) c.deref.result.now c.deref-2.result.now c.deref-3.result.now c.in_ok-thresholds.thresholds
+      bounds = bounds_of accepted (lawful accepted c.recall_lawful.ensures.folded) c.deref.result.now c.deref-2.result.now c.deref-3.result.now c.in_ok-thresholds.thresholds
           (c.deref.ensures.value ∙ c.in_ok-lasts.ensures) (c.deref-2.ensures.value ∙ c.in_ok-before.ensures) (c.deref-3.ensures.value ∙ c.in_ok-all.ensures) c.in_ok-thresholds.ensures;
     }

@@ -2,7 +2,7 @@ use Rattle.std.proofs.Common.{◌≡◌, ◌+◌, ◌≤◌, ◌↔◌, ◌⊎�
 use Rattle.event_tree.specs.EventTree.{EventTree}
 use Rattle.event_tree.specs.NormalForm.{greatest, value_limit}
 use Rattle.stamp.specs.declared.stamp.Stamp.{Stamp}
-use Rattle.chains.specs.LastRun.{last_run}
+use Rattle.chains.specs.LastRun.{same_id_from}
 use Rattle.knows_row.specs.working.Beyond.{IsBeyondAt, AddsNothing}
 use Rattle.knows_row.specs.Thresholds.{Passes}
 use Rattle.knows_row.proofs.Thresholding.{threshold_one, threshold_more, threshold_same, threshold_run, elements_are_rising}
@@ -19,7 +19,7 @@ loop-k-init c =
 
 pub adds_nothing-requires : goal.adds_nothing-requires
 adds_nothing-requires c =
-    rw c.elements-elements.ensures (elements_are_rising c.args.chains.now.accepted c.args.process c.lawful.ensures.folded)
+    rw c.elements-elements.ensures (elements_are_rising c.args.chains.now.accepted c.args.process c.recall_lawful.ensures.folded)
 
 pub loop-k-preserved-then-adds_nothing : goal.loop-k-preserved-then-adds_nothing
 loop-k-preserved-then-adds_nothing c =
@@ -42,6 +42,6 @@ loop-k-preserved c =
 
 pub returns : goal.returns
 returns c =
-    let run = subst (λ (ss : List Stamp). c.last_run.result ≡ last_run ss) c.elements-elements.ensures c.last_run.ensures.run in
-    threshold_run c.args.chains.now.accepted c.args.process c.args.from c.loop-k.k c.args.to c.loop-k.bound (elements_are_rising c.args.chains.now.accepted c.args.process c.lawful.ensures.folded) c.loop-k.invariant.0 c.loop-k.invariant.1
+    let run = subst (λ (ss : List Stamp). c.same_id_from.result ≡ same_id_from ss) c.elements-elements.ensures c.same_id_from.ensures.run in
+    threshold_run c.args.chains.now.accepted c.args.process c.args.from c.loop-k.k c.args.to c.loop-k.bound (elements_are_rising c.args.chains.now.accepted c.args.process c.recall_lawful.ensures.folded) c.loop-k.invariant.0 c.loop-k.invariant.1
     (λ before. omega (arith, c.loop-k-test.false, before, run)) c.loop-k.invariant.2

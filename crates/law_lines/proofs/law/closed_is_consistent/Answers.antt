@@ -3,8 +3,8 @@ use Rattle.law_lines.proofs.Closing.{closed_is_consistent}
 use Rattle.law_lines.proofs.Lines.{greatest_is_greatest_closed, line_of_histories}
 use Rattle.law_lines.proofs.law.closed_is_consistent.Goals as goal
 
-pub returns-clause-same : goal.returns-clause-same
-returns-clause-same c = closed_is_consistent
+pub returns-clause-equivalent : goal.returns-clause-equivalent
+returns-clause-equivalent c = closed_is_consistent
 
 pub returns-clause-greatest : goal.returns-clause-greatest
 returns-clause-greatest c = greatest_is_greatest_closed

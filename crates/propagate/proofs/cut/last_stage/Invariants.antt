@@ -6,7 +6,7 @@ use Rattle.propagate.specs.working.Stages.{AreRunning}
 use Rattle.propagate.proofs.cut.last_stage.Given as goal
 
 abbrev pub invariant-loop-stage : goal.invariant-loop-stage
-invariant-loop-stage l = AreRunning l.chains.accepted l.tops l.stage l.arena l.rounds
+invariant-loop-stage l = AreRunning l.chains.accepted l.surviving_ranks l.stage l.arena l.rounds
     × IfSome l.table (λ n. IsTableOf l.chains.accepted n.now × (l.stage.cut.items ≡ last_ranks l.chains.accepted) × (l.stage.fell.items ≡ all_known l.chains.accepted))
 
 abbrev pub decreases-loop-stage : goal.decreases-loop-stage

@@ -16,5 +16,5 @@ returns-clause-cause c =
     let r = c.next_rank-rank.result in
     let here : c.index-2.result.now ≡ slice_index cut p = c.index-2.ensures ∙ get_or_default cut p c.index-2.result.now 0 c.requires.process in
     let lower : r < slice_index cut p = omega (arith, c.next_rank-rank.ensures.rank.before, c.if-rank-index.false, here) in
-    cause_of accepted fell cut p r (lawful accepted c.lawful.ensures.folded) s.clear c.requires.process
-    (below_last accepted c.args.tops.now cut c.args.stage.now.heads.items fell s p c.requires.process) lower (c.next_rank-rank.ensures.known lower) c.first_known-cause.result c.first_known-cause.ensures
+    cause_of accepted fell cut p r (lawful accepted c.recall_lawful.ensures.folded) s.clear c.requires.process
+    (below_last accepted c.args.surviving_ranks.now cut c.args.stage.now.chain_ends.items fell s p c.requires.process) lower (c.next_rank-rank.ensures.known lower) c.first_known-cause.result c.first_known-cause.ensures

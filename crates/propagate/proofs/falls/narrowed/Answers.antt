@@ -18,8 +18,8 @@ returns-then-not-knows_one c =
       order = omega arith;
       within = b.within;
       clear =
-          look_clear accepted fell cut c.args.process _ (lawful accepted c.lawful.ensures.folded) s.clear c.requires.process
-          (below_last accepted c.args.tops.now cut c.args.stage.now.heads.items fell s c.args.process c.requires.process)
+          look_clear accepted fell cut c.args.process _ (lawful accepted c.recall_lawful.ensures.folded) s.clear c.requires.process
+          (below_last accepted c.args.surviving_ranks.now cut c.args.stage.now.chain_ends.items fell s c.args.process c.requires.process)
           (omega (arith, b.within)) (λ one. true≢false (sym (c.if-not-knows_one.ensures.1 one)));
       known = b.known;
     }

@@ -8,9 +8,9 @@ use Rattle.propagate.proofs.rounds.round_by.Goals.{then-low-index+in_ok-push, el
 use Rattle.propagate.proofs.rounds.round_by.Goals as goal
 
 pub loop-process-init : goal.loop-process-init
-loop-process-init c = rw (c.in_ok-cut.ensures.items, c.in_ok-heads.ensures.items, c.new-fell.ensures.items) (record {
+loop-process-init c = rw (c.in_ok-cut.ensures.items, c.in_ok-chain_ends.ensures.items, c.new-fell.ensures.items) (record {
   ranks = next_none c.args.chains.now.accepted c.args.stage.now.cut.items;
-  heads = heads_none c.args.chains.now.accepted c.args.tops.now c.args.stage.now.cut.items c.args.arena.now;
+  chain_ends = heads_none c.args.chains.now.accepted c.args.surviving_ranks.now c.args.stage.now.cut.items c.args.arena.now;
   stands = c.requires.stands;
   more = ([], sym (append-nil c.args.arena.now));
   chains = λ p lt. absurd (omega (arith, lt));
@@ -19,7 +19,7 @@ loop-process-init c = rw (c.in_ok-cut.ensures.items, c.in_ok-heads.ensures.items
 pub loop-process-preserved : goal.loop-process-preserved
 loop-process-preserved c =
     let accepted = c.args.chains.now.accepted in
-    let tops = c.args.tops.now in
+    let surviving_ranks = c.args.surviving_ranks.now in
     let cut = c.args.stage.now.cut.items in
     let i = c.loop-process.process in
     let next = c.loop-process.cut.items in
@@ -34,16 +34,16 @@ loop-process-preserved c =
         | then-low-index+in_ok-push w ↦ rw (w.fell-is, w.in_ok-push.ensures.items) (next_fallen accepted cut i next c.loop-process.fell.items r was.ranks rank (omega (arith, w.if-low-index.true, here)))
         | else-low-index w ↦ rw w.fell-is (next_stays accepted cut i next c.loop-process.fell.items r was.ranks rank (omega (arith, w.if-low-index.false, here)))
       ];
-      heads = heads_more accepted tops cut i next c.loop-process.heads.items c.loop-process.arena more.0 c.next_head.new.arena r c.in_ok-head.head was.heads was.ranks.complete more.1
+      chain_ends = heads_more accepted surviving_ranks cut i next c.loop-process.chain_ends.items c.loop-process.arena more.0 c.next_head.new.arena r c.in_ok-head.head was.chain_ends was.ranks.complete more.1
           c.in_ok-head.ensures.there c.in_ok-head.ensures.grounded;
       stands = record {
         standing = was.stands.standing;
-        grounded = grounded_grown accepted tops cut c.args.stage.now.heads.items c.loop-process.arena more.0 c.next_head.new.arena more.1 was.stands.standing.headed was.stands.there was.stands.grounded;
-        there = there_grown tops cut c.args.stage.now.heads.items c.loop-process.arena more.0 c.next_head.new.arena more.1 was.stands.there;
+        grounded = grounded_grown accepted surviving_ranks cut c.args.stage.now.chain_ends.items c.loop-process.arena more.0 c.next_head.new.arena more.1 was.stands.standing.headed was.stands.there was.stands.grounded;
+        there = there_grown surviving_ranks cut c.args.stage.now.chain_ends.items c.loop-process.arena more.0 c.next_head.new.arena more.1 was.stands.there;
       };
       more = (was.more.0 ++ more.0, more.1 ∙ ap (λ (xs : List (List Place)). xs ++ more.0) was.more.1 ∙ append_assoc c.args.arena.now was.more.0 more.0);
-      chains = chains_more accepted tops cut c.args.stage.now.heads.items c.args.arena.now c.requires.stands.standing.surviving i next c.loop-process.heads.items c.loop-process.arena more.0 c.next_head.new.arena was.more.0
-          r c.in_ok-head.head lt was.ranks.complete was.heads.complete c.requires.stands.there was.more.1 more.1 was.heads.there was.chains c.in_ok-head.ensures.chain;
+      chains = chains_more accepted surviving_ranks cut c.args.stage.now.chain_ends.items c.args.arena.now c.requires.stands.standing.surviving i next c.loop-process.chain_ends.items c.loop-process.arena more.0 c.next_head.new.arena was.more.0
+          r c.in_ok-head.head lt was.ranks.complete was.chain_ends.complete c.requires.stands.there was.more.1 more.1 was.chain_ends.there was.chains c.in_ok-head.ensures.chain;
     })
 
 -- all processes were looked at
@@ -53,11 +53,11 @@ all_done c = omega (arith, c.loop-process-test.false, c.loop-process.auto.proces
 pub returns : goal.returns
 returns c =
     let accepted = c.args.chains.now.accepted in
-    let tops = c.args.tops.now in
+    let surviving_ranks = c.args.surviving_ranks.now in
     let cut = c.args.stage.now.cut.items in
     let i = c.loop-process.process in
     let next = c.loop-process.cut.items in
-    let heads = c.loop-process.heads.items in
+    let chain_ends = c.loop-process.chain_ends.items in
     let fell = c.loop-process.fell.items in
     let arena = c.loop-process.arena in
     let done = c.loop-process.invariant in
@@ -67,9 +67,9 @@ returns c =
       ranks = ranks;
       fallen = next_fell accepted cut i next fell done.ranks (all_done c);
       stands = record {
-        standing = next_standing accepted cut i next fell done.ranks (all_done c) tops heads c.args.stage.now.heads.items c.args.stage.now.fell.items stage (done.heads.complete ∙ all_done c);
-        grounded = heads_grounded accepted tops cut i next heads arena done.heads done.ranks.complete ranks;
-        there = heads_there accepted tops cut i next heads arena done.heads done.ranks.complete;
+        standing = next_standing accepted cut i next fell done.ranks (all_done c) surviving_ranks chain_ends c.args.stage.now.chain_ends.items c.args.stage.now.fell.items stage (done.chain_ends.complete ∙ all_done c);
+        grounded = heads_grounded accepted surviving_ranks cut i next chain_ends arena done.chain_ends done.ranks.complete ranks;
+        there = heads_there accepted surviving_ranks cut i next chain_ends arena done.chain_ends done.ranks.complete;
       };
       from = rw (c.in_ok-before.ensures.items, c.deref.ensures.value) (next_lowered accepted cut next ranks);
       chains = λ p lt. done.chains p (omega (arith, lt, done.ranks.complete));

@@ -8,8 +8,8 @@ use Rattle.propagate.proofs.rounds.round_by.Given as goal
 abbrev pub invariant-loop-process : goal.invariant-loop-process
 invariant-loop-process l = record {
   ranks : AreNextTo l.chains.accepted l.stage.cut.items l.process l.cut.items l.fell.items;
-  heads : AreHeadsTo l.chains.accepted l.tops l.stage.cut.items l.process l.cut.items l.heads.items l.arena;
-  stands : IsStageFrom l.chains.accepted l.tops l.stage l.arena;
+  chain_ends : AreHeadsTo l.chains.accepted l.surviving_ranks l.stage.cut.items l.process l.cut.items l.chain_ends.items l.arena;
+  stands : IsStageFrom l.chains.accepted l.surviving_ranks l.stage l.arena;
   more : (more : List (List Place)) × (l.arena ≡ l.fn.arena ++ more);
-  chains : AreChainsTo l.chains.accepted l.tops l.stage.cut.items l.stage.heads.items l.fn.arena l.process l.cut.items l.heads.items l.arena;
+  chains : AreChainsTo l.chains.accepted l.surviving_ranks l.stage.cut.items l.stage.chain_ends.items l.fn.arena l.process l.cut.items l.chain_ends.items l.arena;
 }

@@ -3,4 +3,4 @@ use Rattle.propagate.proofs.settlement.settle.Goals as goal
 
 -- the greatest cut can be kept
 pub keep_fit-requires : goal.keep_fit-requires
-keep_fit-requires c = can_be_kept c.args.chains.now.accepted c.args.failed.now c.in_ok-line.line c.lawful.ensures.folded c.in_ok-line.ensures.in_order c.in_ok-line.ensures.line
+keep_fit-requires c = can_be_kept c.args.chains.now.accepted c.args.failed.now c.in_ok-line.line c.recall_lawful.ensures.folded c.in_ok-line.ensures.in_order c.in_ok-line.ensures.line

@@ -8,4 +8,4 @@ pub returns-clause-broken : goal.returns-clause-broken
 returns-clause-broken c = broken_read_again c.args.chains.now.accepted c.known_names_are_names.ensures
 
 pub returns-clause-only : goal.returns-clause-only
-returns-clause-only c = read_only c.args.chains.now.accepted c.known_names_are_names.ensures c.lawful.ensures.folded
+returns-clause-only c = read_only c.args.chains.now.accepted c.known_names_are_names.ensures c.recall_lawful.ensures.folded

@@ -9,7 +9,7 @@ returns-in-Ok g c =
       after = c.ask_desk-status.new.desk;
       opened = record { records = opened.records; opened = opened.opened; any_moment = opened.any_moment; fresh = opened.fresh; premise = opened.premise };
       asks = c.ask_desk-status.ensures;
-      lawful = c.lawful.ensures.lawful;
+      lawful = c.recall_lawful.ensures.lawful;
     })
 
 pub returns-in-Err : goal.returns-in-Err

@@ -14,6 +14,6 @@ returns-in-Ok g c =
       checks =
           subst
           (λ (h : Held). Checks g.K.Link.told g.F.Link.told h c.args.client.now c.check_chains-status.new.client c.args.faults.now c.check_chains-status.new.faults c.check_chains-status.result) held c.check_chains-status.ensures;
-      lawful = c.lawful.ensures.lawful;
+      lawful = c.recall_lawful.ensures.lawful;
       disk_is = c.close.ensures.disk;
     })

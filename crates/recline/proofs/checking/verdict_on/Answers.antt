@@ -10,6 +10,6 @@ returns c =
     record {
       verdict_is = c.check.ensures.verdict;
       of_histories = λ yes.
-          c.certified_lines_are_the_greatest.ensures.of_histories held c.args.certificate.now c.lawful.ensures.folded
+          c.certified_lines_are_the_greatest.ensures.of_histories held c.args.certificate.now c.recall_lawful.ensures.folded
           (subst (λ (v : Verdict). IsVerdict held c.args.certificate.now v) yes c.check.ensures.verdict);
     }

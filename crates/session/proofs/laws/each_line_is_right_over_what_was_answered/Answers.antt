@@ -4,5 +4,5 @@ use Rattle.session.proofs.laws.each_line_is_right_over_what_was_answered.Goals a
 pub returns-clause-accepted : goal.returns-clause-accepted
 returns-clause-accepted c = what_is_accepted_was_answered
 
-pub returns-clause-same : goal.returns-clause-same
-returns-clause-same c = both_headlines_are_one
+pub returns-clause-equivalent : goal.returns-clause-equivalent
+returns-clause-equivalent c = both_headlines_are_one

@@ -12,21 +12,21 @@ pub ask-requires-clause-read : goal.ask-requires-clause-read
 ask-requires-clause-read g c κs within = rw c.call_of.ensures (read_off c.args.line.now c.read_line-read.result c.read_line-read.ensures.exact)
 
 pub put_shown-requires : goal.put_shown-requires
-put_shown-requires g c = some_entries g.D.Disk.keeps g.D.Disk.view _ _ _ c.in-Ok.ensures.ok
+put_shown-requires g c = some_entries g.D.Disk.keeps g.D.Disk.view _ _ _ c.in-Ok.ensures.turn.stands
 
 pub returns-in-Err : goal.returns-in-Err
-returns-in-Err g c = rw c.kind_of.ensures (none_made g.D.Disk.keeps g.D.Disk.view _ c.args.line.now _ _ c.in-Err.fault c.in-Err.ensures.err c.in-Err.ensures.foreign)
+returns-in-Err g c = rw c.kind_of.ensures (none_made g.D.Disk.keeps g.D.Disk.view _ c.args.line.now _ _ c.in-Err.fault c.in-Err.ensures.turn.err c.in-Err.ensures.turn.foreign)
 
 pub returns-in-Ok-put_shown : goal.returns-in-Ok-put_shown
 returns-in-Ok-put_shown g c =
-    answered_bye g.D.Disk.keeps g.D.Disk.view _ _ c.args.line.now _ _ (call_read c.read_line-read.result) _ (means_read _ _ c.read_line-read.ensures.exact) (rw c.call_of.ensures at c.in-Ok.ensures.ok) c.in-Ok-put_shown.ensures
+    answered_bye g.D.Disk.keeps g.D.Disk.view _ _ c.args.line.now _ _ (call_read c.read_line-read.result) _ (means_read _ _ c.read_line-read.ensures.exact) (rw c.call_of.ensures at c.in-Ok.ensures.turn.stands) c.in-Ok-put_shown.ensures
     (ap call_read (c.is_bye-last.ensures.0 c.if-last.true))
 
 pub returns-in-Ok-2 : goal.returns-in-Ok-2
 returns-in-Ok-2 g c =
-    answered_on g.D.Disk.keeps g.D.Disk.view _ _ c.args.line.now _ _ (call_read c.read_line-read.result) _ (means_read _ _ c.read_line-read.ensures.exact) (rw c.call_of.ensures at c.in-Ok.ensures.ok) c.in-Ok-2.ensures
+    answered_on g.D.Disk.keeps g.D.Disk.view _ _ c.args.line.now _ _ (call_read c.read_line-read.result) _ (means_read _ _ c.read_line-read.ensures.exact) (rw c.call_of.ensures at c.in-Ok.ensures.turn.stands) c.in-Ok-2.ensures
     (λ says. false≢true (sym c.if-last.false ∙ c.is_bye-last.ensures.1 (bye_read _ says)))
 
 pub returns-in-Err-put_shown : goal.returns-in-Err-put_shown
 returns-in-Err-put_shown g c =
-    answered_part g.D.Disk.keeps g.D.Disk.view _ _ c.args.line.now _ _ (call_read c.read_line-read.result) c.in-Err-put_shown.field-0 (means_read _ _ c.read_line-read.ensures.exact) (rw c.call_of.ensures at c.in-Ok.ensures.ok) c.in-Err-put_shown.ensures
+    answered_part g.D.Disk.keeps g.D.Disk.view _ _ c.args.line.now _ _ (call_read c.read_line-read.result) c.in-Err-put_shown.field-0 (means_read _ _ c.read_line-read.ensures.exact) (rw c.call_of.ensures at c.in-Ok.ensures.turn.stands) c.in-Err-put_shown.ensures

@@ -16,7 +16,7 @@ returns-in-Some g c =
     record {
       served = rw c.replies_at.ensures.exact (lines_to g.V.Server.makes g.V.Server.grounds c.requires.laws g.K.Link.told c.args.when (Some c.in-Some.kind) _ _ _ c.args.lines.now c.loop-i.i c.line.result.now _ _ _ c.loop-i.replies (one_reply (Some c.in-Some.kind)) c.line.ensures c.loop-i.invariant.served
           (line_served g.V.Server.makes g.V.Server.grounds g.K.Link.told c.args.when _ _ _ c.line.result.now _ _ c.serve_line-end.result (Some c.in-Some.kind) c.serve_line-end.ensures (rw c.in-Some.is at c.hand_on_reply.ensures)) (λ none. cc));
-      few = omega (arith, c.loop-i.invariant.few, c.replies_at.ensures.few);
+      at_most = omega (arith, c.loop-i.invariant.few, c.replies_at.ensures.at_most);
     }
 
 pub loop-i-preserved : goal.loop-i-preserved

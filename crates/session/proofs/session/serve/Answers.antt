@@ -9,7 +9,7 @@ pub loop-preserved : goal.loop-preserved
 loop-preserved g c =
     record {
       going = going_on g.V.Server.makes g.V.Server.grounds c.requires.laws g.K.Link.told c.args.when _ _ _ _ _ _ _ _ _ c.loop.counter c.loop.replies _ _ c.loop.invariant.going c.in-Ok.ensures (rw c.in_default-end.is at c.step-end.ensures.steps);
-      few = omega (arith, c.loop.invariant.few, c.step-end.ensures.few);
+      few = omega (arith, c.loop.invariant.few, c.step-end.ensures.at_most);
     }
 
 pub returns-in_default : goal.returns-in_default

@@ -16,7 +16,7 @@ pub returns-clause-steps : goal.returns-clause-steps
 returns-clause-steps g c =
     step_served g.V.Server.makes g.V.Server.grounds c.requires.laws g.K.Link.told c.args.when c.serve_lines-end.result.0 _ _ _ _ c.args.feed.now c.push.new.self _ _ c.in-Ok.n _ c.read.new.buf c.in-Ok-push.lines (omega (arith, length-take c.in-Ok.n c.read.new.buf, c.in-Ok.ensures.bound, c.if-n-eq0.false)) c.in-Ok.ensures.read c.in-Ok-push.ensures.cut c.serve_lines-end.ensures.served c.kind_after.ensures
 
-pub returns-clause-few : goal.returns-clause-few
-returns-clause-few g c =
-    few_served c.args.feed.now c.push.new.self (take c.in-Ok.n c.read.new.buf) c.in-Ok-push.lines _ 8192 c.in-Ok-push.ensures.cut c.serve_lines-end.ensures.few
+pub returns-clause-at_most : goal.returns-clause-at_most
+returns-clause-at_most g c =
+    few_served c.args.feed.now c.push.new.self (take c.in-Ok.n c.read.new.buf) c.in-Ok-push.lines _ 8192 c.in-Ok-push.ensures.cut c.serve_lines-end.ensures.at_most
     (omega (arith, length-take c.in-Ok.n c.read.new.buf, c.in-Ok.ensures.bound))

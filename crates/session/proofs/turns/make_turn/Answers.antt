@@ -11,7 +11,7 @@ use Rattle.session.proofs.turns.make_turn.Goals as goal
 pub returns-in-Some : goal.returns-in-Some
 returns-in-Some g c =
     let receipt = c.in_ok-receipt.receipt in
-    let made = c.in_ok-receipt.ensures in
+    let made = c.in_ok-receipt.ensures.turn in
     let same = last_turn c.turns.result.now c.args.desk.now.turns (record { call = c.call_of.result; receipt = receipt }) c.in-Some.turn.now (c.turns.ensures ∙ made.turns) (ap option_copied (sym c.in-Some.is) ∙ c.last.ensures.value) in
     let fits = subst (λ (t : Turn). IsShown (held_of c.chains.result.now) t.call receipt.reply c.shown_for.result) same c.shown_for.ensures.shown in
     let chose =

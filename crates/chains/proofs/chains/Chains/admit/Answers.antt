@@ -8,4 +8,4 @@ pub returns-in_err-prepared : goal.returns-in_err-prepared
 returns-in_err-prepared c =
     let m : MarkedReport = record { epoch = c.args.epoch; report = c.args.report.now } in
     let p = err_from_is_err_and c.from_residual.result c.from_residual.ensures.1 in
-    record { turn = rw (p.1, p.2) (refused_turn (held_of c.args.self.now) (held_of c.prepare.new.self) m c.in_err-prepared.field-0.0 c.in_err-prepared.ensures.answer c.in_err-prepared.ensures.same) }
+    record { turn = rw (p.1, p.2) (refused_turn (held_of c.args.self.now) (held_of c.prepare.new.self) m c.in_err-prepared.field-0.0 c.in_err-prepared.ensures.answer c.in_err-prepared.ensures.unchanged) }

@@ -6,4 +6,4 @@ use Rattle.chains.proofs.chains.Chains.commit.Goals as goal
 
 pub accept-requires : goal.accept-requires
 accept-requires c =
-    may_be_put c.args.self.now c.in-Ready.ready c.lawful.ensures.folded c.lawful.ensures.few_known (subst (λ (x : Prepared). IsReady x c.args.self.now) c.in-Ready.is c.requires)
+    may_be_put c.args.self.now c.in-Ready.ready c.recall_lawful.ensures.folded c.recall_lawful.ensures.known_at_most (subst (λ (x : Prepared). IsReady x c.args.self.now) c.in-Ready.is c.requires)

@@ -9,10 +9,10 @@ use Rattle.chains.proofs.chains.Chains.keep_fit.Goals as goal
 pub count_from-requires-2-clause-counted : goal.count_from-requires-2-clause-counted
 count_from-requires-2-clause-counted c =
     kept_counted (held_of c.args.self.now) (limits_in (known c.args.self.now.accepted) c.in_ok-limits.limits.items) (held_of c.fold_fit_settled.new.kept) c.front.result c.epoch-3.result
-    (rw c.deref.ensures.value at c.in_ok-fold_fit_settled.ensures) c.lawful.ensures.counted c.front.ensures c.epoch-3.ensures
+    (rw c.deref.ensures.value at c.in_ok-fold_fit_settled.ensures) c.recall_lawful.ensures.counted c.front.ensures c.epoch-3.ensures
 
 pub returns : goal.returns
 returns c =
     (rw (c.front.ensures, c.epoch-3.ensures) at c.count_from-2.ensures)
     ∙ kept_all c.args.self.now c.fold_fit_settled.new.kept (positions_of c.args.line.now) (limits_in (known c.args.self.now.accepted) c.in_ok-limits.limits.items)
-    (rw c.as_slice.ensures at c.in_ok-limits.ensures).each c.lawful.ensures.marked (rw c.deref.ensures.value at c.in_ok-fold_fit_settled.ensures)
+    (rw c.as_slice.ensures at c.in_ok-limits.ensures).each c.recall_lawful.ensures.marked (rw c.deref.ensures.value at c.in_ok-fold_fit_settled.ensures)

@@ -54,4 +54,4 @@ pub test_absorb-requires-clause-apart : goal.test_absorb-requires-clause-apart
 test_absorb-requires-clause-apart c =
     let accepted = c.args.self.now.accepted in
     let p = c.args.fields.process.now in
-    apart accepted p c.in-Some.retired.now c.lawful.ensures.folded c.lawful.ensures.parts (known_from accepted c.args.place p c.requires.place) (known_from accepted c.in-Some-waiting.partner c.in-Some.retired.now c.in-Some-waiting.ensures.1) c.requires.lives c.in-Some-waiting.ensures.0
+    apart accepted p c.in-Some.retired.now c.recall_lawful.ensures.folded c.recall_lawful.ensures.parts (known_from accepted c.args.place p c.requires.place) (known_from accepted c.in-Some-waiting.partner c.in-Some.retired.now c.in-Some-waiting.ensures.1) c.requires.lives c.in-Some-waiting.ensures.0

@@ -1,4 +1,4 @@
-use Rattle.std.proofs.Common.{arith, ◌≡◌, ◌<◌, ◌∙◌, sym, length}
+use Rattle.std.proofs.Common.{arith, ◌∙◌, sym}
 use Rattle.std.proofs.lemmas.List.{length-set}
 use Rattle.client_link.proofs.Screening.{room_for_more, more_says}
 use Rattle.client_link.proofs.screen.Screened.hold_back.Goals as goal
@@ -19,8 +19,8 @@ invariant_of-self g c =
       seen = λ h. sym told ∙ h;
     }
 
-pub returns-clause-same : goal.returns-clause-same
-returns-clause-same g c =
+pub returns-clause-same_text : goal.returns-clause-same_text
+returns-clause-same_text g c =
     let old = c.args.self.now in
     let room = old.has_room c.requires in
     λ later. more_says c.look_for_request-self.result old.first old.given old.held c.args.byte later (old.none_given c.requires) (omega (arith, room, old.eight)) c.look_for_request-self.ensures

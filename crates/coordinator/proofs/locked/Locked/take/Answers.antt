@@ -17,4 +17,4 @@ returns-in-Ok-clause-ok g c =
     }
 
 pub returns-in-Ok-clause-stands : goal.returns-in-Ok-clause-stands
-returns-in-Ok-clause-stands g c = made_with g.D.Disk.keeps g.D.Disk.view _ _ _ _ _ _ c.lawful.ensures.lawful c.lawful-2.ensures.lawful (returns-in-Ok-clause-ok g c)
+returns-in-Ok-clause-stands g c = made_with g.D.Disk.keeps g.D.Disk.view _ _ _ _ _ _ c.recall_lawful.ensures.lawful c.recall_lawful-2.ensures.lawful (returns-in-Ok-clause-ok g c)

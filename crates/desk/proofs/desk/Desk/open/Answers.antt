@@ -14,7 +14,7 @@ invariant_of-result g c =
     let both = c.in-Ok-chains_of in
     let opened = subst (λ (s : List Said). Opens s (held_of both.chains)) c.records.ensures both.ensures.ok in
     let ready = λ (keeps : _). c.in-Ok-open.ensures.ready (c.in-Ok-open.ensures.premise.0 keeps) in (
-      lawful_open g.D.Disk.keeps g.D.Disk.view _ (same_held both.chains both.opening _ both.ensures.copy c.in-Ok-open.ensures.goes) refl c.in-Ok.ensures.none
+      lawful_open g.D.Disk.keeps g.D.Disk.view _ (same_held both.chains both.opening _ both.ensures.copy c.in-Ok-open.ensures.not_stopped) refl c.in-Ok.ensures.none
           (subst (Opens (found_records store)) (sym both.ensures.copy) opened) (λ keeps. at_rest_stands _ _ _ _ (ready keeps)),
       (λ runs keeps. subst (λ (s : List Said). HasRecords g.D.Disk.view store s) (sym (none_recorded (found_records store) _ c.in-Ok.ensures.none)) (ready keeps)),
       c.in-Ok.ensures.room,

@@ -1,4 +1,4 @@
-use Rattle.std.proofs.Common.{◌≡◌, ◌+◌, true, false, refl, sym, ◌∙◌, ap, subst, arith}
+use Rattle.std.proofs.Common.{◌≡◌, ◌+◌, true, false, refl, sym, ◌∙◌, ap, subst, arith, rules}
 use Rattle.record_file.specs.Store.{is_stopped}
 use Rattle.report_line.specs.declared.reply.Reply.{Reply}
 use Rattle.chains.specs.Held.{held_of}
@@ -30,25 +30,80 @@ invariant_of-self-2 g c =
       rw c.push_reserved.ensures.capacity c.self.invariant.2,
     )
 
-pub returns-clause-of_histories : goal.returns-clause-of_histories
-returns-clause-of_histories g c =
-    rw (← c.self.view_is) (turn_of_histories _ _ c.args.call _ (step_same _ _ c.args.call _ _ (sym c.into_parts-given.ensures.first) c.in_ok-answered.ensures.turn))
+pub returns-then-len-ge-TURN_LIMIT : goal.returns-then-len-ge-TURN_LIMIT
+returns-then-len-ge-TURN_LIMIT g c = record {
+  turn = record {
+    step = search rules;
+    turns = search rules;
+    number = search rules;
+    opening = search rules;
+    found = search rules;
+    worn = search rules;
+    err = search rules;
+    cause_err = search rules;
+    memory = search rules;
+    of_histories = search rules;
+    any_moment = search rules;
+    before = search rules;
+    placed = search rules;
+    unmoved = search rules;
+    stopped_only = search rules;
+    stopped = search rules;
+    cause = search rules;
+    premise = search rules;
+  };
+}
 
-pub returns-clause-any_moment : goal.returns-clause-any_moment
-returns-clause-any_moment g c =
-    rw (← c.self.view_is) (λ keeps. always_by g.D.Disk.keeps g.D.Disk.view _ c.self.invariant.0 c.args.call c.answered.new.store.disk
-    (λ runs. c.in_ok-answered.ensures.writes.any_moment _ keeps (c.self.invariant.1 runs keeps)) (λ is. ap (λ s. s.disk) (c.answered.ensures.stopped is).0) keeps)
+pub returns-in_err-answered : goal.returns-in_err-answered
+returns-in_err-answered g c = record {
+  turn = record {
+    step = search rules;
+    turns = search rules;
+    number = search rules;
+    opening = search rules;
+    found = search rules;
+    worn = search rules;
+    err = search rules;
+    cause_err = search rules;
+    memory = search rules;
+    of_histories = search rules;
+    any_moment = search rules;
+    before = search rules;
+    placed = search rules;
+    unmoved = search rules;
+    stopped_only = search rules;
+    stopped = search rules;
+    cause = search rules;
+    premise = search rules;
+  };
+}
 
-pub returns-clause-before : goal.returns-clause-before
-returns-clause-before g c =
-    rw (← c.self.view_is) (λ says keeps file left.
-    before_left _ _ _ c.args.call _ file (sym c.into_parts-given.ensures.first ∙ says) c.in_ok-answered.ensures.turn (λ runs. c.in_ok-answered.ensures.writes.left _ keeps (c.self.invariant.1 runs keeps) file left))
-
-pub returns-clause-placed : goal.returns-clause-placed
-returns-clause-placed g c =
-    rw (← c.self.view_is) (λ keeps. placed_same _ _ c.args.call _ _ _ _ (sym c.into_parts-given.ensures.first)
-    (placed_then (is_stopped c.self.inside.store) _ _ c.args.call _ _ _ _ refl c.in_ok-answered.ensures.turn (λ runs one is. c.in_ok-answered.ensures.writes.placed _ one keeps (c.self.invariant.1 runs keeps) is)))
-
-pub returns-clause-stopped_only : goal.returns-clause-stopped_only
-returns-clause-stopped_only g c =
-    rw (← c.self.view_is) (λ says. stopped_only _ _ c.args.call (step_same _ _ c.args.call _ _ (sym c.into_parts-given.ensures.first ∙ says) c.in_ok-answered.ensures.turn))
+pub returns : goal.returns
+returns g c =
+    let ok = c.in_ok-answered.ensures in
+    let same = sym c.into_parts-given.ensures.first in
+    let step = step_same _ _ c.args.call _ _ same ok.turn in
+    record {
+      turn = record {
+        step = search rules;
+        turns = search rules;
+        number = search rules;
+        opening = search rules;
+        found = search rules;
+        worn = search rules;
+        err = search rules;
+        cause_err = search rules;
+        memory = search rules;
+        of_histories = rw (← c.self.view_is) (turn_of_histories _ _ c.args.call _ step);
+        any_moment = rw (← c.self.view_is) (λ keeps. always_by g.D.Disk.keeps g.D.Disk.view _ c.self.invariant.0 c.args.call c.answered.new.store.disk
+            (λ runs. ok.writes.any_moment _ keeps (c.self.invariant.1 runs keeps)) (λ is. ap (λ s. s.disk) (c.answered.ensures.stopped is).0) keeps);
+        before = rw (← c.self.view_is) (λ says keeps file left. before_left _ _ _ c.args.call _ file (same ∙ says) ok.turn (λ runs. ok.writes.left _ keeps (c.self.invariant.1 runs keeps) file left));
+        placed = rw (← c.self.view_is) (λ keeps. placed_same _ _ c.args.call _ _ _ _ same
+            (placed_then (is_stopped c.self.inside.store) _ _ c.args.call _ _ _ _ refl ok.turn (λ runs one is. ok.writes.placed _ one keeps (c.self.invariant.1 runs keeps) is)));
+        unmoved = search rules;
+        stopped_only = rw (← c.self.view_is) (λ says. stopped_only _ _ c.args.call (step_same _ _ c.args.call _ _ (same ∙ says) ok.turn));
+        stopped = search rules;
+        cause = search rules;
+        premise = search rules;
+      };
+    }

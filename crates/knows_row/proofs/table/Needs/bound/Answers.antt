@@ -27,7 +27,7 @@ returns-then-process-index c = λ k le knows.
     let pin : c.args.place.process < length (known accepted) = omega (arith, c.if-place-count.false, c.count.ensures) in
     let qin : c.args.process < length (known accepted) = omega (arith, c.requires, ap (λ (ss : List Report). length (known ss)) same) in
     let lasts = ap length c.self.invariant.0 ∙ lasts_len accepted in
-    unknown_at accepted (lawful accepted c.lawful.ensures.folded) c.args.place.process c.index-last.result.now c.index-then-process-index.result.now c.args.process c.args.place t.lasts.items t.unknown.items
+    unknown_at accepted (lawful accepted c.recall_lawful.ensures.folded) c.args.place.process c.index-last.result.now c.index-then-process-index.result.now c.args.process c.args.place t.lasts.items t.unknown.items
     pin qin c.self.invariant.0 c.self.invariant.1
     (c.index-last.ensures ∙ get_or_default t.lasts.items c.args.place.process c.index-last.result.now 0 (omega (arith, pin, lasts)))
     (c.if-is_at.ensures refl)

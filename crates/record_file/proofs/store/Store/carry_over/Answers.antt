@@ -17,8 +17,8 @@ pub returns-clause-any_moment : goal.returns-clause-any_moment
 returns-clause-any_moment g c = λ said keeps s.
     carry_any said _ _ _ (of_first _ said _ _ c.if-self-ne-FIRST_VERSION.false s) (c.write_durably.ensures.crash keeps)
 
-pub returns-clause-same : goal.returns-clause-same
-returns-clause-same g c = λ said keeps s.
+pub returns-clause-same_records : goal.returns-clause-same_records
+returns-clause-same_records g c = λ said keeps s.
     let good = sym c.is_err.ensures.value ∙ c.if-is_err.false in
     carry_rests said _ _ _ (of_first _ said _ _ c.if-self-ne-FIRST_VERSION.false s) (c.write_durably.ensures.crash keeps)
     (on_ok c.write_durably.result good (c.write_durably.ensures.written keeps)) (on_ok c.write_durably.result good (c.write_durably.ensures.durable keeps))

@@ -1,0 +1,315 @@
+//! A service over a record file.
+
+ghost use Rattle.std.specs.Thread.{IsSend, IsSync};
+ghost use Rattle.recline.specs.Serving.{IsService};
+
+use crate::files::open_file;
+use crate::reporting::{ReportedDisk, ReportedListener, Reporter, tell_whys};
+use crate::telling::{FAULT_LINE, Teller, Why};
+use client_link::{Link, Streams};
+use crossbeam_channel::{Receiver, Sender, bounded};
+use line_disk::{FileDisk, Modelled};
+use recline::{Service, ServiceRuntime, serve_on};
+use std::alloc::{AllocError, Global};
+use std::io::{self, BufWriter};
+use std::net::{Ipv4Addr, SocketAddr, SocketAddrV4, TcpListener};
+use std::thread::{scope, scope_env};
+
+/// The port of the machine itself that is listened on, or the status, where the cause is told.
+fn listener_on(teller: Teller<'_>, port: u16) -> Result<TcpListener, u8> {
+    let address = SocketAddr::V4(SocketAddrV4::new(Ipv4Addr::LOCALHOST, port));
+    match TcpListener::bind(teller.rt, address) {
+        Ok(listener) => Ok(listener),
+        Err(error) => {
+            let status = teller.fault("device");
+            teller.explain_port(port, &error);
+            Err(status)
+        }
+    }
+}
+
+/// What a service stands on: the disk of its record file, and the port that it listens on.
+type Base = (FileDisk<Modelled>, TcpListener);
+
+/// The disk over the record file of this path and the listener on this port, or the status, where the cause is told.
+fn base_of(teller: Teller<'_>, path: &str, port: u16) -> Result<Base, u8> {
+    let disk = open_file(teller, path)?;
+    let listener = listener_on(teller, port)?;
+    Ok((disk, listener))
+}
+
+/// Serves clients that connect to this port of the machine itself over the record file of this path, and answers the status and the output. The
+/// numbers are those of sessions, of workers, and of the seconds that a client may rest.
+pub(crate) fn serve_over_file<T: ServiceRuntime, O: Link + Drop, F: Link + Drop>(
+    teller: Teller<'_>,
+    threads: &T,
+    path: &str,
+    port: u16,
+    numbers: (u64, u64, Option<u64>),
+    output: O,
+    faults: F,
+) -> (u8, O) {
+    let (sessions, workers, idle) = numbers;
+    match Service::new(sessions, workers, idle) {
+        Some(service) => serve_at(teller, threads, path, port, service, output, faults),
+        // Numbers out of their limits are refused with the words.
+        None => (2, output),
+    }
+}
+
+/// The same by this service.
+fn serve_at<T: ServiceRuntime, O: Link + Drop, F: Link + Drop>(
+    teller: Teller<'_>,
+    threads: &T,
+    path: &str,
+    port: u16,
+    service: Service,
+    output: O,
+    faults: F,
+) -> (u8, O)
+    requires { IsService service }
+{
+    match base_of(teller, path, port) {
+        Ok(base) => serve_over_base(teller, threads, path, base, service, output, faults),
+        Err(status) => (status, output),
+    }
+}
+
+/// The same over this disk and this listener.
+fn serve_over_base<T: ServiceRuntime, O: Link + Drop, F: Link + Drop>(
+    teller: Teller<'_>,
+    threads: &T,
+    path: &str,
+    base: Base,
+    service: Service,
+    output: O,
+    faults: F,
+) -> (u8, O)
+    requires { IsService service }
+{
+    if teller.explains {
+        serve_with_reasons(teller, threads, path, base, service, output, faults)
+    } else {
+        serve_without_reasons(teller, threads, base, service, output, faults)
+    }
+}
+
+/// The same, and nobody says why one of these fails.
+fn serve_without_reasons<T: ServiceRuntime, O: Link + Drop, F: Link + Drop>(
+    teller: Teller<'_>,
+    threads: &T,
+    base: Base,
+    service: Service,
+    output: O,
+    faults: F,
+) -> (u8, O)
+    requires { IsService service }
+{
+    let (disk, listener) = base;
+    let disk = ReportedDisk::new(disk, None::<Reporter<T>>);
+    let listener = ReportedListener::new(listener, None::<Reporter<T>>);
+    serve(teller, threads, disk, listener, service, output, faults)
+}
+
+/// So many bytes a line that says why has at most beside the path.
+const ROOM_BESIDE_PATH: usize = 256;
+
+/// What a service that says why something fails has beside its disk and its listener.
+#[derive(Drop)]
+struct Explaining<T: ServiceRuntime> {
+    /// Hands over why the disk fails.
+    of_disk: Reporter<T>,
+    /// Hands over why the listener fails.
+    of_listener: Reporter<T>,
+    /// Where both come out.
+    told: Receiver<Why>,
+    /// Dropped when the service ends.
+    goes_on: Sender<()>,
+    /// Where that is seen.
+    going: Receiver<()>,
+    /// Room for a line that says why.
+    line: String,
+}
+
+/// A reporter of this channel, if there is memory for it.
+fn reporter<T: ServiceRuntime>(threads: &T, whys: Sender<Why>) -> Option<Reporter<T>> {
+    let handle: Result<T, AllocError> = threads.clone();
+    match handle {
+        Ok(handle) => Some(Reporter::new(handle, whys)),
+        Err(_) => None,
+    }
+}
+
+/// Two reporters of one channel, if there is memory for them.
+fn reporters<T: ServiceRuntime>(
+    threads: &T,
+    whys: Sender<Why>,
+) -> Option<(Reporter<T>, Reporter<T>)> {
+    let more: Result<Sender<Why>, AllocError> = whys.clone();
+    let of_disk = reporter(threads, whys)?;
+    let of_listener = reporter(threads, more.ok()?)?;
+    Some((of_disk, of_listener))
+}
+
+/// Two reporters and the other end of their channel, if there is memory for them.
+fn reporters_with_end<T: ServiceRuntime>(
+    alloc: Global,
+    threads: &T,
+) -> Option<(Reporter<T>, Reporter<T>, Receiver<Why>)> {
+    let (whys, told) = bounded::<Why, _>(alloc, 2).ok()?;
+    let (of_disk, of_listener) = reporters(threads, whys)?;
+    Some((of_disk, of_listener, told))
+}
+
+impl<T: ServiceRuntime> Explaining<T> {
+    /// All of it, with room for lines that name this path, if there is memory for it.
+    fn new(alloc: Global, threads: &T, path: &str) -> Option<Explaining<T>> {
+        let line = String::with_capacity(alloc, path.len().saturating_add(ROOM_BESIDE_PATH)).ok()?;
+        let (goes_on, going) = bounded::<(), _>(alloc, 1).ok()?;
+        let (of_disk, of_listener, told) = reporters_with_end(alloc, threads)?;
+        Some(Explaining {
+            of_disk,
+            of_listener,
+            told,
+            goes_on,
+            going,
+            line,
+        })
+    }
+}
+
+/// Serves clients over this disk and this listener, and says why one of these fails while it goes on, if a thread is available for that.
+fn serve_with_reasons<T: ServiceRuntime, O: Link + Drop, F: Link + Drop>(
+    teller: Teller<'_>,
+    threads: &T,
+    path: &str,
+    base: Base,
+    service: Service,
+    output: O,
+    faults: F,
+) -> (u8, O)
+    requires { IsService service }
+{
+    match Explaining::new(teller.rt.alloc(), threads, path) {
+        Some(explaining) => {
+            let parts = (base, explaining);
+            serve_explaining(teller, threads, path, parts, service, output, faults)
+        }
+        None => (teller.fault("memory"), output),
+    }
+}
+
+/// The same with what that needs.
+fn serve_explaining<T: ServiceRuntime, O: Link + Drop, F: Link + Drop>(
+    teller: Teller<'_>,
+    threads: &T,
+    path: &str,
+    parts: (Base, Explaining<T>),
+    service: Service,
+    output: O,
+    faults: F,
+) -> (u8, O)
+    requires { IsService service }
+{
+    let ((disk, listener), explaining) = parts;
+    let Explaining {
+        of_disk,
+        of_listener,
+        told,
+        goes_on,
+        going,
+        line,
+    } = explaining;
+    let errors = teller.rt.stderr();
+    let disk = ReportedDisk::new(disk, Some(of_disk));
+    let listener = ReportedListener::new(listener, Some(of_listener));
+    scope(
+        scope_env(),
+        threads,
+        move |scope| -> (u8, O)
+            requires { IsSync T.row × IsSend T.row × IsService service }
+        {
+            let teller_of_whys = scope.spawn(
+                move ||
+                    requires { IsSync T.row × IsSend T.row }
+                {
+                    let (mut line, mut errors) = (line, errors);
+                    tell_whys(threads, &told, &going, path, &mut line, &mut errors)
+                },
+            );
+            // It takes both reporters, so behind it nobody is left to hand anything over.
+            let ended = serve(teller, threads, disk, listener, service, output, faults);
+            drop(goes_on);
+            if let Ok(teller_of_whys) = teller_of_whys {
+                teller_of_whys.join(threads);
+            }
+            ended
+        },
+    )
+}
+
+/// Serves the clients of this listener over this disk.
+fn serve<T: ServiceRuntime, O: Link + Drop, F: Link + Drop>(
+    teller: Teller<'_>,
+    threads: &T,
+    disk: ReportedDisk<Modelled, T>,
+    listener: ReportedListener<T>,
+    service: Service,
+    output: O,
+    faults: F,
+) -> (u8, O)
+    requires { IsService service }
+{
+    let rt = teller.rt;
+    // Lines of clients that wait are told while others may be served, so they take a way of their own.
+    match BufWriter::with_capacity(rt.alloc(), FAULT_LINE, rt.stderr()) {
+        Ok(errors) => {
+            let ends = (output, faults, Streams::new(io::empty(), errors));
+            serve_between(threads, rt.alloc(), disk, listener, service, ends)
+        }
+        Err(_) => (teller.fault("memory"), output),
+    }
+}
+
+/// The same with these ends: the output, the faults, and the lines of clients that wait.
+fn serve_between<T: ServiceRuntime, O: Link + Drop, F: Link + Drop, W: Link + Send + Drop>(
+    threads: &T,
+    alloc: Global,
+    disk: ReportedDisk<Modelled, T>,
+    listener: ReportedListener<T>,
+    service: Service,
+    ends: (O, F, W),
+) -> (u8, O)
+    requires { IsService service }
+{
+    let (mut output, mut faults, warnings) = ends;
+    let (status, _disk) = serve_clients(
+        threads,
+        alloc,
+        disk,
+        &listener,
+        service,
+        &mut output,
+        &mut faults,
+        warnings,
+    );
+    (status, output)
+}
+
+/// The same by reference. It stands alone, since its clause is long.
+fn serve_clients<T: ServiceRuntime, O: Link, F: Link, W: Link + Send + Drop>(
+    threads: &T,
+    alloc: Global,
+    disk: ReportedDisk<Modelled, T>,
+    listener: &ReportedListener<T>,
+    service: Service,
+    output: &mut O,
+    faults: &mut F,
+    warnings: W,
+) -> (u8, ReportedDisk<Modelled, T>)
+    requires { IsService service }
+{
+    serve_on(
+        threads, alloc, listener, disk, service, output, faults, warnings,
+    )
+}

@@ -1,5 +1,5 @@
 /* Four processes over pipes, whose reports go to standard output: family | recline run. A message goes round them three times, and each takes a
- * checkpoint behind each receipt. Then b, c and d retire into a. */
+ * checkpoint after each receipt. Then b, c and d retire into a. */
 #include "process.h"
 #include <stdio.h>
 #include <stdlib.h>

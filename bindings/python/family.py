@@ -1,6 +1,6 @@
 #!/usr/bin/env python3
 """Four processes over pipes, whose reports go to standard output: family.py | recline run. A message goes round them three times, and each takes a
-checkpoint behind each receipt. Then b, c and d retire into a."""
+checkpoint after each receipt. Then b, c and d retire into a."""
 import os
 from typing import TextIO
 from recline import Process

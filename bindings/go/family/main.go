@@ -1,5 +1,5 @@
 // Four processes, goroutines over channels, whose reports go to standard output: family | recline run. A message goes round them three times,
-// and each takes a checkpoint behind each receipt. Then b, c and d retire into a.
+// and each takes a checkpoint after each receipt. Then b, c and d retire into a.
 package main
 
 import "fmt"

@@ -1,5 +1,5 @@
 //! Four processes, threads over channels, whose reports go to standard output: family | recline run. A message goes round them three times, and
-//! each takes a checkpoint behind each receipt. Then b, c and d retire into a.
+//! each takes a checkpoint after each receipt. Then b, c and d retire into a.
 use recline::Process;
 use std::sync::mpsc::{channel, Receiver, Sender};
 use std::{error::Error, thread};

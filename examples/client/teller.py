@@ -64,7 +64,8 @@ class Teller:
         self.send(len(self.state["sent"]))
 
     def collect(self) -> None:
-        """Takes the next message. One that it has already is passed over, and so is one of an older epoch."""
+        """Takes the next message. One that it has already is passed over, and so is one of an older epoch. The pipes are new after a settlement, and what is
+        sent again comes first, so the number of the last message is enough."""
         while True:
             line = self.source.readline()
             if not line:

@@ -60,6 +60,7 @@ complete -c recline -n '__recline_takes "serve" --port' -l port -x -d 'The port 
 complete -c recline -n '__recline_takes "serve" --sessions' -l sessions -x -d 'How many sessions to serve, 1 to 4096'
 complete -c recline -n '__recline_takes "serve" --workers' -l workers -x -d 'How many sessions to serve at once, 1 to 64'
 complete -c recline -n '__recline_takes "serve" --idle' -l idle -x -d 'After how many silent seconds a client is disconnected, 1 to 4294967295; without it never'
+complete -c recline -n '__recline_takes "serve" --until-input-ends' -l until-input-ends -d 'Also ends, in order, at the end of standard input, a pipe or a terminal'
 complete -c recline -n '__recline_takes "serve" --explain' -l explain -d 'Also prints on standard error why a file or a stream failed, in the system\'s words'
 complete -c recline -n '__recline_takes "serve" -h --help' -s h -l help -d 'Print help'
 complete -c recline -n '__recline_stands "serve" 0' -F

@@ -243,13 +243,14 @@ class Suite:
 
 
 class Service:
-    """A service over a record file, with so many sessions and workers, and so many descriptors and bytes of a file at most."""
+    """A service over a record file, with so many sessions and workers, and so many descriptors and bytes of a file at most. Its standard input
+    is at its end, if it is not given."""
 
     def __init__(
             self, recline: str, file: str, sessions: int, workers: int, *more: str, descriptors: int | None = None, most: int | None = None,
-            environment: dict[str, str] | None = None) -> None:
+            environment: dict[str, str] | None = None, stdin: int = subprocess.DEVNULL, script: str | None = None) -> None:
         self.file = file
-        words = [recline, "serve", file, "--port", "0", "--sessions", str(sessions), "--workers", str(workers), *more]
+        words = [*([script] if script else [recline, "serve"]), file, "--port", "0", "--sessions", str(sessions), "--workers", str(workers), *more]
 
         def limit() -> None:
             if descriptors is not None:
@@ -259,7 +260,7 @@ class Service:
                 resource.setrlimit(resource.RLIMIT_FSIZE, (most, most))
 
         self.process = subprocess.Popen(
-            words, stdin=subprocess.DEVNULL, stdout=subprocess.PIPE, stderr=subprocess.PIPE, env=environment,
+            words, stdin=stdin, stdout=subprocess.PIPE, stderr=subprocess.PIPE, env=environment,
             preexec_fn=None if descriptors is None and most is None else limit)
         try:
             begun = self.output().split()

@@ -6,6 +6,7 @@ use Rattle.client_link.specs.declared.request.Look.TheVariants.{Whole, Part, Oth
 use Rattle.std.specs.declared.io.buffered.BufWriter.{BufWriter}
 use Rattle.std.specs.declared.alloc.Global.{Global}
 use Rattle.client_link.specs.declared.screen.Screened.{Screened}
+use Rattle.client_link.specs.declared.line_by_line.Unread.{Unread}
 use Rattle.client_link.specs.declared.connection.Wire.{Wire}
 use Rattle.client_link.specs.declared.connection.Wire.TheVariants.{Open, Ended}
 
@@ -18,6 +19,15 @@ given_of Other held later = held ++ later
 -- the first bytes of a stream that were read and not given yet
 abbrev pub held_back : {S : Type 0} → Screened S → List ℕ
 held_back s = slice_range s.first s.given s.held
+
+-- the bytes that a stream will give, where those to its end are known, unless somebody may request that it ends before
+abbrev pub before_end : {A : Type 0} → Option A → Option (List ℕ) → Option (List ℕ)
+before_end None bytes = bytes
+before_end (Some request) bytes = None
+
+-- the bytes that were read line by line and not given yet
+abbrev pub not_given : Unread → List ℕ
+not_given unread = slice_range unread.bytes.items unread.given unread.read
 
 -- the bytes that a screened stream will give, where those of the stream are known
 abbrev pub screened : {S : Type 0} → (S → Option (List ℕ)) → Screened S → Option (List ℕ)

@@ -3,9 +3,13 @@
 ghost use Rattle.std.specs.Prelude.{◌≡◌, IfOk, None, []};
 ghost use Rattle.std.specs.Io.Buffered.{writer_contents, writer_buffer};
 
+use crate::end_request::EndRequest;
 use crate::half::Half;
+use crate::line_by_line::LineByLine;
 use crate::link::{Link, LinkFault};
+use crate::looks::look;
 use crate::patience::Patient;
+use crate::patient_writer::PatientWriter;
 use crate::screen::Screened;
 use std::alloc::{AllocError, Global};
 use std::io::{BufWriter, Read, Write};
@@ -50,29 +54,43 @@ impl<R: Drop, W: Write + Drop> Drop for Connection<R, W> {
 }
 
 /// The connection of a client. A client that rests longer than the limit, from one LF to the next, fails at its next read, as does
-/// one that takes nothing for so long at a write. Of a browser nothing is read.
-pub type ClientConnection<C> = Connection<Screened<Patient<Half, C>>, Half>;
+/// one that takes nothing for so long at a write. Of a browser nothing is read. Once the end is requested, no line is given any more.
+pub type ClientConnection<C> = Connection<Screened<LineByLine<Patient<Half, C>>>, PatientWriter>;
 
-impl<C: Clock + Drop> Connection<Screened<Patient<Half, C>>, Half> {
+/// One holder more of a request, if there is one.
+fn share_end(end: &Option<EndRequest>) -> Result<Option<EndRequest>, AllocError> {
+    match end {
+        Some(end) => Ok(Some(end.share()?)),
+        None => Ok(None),
+    }
+}
+
+impl<C: Clock + Drop> Connection<Screened<LineByLine<Patient<Half, C>>>, PatientWriter> {
     /// The connection over this stream. What is handed on is sent at once. The limit, if there is one, is not zero.
     pub fn of_client(
         alloc: Global,
         clock: C,
         stream: TcpStream,
         limit: Option<Duration>,
+        end: &Option<EndRequest>,
     ) -> Result<ClientConnection<C>, AllocError>
         ensures { IfOk result (λ link. ⟦<ClientConnection<C> as Link>⟧.told link ≡ record { left = None; held = None; waiting = []; reads = 0; failures = 0; stalls = 0; ended = None }) }
     {
         // A connection that is gone by now, whatever its options, is told by its reads and writes.
         let _sent_at_once = stream.set_nodelay(true);
-        let _limited = stream.set_write_timeout(limit);
+        let most = match end {
+            Some(_) => Some(look()),
+            None => limit,
+        };
+        let _limited = stream.set_write_timeout(most);
         let stream = Arc::new(alloc, stream)?;
-        let writer = Half(Arc::try_clone(&stream)?);
+        let writer = PatientWriter::new(Half(Arc::try_clone(&stream)?), limit, share_end(end)?);
         let Ok(output) = BufWriter::new(alloc, writer) else {
             return Err(AllocError);
         };
-        let input = Screened::new(Patient::new(clock, Half(stream), limit));
-        Ok(Connection::new(input, output))
+        let patient = Patient::new(clock, Half(stream), limit, share_end(end)?);
+        let lines = LineByLine::new(alloc, patient, share_end(end)?)?;
+        Ok(Connection::new(Screened::new(lines), output))
     }
 }
 

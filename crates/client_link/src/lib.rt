@@ -4,15 +4,20 @@
 #![tactic(auto)]
 
 mod connection;
+mod end_request;
 mod half;
+mod line_by_line;
 mod link;
+mod looks;
 mod memory_link;
 mod patience;
+mod patient_writer;
 mod request;
 mod screen;
 mod streams;
 
 pub use connection::{ClientConnection, Connection, HangUp};
+pub use end_request::EndRequest;
 pub use link::{Link, LinkFault, put, put_all};
 pub use memory_link::MemoryLink;
 pub use streams::Streams;

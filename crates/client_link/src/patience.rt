@@ -1,8 +1,13 @@
 //! A connection whose client may rest so long at most.
 
 ghost use Rattle.std.specs.Prelude.{◌≡◌};
+ghost use Rattle.std.specs.Io.{ReadsAtMost};
+ghost use Rattle.std.specs.Io.KnownBytes.{ReadConsumes};
+ghost use Rattle.client_link.specs.Connections.{before_end};
 
 use crate::connection::HangUp;
+use crate::end_request::EndRequest;
+use crate::looks::{is_time_up, look};
 use std::io::{self, ErrorKind, Read};
 use std::net::{OpenStream, Shutdown};
 use std::time::{Clock, Duration, Instant};
@@ -10,13 +15,16 @@ use std::time::{Clock, Duration, Instant};
 /// How many bytes are read away at most where a connection ends.
 const MOST_AWAY: usize = 1_048_576;
 
-/// A connection of which reads wait for a limited time in all, from one LF to the next. The time that passes between two reads
-/// does not count.
+/// A connection of which reads wait for a limited time in all, from one LF to the next, if there is a limit. The time that passes between two
+/// reads does not count. Once its end is requested, it is at its end.
 pub struct Patient<S, C> {
     clock: C,
     stream: S,
     limit: Option<Duration>,
     waited: Duration,
+    end: Option<EndRequest>,
+    /// Whether some bytes were read.
+    has_read: bool,
 }
 
 impl<S: Drop, C: Drop> Drop for Patient<S, C> {
@@ -26,13 +34,20 @@ impl<S: Drop, C: Drop> Drop for Patient<S, C> {
             stream: _,
             limit: _,
             waited: _,
+            end: _,
+            has_read: _,
         } = self;
     }
 }
 
 impl<S, C> Patient<S, C> {
     /// Nothing was waited for yet.
-    pub fn new(clock: C, stream: S, limit: Option<Duration>) -> Patient<S, C>
+    pub fn new(
+        clock: C,
+        stream: S,
+        limit: Option<Duration>,
+        end: Option<EndRequest>,
+    ) -> Patient<S, C>
         ensures { result.stream ≡ stream }
     {
         Patient {
@@ -40,6 +55,8 @@ impl<S, C> Patient<S, C> {
             stream,
             limit,
             waited: Duration::ZERO,
+            end,
+            has_read: false,
         }
     }
 }
@@ -52,25 +69,78 @@ fn time_left(limit: Duration, waited: Duration) -> io::Result<Duration> {
     }
 }
 
+impl<S: Read + OpenStream, C: Clock> Patient<S, C> {
+    /// Reads once, and waits for so long at most. What is waited counts, up to an LF.
+    fn read_within(&mut self, buf: &mut [u8], most: Duration) -> io::Result<usize>
+        ensures bound { ReadsAtMost result buf.new }
+        ensures bytes { ReadConsumes (S.remaining self.old.stream) (S.remaining self.new.stream) result buf.new }
+        ensures end { self.new.end ≡ self.old.end }
+    {
+        self.stream.set_read_timeout(Some(most))?;
+        let start = Instant::now(&self.clock)?;
+        let read = self.stream.read(buf);
+        // A clock that fails counts nothing, since bytes may have been read.
+        let more = start.elapsed(&self.clock).unwrap_or(Duration::ZERO);
+        self.waited = self.waited.saturating_add(more);
+        let n = read?;
+        if buf[..n].contains(&b'\n') {
+            self.waited = Duration::ZERO;
+        }
+        self.has_read |= n > 0;
+        Ok(n)
+    }
+
+    /// How long the next read may wait before the next look.
+    fn next_look(&self) -> io::Result<Duration> {
+        match self.limit {
+            Some(limit) => Ok(time_left(limit, self.waited)?.min(look())),
+            None => Ok(look()),
+        }
+    }
+
+    /// Whether the end is requested.
+    fn is_over(&self) -> bool {
+        match &self.end {
+            Some(end) => end.is_made(),
+            None => false,
+        }
+    }
+
+    /// Reads once, and looks as long as it waits whether the end is requested: then nothing is read any more.
+    fn read_until_end(&mut self, buf: &mut [u8]) -> io::Result<usize>
+        ensures bound { ReadsAtMost result buf.new }
+        ensures end { self.new.end ≡ self.old.end }
+    {
+        for _ in 0..u64::MAX {
+            if self.is_over() {
+                return Ok(0);
+            }
+            let most = self.next_look()?;
+            match self.read_within(buf, most) {
+                Ok(n) => return Ok(n),
+                Err(error) => if !is_time_up(&error) {
+                    return Err(error);
+                },
+            }
+        }
+        Err(io::Error::from(ErrorKind::TimedOut))
+    }
+}
+
 impl<S: Read + OpenStream, C: Clock> Read for Patient<S, C> {
-    ghost remaining = { λ s. S.remaining s.stream };
+    ghost remaining = { λ s. before_end s.end (S.remaining s.stream) };
 
     fn read(&mut self, buf: &mut [u8]) -> io::Result<usize> {
-        let Some(limit) = self.limit else {
-            return self.stream.read(buf);
-        };
-        let left = time_left(limit, self.waited)?;
-        self.stream.set_read_timeout(Some(left))?;
-        let start = Instant::now(&self.clock)?;
-        let n = self.stream.read(buf)?;
-        // Behind an LF the time begins anew. A clock that fails counts nothing, since the bytes were read.
-        self.waited = if buf[..n].contains(&b'\n') {
-            Duration::ZERO
-        } else {
-            let more = start.elapsed(&self.clock).unwrap_or(Duration::ZERO);
-            self.waited.saturating_add(more)
-        };
-        Ok(n)
+        if self.end.is_some() {
+            return self.read_until_end(buf);
+        }
+        match self.limit {
+            Some(limit) => {
+                let left = time_left(limit, self.waited)?;
+                self.read_within(buf, left)
+            }
+            None => self.stream.read(buf),
+        }
     }
 }
 
@@ -99,8 +169,12 @@ impl<S: Read + OpenStream + Drop, C: Clock + Drop> HangUp for Patient<S, C> {
             mut stream,
             limit: _,
             waited: _,
+            end,
+            has_read,
         } = self;
-        if stream.shutdown(Shutdown::Write).is_ok() {
+        // Where nothing was read, nothing was sent that could be lost, and many such clients may wait when a service ends.
+        let may_lose = has_read || end.is_none();
+        if stream.shutdown(Shutdown::Write).is_ok() && may_lose {
             // A client that is gone, or goes on, is left alone.
             let _rest = read_away(&clock, &mut stream);
         }

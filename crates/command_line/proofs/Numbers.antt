@@ -103,8 +103,8 @@ module _ (rows : List Row) where
   pub no_idle : (e : Error) → may_have_idle ≡ false → IsValueFault e → Fails e
   no_idle e none has = by_idle has_port has_sessions has_workers may_have_idle e none has
 
-  pub all_numbers : (file : Bor Text) (port sessions workers : ℕ) (idle : Option ℕ) → HasValues rows (commands.Serve file port sessions workers idle)
+  pub all_numbers : (file : Bor Text) (port sessions workers : ℕ) (idle : Option ℕ) (until_input_ends : Bool) → HasValues rows (commands.Serve file port sessions workers idle until_input_ends)
       → value_refusals (Some (codes "serve", rows)) ≡ []
-  all_numbers file port sessions workers idle has =
+  all_numbers file port sessions workers idle until_input_ends has =
       by_none has_port has_sessions has_workers may_have_idle (number_there 0 65535 port _ has.1) (number_there 1 4096 sessions _ has.2) (number_there 1 64 workers _ has.3)
       (may_there 1 4294967295 idle _ has.4)

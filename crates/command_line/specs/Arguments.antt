@@ -48,9 +48,9 @@ abbrev pub serve_wants : App
 serve_wants =
     command_with (codes "serve") (wanted_rule (codes "FILE") ∷ wanted_option (codes "port") ∷ wanted_option (codes "sessions") ∷ wanted_option (codes "workers") ∷ [])
 
--- and it may be given how long a client may be silent
+-- and it may be given how long a client may be silent, and a flag
 abbrev pub serve : App
-serve = with_rule serve_wants (option_rule (codes "idle"))
+serve = fold with_rule serve_wants (option_rule (codes "idle") ∷ flag_rule (codes "until-input-ends") ∷ [])
 
 -- the command `check`, which takes the paths of a record file and of a certificate, and may be given a front
 abbrev pub check : App
@@ -169,7 +169,7 @@ is_set value = option_map_or (λ text. bytes_eq text (codes "true")) value false
 -- the name of a command
 abbrev pub name_of : Command → Text
 name_of (commands.Run file) = codes "run"
-name_of (commands.Serve file port sessions workers idle) = codes "serve"
+name_of (commands.Serve file port sessions workers idle until_input_ends) = codes "serve"
 name_of (commands.Check file certificate at) = codes "check"
 name_of (commands.Line file failed at) = codes "line"
 name_of (commands.Garbage file at) = codes "garbage"
@@ -181,9 +181,10 @@ name_of (commands.Draw path comments records failed why at) = codes "draw"
 -- the rows have the values of the command
 abbrev pub HasValues : List Row → Command → Type 0
 HasValues rows (commands.Run file) = first_of (codes "FILE") rows ≡ option_map (λ s. s.now) file
-HasValues rows (commands.Serve file port sessions workers idle) =
+HasValues rows (commands.Serve file port sessions workers idle until_input_ends) =
     (first_of (codes "FILE") rows ≡ Some file.now) × IsNumber 0 65535 port (first_of (codes "port") rows) × IsNumber 1 4096 sessions (first_of (codes "sessions") rows)
     × IsNumber 1 64 workers (first_of (codes "workers") rows) × MayBeNumber 1 4294967295 idle (first_of (codes "idle") rows)
+    × (is_set (first_of (codes "until-input-ends") rows) ≡ until_input_ends)
 HasValues rows (commands.Check file certificate at) =
     (first_of (codes "FILE") rows ≡ Some file.now) × (first_of (codes "CERT") rows ≡ Some certificate.now) × IsFront rows at
 HasValues rows (commands.Line file failed at) =

@@ -20,13 +20,15 @@ pub enum Command<'a> {
         file: Option<&'a str>,
     },
     /// Serves clients over the record file of this path, on a port of the machine itself; 0 lets the system choose one. So many
-    /// sessions are served, 1 to 4,096, by 1 to 64 workers. A client that is silent for so many seconds is let go, if they are given.
+    /// sessions are served, 1 to 4,096, by 1 to 64 workers, or fewer where it is asked for that the end of standard input ends the service. A client
+    /// that is silent for so many seconds is let go, if they are given.
     Serve {
         file: &'a str,
         port: u16,
         sessions: u64,
         workers: u64,
         idle: Option<u64>,
+        until_input_ends: bool,
     },
     /// Checks the certificate of this path over the records of this path, or over so many of the first ones.
     Check {
@@ -291,7 +293,12 @@ fn serve_command<'a>(alloc: Global) -> Result<Program<'a>, AllocError>
         "SECONDS",
         "After how many silent seconds a client is disconnected, 1 to 4294967295; without it never",
     );
-    with_argument(serve_wanted(alloc), idle)
+    let until_input_ends = flag_argument(
+        alloc,
+        "until-input-ends",
+        "Also ends, in order, at the end of standard input, a pipe or a terminal",
+    );
+    with_argument(with_argument(serve_wanted(alloc), idle), until_input_ends)
 }
 
 /// The option that says how many of the first records count.
@@ -635,12 +642,14 @@ fn serve_asked<'a>(alloc: Global, serving: &ArgMatches<'a>) -> Result<Command<'a
     let Some(idle) = optional_number_in(serving, "idle", 1, 4_294_967_295) else {
         return Err(number_refused(alloc, "--idle takes a number from 1 to 4294967295"));
     };
+    let until_input_ends = flag_in(serving, "until-input-ends");
     Ok(Command::Serve {
         file,
         port: port as u16,
         sessions,
         workers,
         idle,
+        until_input_ends,
     })
 }
 

@@ -8,12 +8,18 @@ use Rattle.coordinator.specs.Closing.{IsEnded, IsRemainder}
 use Rattle.coordinator.specs.declared.fault.CloseFault.{CloseFault}
 use Rattle.client_link.specs.Links.{LinkState}
 use Rattle.recline.specs.Driving.{WritesAll, WritesPart}
-use Rattle.recline.specs.Serving.{AreServed, IsServed, IsStopped, PrintsSome, WritesPort, end_line, port_line}
+use Rattle.std.proofs.Math.Logic.{∥∥₁_elim}
+use Rattle.recline.specs.Serving.{AreEnough, AreServed, IsServed, IsStopped, PrintsSome, WritesPort, end_line, port_line}
 use Rattle.recline.specs.working.Serving.{EndsNot, EndsShort, EndsWith, PrintsPort, StopsBehind}
 use Rattle.recline.specs.declared.serving.Stop.{Stop}
 use Rattle.recline.specs.declared.serving.Stop.TheVariants as stops
 use Rattle.recline.proofs.Passes.{appends_then}
 use Rattle.recline.proofs.Reading.{fault_behind}
+
+-- where no source of clients ever says that the service is to end, all sessions are served
+pub all_served : {T : Type 0} (wanted served : ℕ) → AreEnough {T = T} (λ source. ⊥) wanted served → served ≡ wanted
+all_served wanted served (inl is) = is
+all_served wanted served (inr fewer) = absurd (∥∥₁_elim fewer.1 (λ a b. absurd a) (λ over. over.1))
 
 -- a part of a second text was written behind the first
 part_then : (old between new : LinkState) (x y : List ℕ) → WritesAll old between x → WritesPart between new y → WritesPart old new (x ++ y)

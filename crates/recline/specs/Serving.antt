@@ -174,3 +174,15 @@ abbrev pub ServesOn : {D K O F : Type 0} → (D → Type 0) → (D → View) →
 ServesOn keeps view failed client_told output_told faults_told sessions disk disk_after output output_after faults faults_after status =
     ServesOpened keeps view client_told output_told faults_told sessions disk disk_after output output_after faults faults_after status
     ⊎ IsNotOpened keeps view failed faults_told disk disk_after output output_after faults faults_after status
+
+-- ---- a service that is told to end
+
+-- So many sessions were served: all that were wanted, or fewer, where a source of clients says that the service is to end. The source is one
+-- that was asked: a value of the type of sources.
+abbrev pub AreEnough : {T : Type 0} → (T → Type 0) → ℕ → ℕ → Type 0
+AreEnough {T} is_over wanted served = (served ≡ wanted) ⊎ ((served < wanted) × ∥ ((source : T) × is_over source) ∥₁)
+
+-- the same for so many sessions as are enough
+abbrev pub ServesUntil : {T D K O F : Type 0} → (T → Type 0) → (D → Type 0) → (D → View) → (D → ℕ) → (K → LinkState) → (O → LinkState) → (F → LinkState) → ℕ → D → D → O → O → F → F → ℕ → Type 0
+ServesUntil is_over keeps view failed client_told output_told faults_told sessions disk disk_after output output_after faults faults_after status =
+    (served : ℕ) × AreEnough is_over sessions served × ServesOn keeps view failed client_told output_told faults_told served disk disk_after output output_after faults faults_after status

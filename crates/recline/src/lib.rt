@@ -6,6 +6,7 @@
 
 mod asking;
 mod checking;
+mod clients;
 mod commented;
 mod copied;
 mod drawing;
@@ -14,6 +15,7 @@ mod earlier;
 mod escaping;
 mod explaining;
 mod host;
+mod input_end;
 mod notices;
 mod running;
 mod serving;
@@ -23,6 +25,7 @@ mod watching;
 
 pub use asking::{Question, ask_on};
 pub use checking::check_on;
+pub use clients::ClientSource;
 pub use commented::ScriptForm;
 pub use copied::copy_of;
 pub use drawing::{draw_on, draw_records_on};
@@ -30,8 +33,9 @@ pub use driving::drive_on;
 pub use earlier::at_front;
 pub use explaining::explain_on;
 pub use host::ServiceRuntime;
+pub use input_end::UntilInputEnds;
 pub use notices::{MOST_LINES, MOST_PROCESSES, is_near};
 pub use running::{run_flushing, run_on, run_over};
-pub use serving::{Service, serve_on};
+pub use serving::{Service, serve_on, serve_until};
 pub use session::{FlushPolicy, Unwatched, Watch};
 pub use showing::{Form, show_front_on, show_on};

@@ -1,20 +1,21 @@
 //! The command `serve`.
 
-ghost use Rattle.std.specs.Prelude.{◌≡◌, ◌+◌, ◌++◌, ◌<◌, ◌≤◌, IfOk, IfErr, IfSome, IfNone, MatchResult, OnOk, [], None, length, map};
+ghost use Rattle.std.specs.Prelude.{◌≡◌, ◌+◌, ◌++◌, ◌<◌, ◌≤◌, IsTrue, ℕ, IfOk, IfErr, IfSome, IfNone, MatchResult, OnOk, [], None, length, map};
 ghost use Rattle.std.specs.List.{flat_map};
 ghost use Rattle.std.specs.Thread.{IsSend, IsSync};
 ghost use Rattle.recline.specs.working.Driving.{Writes};
-ghost use Rattle.recline.specs.Serving.{AreLimited, AreServed, IsService, IsServed, IsStopped, ServesOn, Stops, TellsDropped, dropped_in, drops, end_line, port_line, stop_line, stopped_by};
+ghost use Rattle.recline.specs.Serving.{AreEnough, AreLimited, AreServed, IsService, IsServed, IsStopped, ServesOn, ServesUntil, Stops, TellsDropped, dropped_in, drops, end_line, port_line, stop_line, stopped_by};
 ghost use Rattle.recline.specs.working.Serving.{EndsNot, EndsShort, EndsWith, PrintsPort, StopsBehind};
 ghost use Rattle.coordinator.specs.Closing.{IsEnded, IsRemainder};
 ghost use Rattle.coordinator.specs.Passes.{ledger_parts};
 
+use crate::clients::{ClientSource, Listened};
 use crate::host::ServiceRuntime;
 use crate::telling::{tell, tell_all, tell_unopened, write_pieces};
 use crate::watching::{Door, watch, watch_end};
 use client_link::{ClientConnection, Link, LinkFault};
 use coordinator::{CloseFault, Coordinator, Ended, Entry, OpenGate, Pass, Refused, Remainder};
-use crossbeam_channel::{Receiver, Sender, bounded};
+use crossbeam_channel::{Receiver, SendTimeoutError, Sender, bounded};
 use desk::Desk;
 use itoa::Buffer;
 use line_disk::Disk;
@@ -144,17 +145,27 @@ fn is_passing(error: &io::Error) -> bool {
     }
 }
 
-/// The next client. A connection that was aborted before it was accepted is skipped. If there is none to accept for a while, that is counted,
-/// and the system is asked again.
-fn next_client<T: OpenListener<Stream = TcpStream>, R: Wait + Clock>(
+/// A source of clients where the service is to end, and how many clients were taken by then.
+#[derive(Drop)]
+struct Over<T: ClientSource + Drop> {
+    source: T,
+    taken: u64,
+    ghost over: { ∥ T.is_over source ∥₁ },
+}
+
+/// The next client, if the service is not to end. A connection that was aborted before it was accepted is skipped. If there is none to accept for
+/// a while, that is counted, and the system is asked again.
+fn next_client<T: ClientSource, R: Wait + Clock>(
     rt: &R,
-    listener: &T,
+    source: &mut T,
     door: &Door,
-) -> Result<TcpStream, Stop> {
+) -> Result<Option<TcpStream>, Stop>
+    ensures { IfOk result (λ client. client ≡ None → T.is_over source.new) }
+{
     let mut is_closed = false;
     for _ in rt.forever() {
-        match listener.accept() {
-            Ok((stream, _)) => return Ok(stream),
+        match source.next_client() {
+            Ok(client) => return Ok(client),
             Err(error) => match error.kind() {
                 ErrorKind::ConnectionAborted | ErrorKind::Interrupted => {}
                 _ => {
@@ -173,38 +184,69 @@ fn next_client<T: OpenListener<Stream = TcpStream>, R: Wait + Clock>(
     Err(Stop::Device)
 }
 
-/// Takes clients, counts them, and hands them to the workers, until there were so many. Each client that is taken is a session.
-fn take_clients<T: OpenListener<Stream = TcpStream>, R: Wait + Clock + Clone + Drop>(
+/// Hands a client to the workers, as soon as there is room for it. Answers whether the service is to end, where there was none so far.
+fn hand_over<T: ClientSource, R: Wait + Clock + Clone + Drop>(
+    rt: &R,
+    source: &mut T,
+    links: &Sender<ClientConnection<R>>,
+    link: ClientConnection<R>,
+) -> Result<bool, Stop>
+    ensures { IfOk result (λ over. IsTrue over → T.is_over source.new) }
+{
+    let mut link = link;
+    for _ in rt.forever() {
+        match links.send_timeout(rt, link, Duration::from_millis(PAUSE)) {
+            Ok(()) => return Ok(false),
+            Err(SendTimeoutError::Timeout(back)) => {
+                if source.look() {
+                    return Ok(true);
+                }
+                link = back;
+            }
+            Err(SendTimeoutError::Disconnected(_) | SendTimeoutError::OutOfMemory(_)) => {
+                return Err(Stop::Memory);
+            }
+        }
+    }
+    Err(Stop::Memory)
+}
+
+/// Takes clients, counts them, and hands them to the workers, until there were so many, or the service is to end. Each client that is taken is a
+/// session.
+fn take_clients<T: ClientSource + Drop, R: Wait + Clock + Clone + Drop>(
     rt: &R,
     alloc: Global,
-    listener: &T,
+    source: T,
     service: Service,
     door: &Door,
     links: Sender<ClientConnection<R>>,
-) -> Result<(), Stop> {
+) -> Result<Option<Over<T>>, Stop> {
+    let mut source = source;
     let idle = match service.idle {
         Some(seconds) => Some(Duration::from_secs(seconds)),
         None => None,
     };
-    let mut left = service.sessions;
+    let mut taken = 0u64;
     for _ in rt.forever() {
-        if left == 0 {
-            return Ok(());
+        if taken >= service.sessions {
+            return Ok(None);
         }
-        let client = next_client(rt, listener, door)?;
+        let Some(client) = next_client(rt, &mut source, door)? else {
+            return Ok(Some(Over { source, taken }));
+        };
         let Ok(clock) = rt.clone() else {
             return Err(Stop::Memory);
         };
-        let Ok(link) = ClientConnection::of_client(alloc, clock, client, idle) else {
+        let Ok(link) = ClientConnection::of_client(alloc, clock, client, idle, source.end()) else {
             return Err(Stop::Memory);
         };
         door.taken.fetch_add(1, Ordering::SeqCst);
-        let Ok(()) = links.send(rt, link) else {
-            return Err(Stop::Memory);
-        };
-        left -= 1;
+        if hand_over(rt, &mut source, &links, link)? {
+            return Ok(Some(Over { source, taken }));
+        }
+        taken += 1;
     }
-    Ok(())
+    Ok(None)
 }
 
 /// What is left of a service that stops before its end.
@@ -226,35 +268,37 @@ fn unserved<D: Disk>(stop: Stop, desk: Desk<D>) -> Stopped<D>
     }
 }
 
-/// The passes of the sessions that there were, how many of their clients were dropped, why there were no more, if the service stops, and
-/// the link of notices, if its thread gave it back.
+/// The passes of the sessions that there were, how many of their clients were dropped, why there were no more, if the service stops or is to
+/// end, and the link of notices, if its thread gave it back.
 #[derive(Drop)]
-struct Sessions<L: Ledger, W: Link + Drop> {
+struct Sessions<L: Ledger, T: ClientSource + Drop, W: Link + Drop> {
     passes: Vec<Pass<L>>,
     dropped: u64,
     stop: Option<Stop>,
+    over: Option<Over<T>>,
     warnings: Option<W>,
 }
 
 /// Serves so many sessions over a coordinator by so many workers, while one more thread takes the clients, and another one prints what the
 /// operator has to know. If one of these two cannot be started, nobody is served. Answers for each worker its sessions, why there are no more, if
-/// the service stops, and the link of notices, if its thread gave it back.
+/// the service stops or is to end, and the link of notices, if its thread gave it back.
 fn serve_sessions<
     L: Ledger + Send + Sync,
     D: Disk + Send + Drop,
-    T: OpenListener<Stream = TcpStream> + Sync,
+    T: ClientSource + Send + Drop,
     W: Link + Send + Drop,
     R: ServiceRuntime,
 >(
     rt: &R,
     alloc: Global,
-    listener: &T,
+    source: T,
     coordinator: &Coordinator<L, D>,
     service: Service,
     warnings: W,
 ) -> (
     Vec<Vec<Served<L, D, ClientConnection<R>>>>,
     Option<Stop>,
+    Option<Over<T>>,
     Option<W>,
 )
     requires { IsService service }
@@ -263,11 +307,11 @@ fn serve_sessions<
         alloc,
         service.sessions.min(MOST_WAITING) as usize,
     ) else {
-        return (Vec::new(alloc), Some(Stop::Memory), Some(warnings));
+        return (Vec::new(alloc), Some(Stop::Memory), None, Some(warnings));
     };
     let watched: Result<Receiver<ClientConnection<R>>, AllocError> = clients.clone();
     let (Ok((goes_on, going)), Ok(watched)) = (bounded::<(), _>(alloc, 1), watched) else {
-        return (Vec::new(alloc), Some(Stop::Memory), Some(warnings));
+        return (Vec::new(alloc), Some(Stop::Memory), None, Some(warnings));
     };
     let n = service.workers as usize;
     let open = Door {
@@ -281,9 +325,10 @@ fn serve_sessions<
         move |scope| -> (
             Vec<Vec<Served<L, D, ClientConnection<R>>>>,
             Option<Stop>,
+            Option<Over<T>>,
             Option<W>,
         )
-            requires { IsSync R.row × IsSend L.row × IsSync L.row × IsSend R.row × IsSend D.row × IsSend W.row × (0 < n) × (n ≤ 64) }
+            requires { IsSync R.row × IsSend L.row × IsSync L.row × IsSend R.row × IsSend D.row × IsSend T.row × IsSend W.row × (0 < n) × (n ≤ 64) }
         {
             let watcher = scope.spawn(
                 move || -> W
@@ -303,24 +348,27 @@ fn serve_sessions<
                 },
             );
             let Ok(watcher) = watcher else {
-                return (Vec::new(alloc), Some(Stop::Memory), None);
+                return (Vec::new(alloc), Some(Stop::Memory), None, None);
             };
             let taker = scope.spawn(
-                move || -> Result<(), Stop>
-                    requires { IsSync R.row × IsSend R.row }
-                { take_clients(rt, alloc, listener, service, door, links) },
+                move || -> Result<Option<Over<T>>, Stop>
+                    requires { IsSync R.row × IsSend R.row × IsSend T.row }
+                { take_clients(rt, alloc, source, service, door, links) },
             );
             let Ok(taker) = taker else {
-                return (Vec::new(alloc), Some(Stop::Memory), None);
+                return (Vec::new(alloc), Some(Stop::Memory), None, None);
             };
             let served = workers(rt, alloc, coordinator, &OpenGate, n, clients);
             // After this no worker takes a client, and while another receiver is there the taker would wait for one.
             drop(goes_on);
             let warnings = Some(watcher.join(rt));
-            let taken = taker.join(rt);
+            let (over, stop) = match taker.join(rt) {
+                Ok(over) => (over, None),
+                Err(stop) => (None, Some(stop)),
+            };
             match served {
-                Ok(lists) => (lists, taken.err(), warnings),
-                Err(_) => (Vec::new(alloc), Some(Stop::Memory), warnings),
+                Ok(lists) => (lists, stop, over, warnings),
+                Err(_) => (Vec::new(alloc), Some(Stop::Memory), None, warnings),
             }
         },
     )
@@ -372,12 +420,13 @@ fn add_passes<L: Ledger, D: Disk, K: Link + Drop>(
 /// The passes of all sessions, one worker's after another, and how many clients were dropped. If memory is missing for them, the service
 /// stops, and later sessions are left out.
 #[tactic(auto, using(crate::proofs::Passes::none_served))]
-fn passes_of<L: Ledger, D: Disk, K: Link + Drop, W: Link + Drop>(
+fn passes_of<L: Ledger, D: Disk, K: Link + Drop, T: ClientSource + Drop, W: Link + Drop>(
     mut passes: Vec<Pass<L>>,
     lists: Vec<Vec<Served<L, D, K>>>,
     stop: Option<Stop>,
+    over: Option<Over<T>>,
     warnings: Option<W>,
-) -> Sessions<L, W>
+) -> Sessions<L, T, W>
     requires { passes.items ≡ [] }
     ensures served { AreServed D.keeps D.view K.told result.passes.items result.dropped }
     ensures passes { result.stop ≡ None → result.passes.items ≡ flat_map (λ l. map (λ s. s.pass) l.items) lists.items }
@@ -391,6 +440,7 @@ fn passes_of<L: Ledger, D: Disk, K: Link + Drop, W: Link + Drop>(
                 passes,
                 dropped,
                 stop: Some(Stop::Memory),
+                over,
                 warnings,
             };
         };
@@ -399,6 +449,7 @@ fn passes_of<L: Ledger, D: Disk, K: Link + Drop, W: Link + Drop>(
         passes,
         dropped,
         stop,
+        over,
         warnings,
     }
 }
@@ -408,21 +459,21 @@ fn passes_of<L: Ledger, D: Disk, K: Link + Drop, W: Link + Drop>(
 fn serve_clients<
     L: Ledger + Send + Sync,
     D: Disk + Send + Drop,
-    T: OpenListener<Stream = TcpStream> + Sync,
+    T: ClientSource + Send + Drop,
     O: Link,
     W: Link + Send + Drop,
     R: ServiceRuntime,
 >(
     rt: &R,
     alloc: Global,
-    listener: &T,
+    source: T,
     coordinator: &Coordinator<L, D>,
     passes: Vec<Pass<L>>,
     port: u16,
     service: Service,
     output: &mut O,
     warnings: W,
-) -> Sessions<L, W>
+) -> Sessions<L, T, W>
     requires service { IsService service }
     requires none { passes.items ≡ [] }
     ensures served { AreServed D.keeps D.view ⟦<ClientConnection<R> as Link>⟧.told result.passes.items result.dropped }
@@ -433,22 +484,39 @@ fn serve_clients<
             passes,
             dropped: 0,
             stop: Some(Stop::Device),
+            over: None,
             warnings: Some(warnings),
         };
     };
-    let (lists, stop, warnings) = serve_sessions(
+    let (lists, stop, over, warnings) = serve_sessions(
         rt,
         alloc,
-        listener,
+        source,
         coordinator,
         service,
         warnings,
     );
-    passes_of(passes, lists, stop, warnings)
+    passes_of(passes, lists, stop, over, warnings)
+}
+
+/// How many sessions there have to be: all that were wanted, or as many as clients were taken where the service is to end.
+fn sessions_due<L: Ledger, T: ClientSource + Drop, W: Link + Drop>(
+    sessions: &Sessions<L, T, W>,
+    wanted: u64,
+) -> u64
+    ensures { AreEnough T.is_over wanted result }
+{
+    match &sessions.over {
+        Some(over) if over.taken < wanted => over.taken,
+        _ => wanted,
+    }
 }
 
 /// Why the service stops behind its sessions, if it does. A worker without memory stops, and leaves clients unserved.
-fn stop_behind<L: Ledger, W: Link + Drop>(sessions: &Sessions<L, W>, wanted: u64) -> Option<Stop>
+fn stop_behind<L: Ledger, T: ClientSource + Drop, W: Link + Drop>(
+    sessions: &Sessions<L, T, W>,
+    wanted: u64,
+) -> Option<Stop>
     ensures { StopsBehind sessions.now.stop (length sessions.now.passes.items) wanted result }
 {
     if sessions.stop.is_none() && sessions.passes.len() as u64 != wanted {
@@ -567,14 +635,14 @@ fn end_service<D: Disk + Drop, O: Link>(
 fn serve_over<
     L: Ledger + Send + Sync,
     D: Disk + Send + Drop,
-    T: OpenListener<Stream = TcpStream> + Sync,
+    T: ClientSource + Send + Drop,
     O: Link,
     W: Link + Send + Drop,
     R: ServiceRuntime,
 >(
     rt: &R,
     alloc: Global,
-    listener: &T,
+    source: T,
     coordinator: Coordinator<L, D>,
     passes: Vec<Pass<L>>,
     port: u16,
@@ -584,13 +652,13 @@ fn serve_over<
 ) -> Result<(D, u64), Stopped<D>>
     requires service { IsService service }
     requires none { passes.items ≡ [] }
-    ensures ok { IfOk result (λ r. IsServed D.keeps D.view ⟦<ClientConnection<R> as Link>⟧.told coordinator service.sessions r.1 (O.told output.old) (O.told output.new) r.0) }
-    ensures err { IfErr result (λ s. IsStopped D.keeps D.view ⟦<ClientConnection<R> as Link>⟧.told coordinator service.sessions (O.told output.old) (O.told output.new) s.disk s.stop) }
+    ensures ok { IfOk result (λ r. (due : ℕ) × AreEnough T.is_over service.sessions due × IsServed D.keeps D.view ⟦<ClientConnection<R> as Link>⟧.told coordinator due r.1 (O.told output.old) (O.told output.new) r.0) }
+    ensures err { IfErr result (λ s. (due : ℕ) × AreEnough T.is_over service.sessions due × IsStopped D.keeps D.view ⟦<ClientConnection<R> as Link>⟧.told coordinator due (O.told output.old) (O.told output.new) s.disk s.stop) }
 {
     let sessions = serve_clients(
         rt,
         alloc,
-        listener,
+        source,
         &coordinator,
         passes,
         port,
@@ -598,7 +666,8 @@ fn serve_over<
         output,
         warnings,
     );
-    let stop = stop_behind(&sessions, service.sessions);
+    let due = sessions_due(&sessions, service.sessions);
+    let stop = stop_behind(&sessions, due);
     let dropped = sessions.dropped;
     let finished = finish_watched(rt, alloc, coordinator, sessions.passes, sessions.warnings);
     match end_service(finished, stop, output) {
@@ -611,7 +680,7 @@ fn serve_over<
 fn serve_desk<
     L: Ledger + Send + Sync,
     D: Disk + Send + Drop,
-    T: OpenListener<Stream = TcpStream> + Sync,
+    T: ClientSource + Send + Drop,
     O: Link,
     W: Link + Send + Drop,
     R: ServiceRuntime,
@@ -619,7 +688,7 @@ fn serve_desk<
     rt: &R,
     alloc: Global,
     blank: Blank,
-    listener: &T,
+    source: T,
     desk: Desk<D>,
     service: Service,
     output: &mut O,
@@ -629,13 +698,13 @@ fn serve_desk<
     requires parts { (blank.parts ≡ L.parts) × (blank.parts ≡ ledger_parts) }
     requires fresh { desk.turns ≡ [] }
     requires service { IsService service }
-    ensures ok { IfOk result (λ r. IsServed D.keeps D.view ⟦<ClientConnection<R> as Link>⟧.told desk.opening service.sessions r.1 (O.told output.old) (O.told output.new) r.0) }
-    ensures err { IfErr result (λ s. Stops D.keeps D.view ⟦<ClientConnection<R> as Link>⟧.told desk service.sessions (O.told output.old) (O.told output.new) s.disk s.stop) }
+    ensures ok { IfOk result (λ r. (due : ℕ) × AreEnough T.is_over service.sessions due × IsServed D.keeps D.view ⟦<ClientConnection<R> as Link>⟧.told desk.opening due r.1 (O.told output.old) (O.told output.new) r.0) }
+    ensures err { IfErr result (λ s. (due : ℕ) × AreEnough T.is_over service.sessions due × Stops D.keeps D.view ⟦<ClientConnection<R> as Link>⟧.told desk due (O.told output.old) (O.told output.new) s.disk s.stop) }
 {
     let Ok(passes) = Vec::with_capacity(alloc, service.sessions as usize) else {
         return Err(unserved(Stop::Memory, desk));
     };
-    let Ok(address) = listener.local_addr() else {
+    let Ok(address) = source.local_addr() else {
         return Err(unserved(Stop::Device, desk));
     };
     let workers = service.workers as usize;
@@ -643,7 +712,7 @@ fn serve_desk<
         Ok(coordinator) => serve_over(
             rt,
             alloc,
-            listener,
+            source,
             coordinator,
             passes,
             address.port(),
@@ -673,10 +742,54 @@ fn tell_dropped<F: Link>(faults: &mut F, dropped: u64)
     )
 }
 
-/// The command `serve`: opens the record file on a disk, tells the port of the listener, serves so many sessions over one desk by
-/// so many workers, of which each computes lines by as many threads at most, holds what the clients were shown against the turns,
+/// The command `serve` with its end by request: opens the record file on a disk, tells the port, serves so many sessions over one desk, or
+/// fewer where the source of clients says that the service is to end, by so many workers, of which each computes lines by as many threads at most, holds what the clients were shown against the turns,
 /// and tells how many reports were accepted, and how many clients were dropped for want of memory, if some were. What has come while it
 /// goes on, as that its sessions are used up, lines on a link of their own tell. Answers the status of the process, and the disk.
+pub fn serve_until<
+    D: Disk + Send + Drop,
+    T: ClientSource + Send + Drop,
+    O: Link,
+    F: Link,
+    W: Link + Send + Drop,
+    R: ServiceRuntime,
+>(
+    rt: &R,
+    alloc: Global,
+    source: T,
+    disk: D,
+    service: Service,
+    output: &mut O,
+    faults: &mut F,
+    warnings: W,
+) -> (u8, D)
+    requires { IsService service }
+    ensures { ServesUntil T.is_over D.keeps D.view D.failed ⟦<ClientConnection<R> as Link>⟧.told O.told F.told service.sessions disk result.1 output.old output.new faults.old faults.new result.0 }
+{
+    match Desk::open(alloc, disk) {
+        Ok(desk) => {
+            let blank = Blank::new(8193);
+            match serve_desk::<Brand, _, _, _, _, _>(
+                rt, alloc, blank, source, desk, service, output, warnings,
+            ) {
+                Ok((disk, dropped)) => {
+                    tell_dropped(faults, dropped);
+                    (0, disk)
+                }
+                Err(Stopped { stop, disk }) => {
+                    tell(faults, line_of(stop));
+                    (3, disk)
+                }
+            }
+        }
+        Err((fault, disk)) => {
+            tell_unopened(faults, fault);
+            (3, disk)
+        }
+    }
+}
+
+/// The command `serve`: the same for the clients of a listener, until all sessions were served.
 pub fn serve_on<
     D: Disk + Send + Drop,
     T: OpenListener<Stream = TcpStream> + Sync,
@@ -697,25 +810,6 @@ pub fn serve_on<
     requires { IsService service }
     ensures { ServesOn D.keeps D.view D.failed ⟦<ClientConnection<R> as Link>⟧.told O.told F.told service.sessions disk result.1 output.old output.new faults.old faults.new result.0 }
 {
-    match Desk::open(alloc, disk) {
-        Ok(desk) => {
-            let blank = Blank::new(8193);
-            match serve_desk::<Brand, _, _, _, _, _>(
-                rt, alloc, blank, listener, desk, service, output, warnings,
-            ) {
-                Ok((disk, dropped)) => {
-                    tell_dropped(faults, dropped);
-                    (0, disk)
-                }
-                Err(Stopped { stop, disk }) => {
-                    tell(faults, line_of(stop));
-                    (3, disk)
-                }
-            }
-        }
-        Err((fault, disk)) => {
-            tell_unopened(faults, fault);
-            (3, disk)
-        }
-    }
+    let source = Listened::new(listener);
+    serve_until(rt, alloc, source, disk, service, output, faults, warnings)
 }

@@ -20,7 +20,7 @@ use files::explain_damage;
 use hearing::Heard;
 use recline::{Form, Question, ServiceRuntime};
 use running::{explain_lines, run_over_file};
-use serving::serve_over_file;
+use serving::{Place, serve_over_file};
 use std::env;
 use std::io::{self, BufWriter, Read, Write};
 use std::process::ExitCode;
@@ -49,9 +49,14 @@ fn act<T: ServiceRuntime, K: Link + Drop, F: Link + Drop>(
             sessions,
             workers,
             idle,
+            until_input_ends,
         } => {
+            let place = Place {
+                port,
+                until_input_ends,
+            };
             let numbers = (sessions, workers, idle);
-            return serve_over_file(teller, threads, file, port, numbers, client, faults);
+            return serve_over_file(teller, threads, file, place, numbers, client, faults);
         }
         Command::Check { file, at, .. } => {
             check_over_file::<T, _, _>(teller, file, at, &mut client, &mut faults)

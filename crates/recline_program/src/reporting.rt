@@ -10,6 +10,7 @@ use line_disk::{Device, Disk, DiskFault, FileDisk};
 use std::alloc::Global;
 use std::io::{self, ErrorKind, Write};
 use std::net::{OpenListener, SocketAddr, TcpListener, TcpStream};
+use std::os::fd::{AsRawFd, RawFd};
 use std::sync::Wait;
 use std::sync::atomic::{AtomicBool, Ordering};
 use std::time::{Clock, Duration};
@@ -125,7 +126,7 @@ impl<T: Wait + Drop> ReportedListener<T> {
             return;
         };
         match error.kind() {
-            ErrorKind::ConnectionAborted | ErrorKind::Interrupted => {}
+            ErrorKind::ConnectionAborted | ErrorKind::Interrupted | ErrorKind::WouldBlock => {}
             _ => if !self.is_reported.swap(true, Ordering::SeqCst) {
                 reporter.report(Why::Client(*error))
             },
@@ -147,6 +148,16 @@ impl<T: Wait + Drop> OpenListener for ReportedListener<T> {
 
     fn local_addr(&self) -> io::Result<SocketAddr> {
         self.listener.local_addr()
+    }
+
+    fn set_nonblocking(&self, nonblocking: bool) -> io::Result<()> {
+        self.listener.set_nonblocking(nonblocking)
+    }
+}
+
+impl<T: Wait + Drop> AsRawFd for ReportedListener<T> {
+    fn as_raw_fd(&self) -> RawFd {
+        self.listener.as_raw_fd()
     }
 }
 

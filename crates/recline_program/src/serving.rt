@@ -9,7 +9,7 @@ use crate::telling::{FAULT_LINE, Teller, Why};
 use client_link::{Link, Streams};
 use crossbeam_channel::{Receiver, Sender, bounded};
 use line_disk::{FileDisk, Modelled};
-use recline::{Service, ServiceRuntime, serve_on};
+use recline::{ClientSource, Service, ServiceRuntime, UntilInputEnds, serve_on, serve_until};
 use std::alloc::{AllocError, Global};
 use std::io::{self, BufWriter};
 use std::net::{Ipv4Addr, SocketAddr, SocketAddrV4, TcpListener};
@@ -28,30 +28,37 @@ fn listener_on(teller: Teller<'_>, port: u16) -> Result<TcpListener, u8> {
     }
 }
 
-/// What a service stands on: the disk of its record file, and the port that it listens on.
-type Base = (FileDisk<Modelled>, TcpListener);
-
-/// The disk over the record file of this path and the listener on this port, or the status, where the cause is told.
-fn base_of(teller: Teller<'_>, path: &str, port: u16) -> Result<Base, u8> {
-    let disk = open_file(teller, path)?;
-    let listener = listener_on(teller, port)?;
-    Ok((disk, listener))
+/// Where a service listens, and whether the end of standard input ends it.
+#[derive(Clone, Copy)]
+pub(crate) struct Place {
+    pub(crate) port: u16,
+    pub(crate) until_input_ends: bool,
 }
 
-/// Serves clients that connect to this port of the machine itself over the record file of this path, and answers the status and the output. The
+/// What a service stands on: the disk of its record file, what it listens on, and whether the end of standard input ends it.
+type Base = (FileDisk<Modelled>, TcpListener, bool);
+
+/// The disk over the record file of this path and the listener at this place, or the status, where the cause is told.
+fn base_of(teller: Teller<'_>, path: &str, place: Place) -> Result<Base, u8> {
+    let disk = open_file(teller, path)?;
+    let listener = listener_on(teller, place.port)?;
+    Ok((disk, listener, place.until_input_ends))
+}
+
+/// Serves clients that connect to this place of the machine itself over the record file of this path, and answers the status and the output. The
 /// numbers are those of sessions, of workers, and of the seconds that a client may rest.
 pub(crate) fn serve_over_file<T: ServiceRuntime, O: Link + Drop, F: Link + Drop>(
     teller: Teller<'_>,
     threads: &T,
     path: &str,
-    port: u16,
+    place: Place,
     numbers: (u64, u64, Option<u64>),
     output: O,
     faults: F,
 ) -> (u8, O) {
     let (sessions, workers, idle) = numbers;
     match Service::new(sessions, workers, idle) {
-        Some(service) => serve_at(teller, threads, path, port, service, output, faults),
+        Some(service) => serve_at(teller, threads, path, place, service, output, faults),
         // Numbers out of their limits are refused with the words.
         None => (2, output),
     }
@@ -62,14 +69,14 @@ fn serve_at<T: ServiceRuntime, O: Link + Drop, F: Link + Drop>(
     teller: Teller<'_>,
     threads: &T,
     path: &str,
-    port: u16,
+    place: Place,
     service: Service,
     output: O,
     faults: F,
 ) -> (u8, O)
     requires { IsService service }
 {
-    match base_of(teller, path, port) {
+    match base_of(teller, path, place) {
         Ok(base) => serve_over_base(teller, threads, path, base, service, output, faults),
         Err(status) => (status, output),
     }
@@ -105,10 +112,14 @@ fn serve_without_reasons<T: ServiceRuntime, O: Link + Drop, F: Link + Drop>(
 ) -> (u8, O)
     requires { IsService service }
 {
-    let (disk, listener) = base;
+    let (disk, listener, until_input_ends) = base;
     let disk = ReportedDisk::new(disk, None::<Reporter<T>>);
     let listener = ReportedListener::new(listener, None::<Reporter<T>>);
-    serve(teller, threads, disk, listener, service, output, faults)
+    let clients = Clients {
+        listener,
+        until_input_ends,
+    };
+    serve(teller, threads, disk, clients, service, output, faults)
 }
 
 /// So many bytes a line that says why has at most beside the path.
@@ -211,7 +222,7 @@ fn serve_explaining<T: ServiceRuntime, O: Link + Drop, F: Link + Drop>(
 ) -> (u8, O)
     requires { IsService service }
 {
-    let ((disk, listener), explaining) = parts;
+    let ((disk, listener, until_input_ends), explaining) = parts;
     let Explaining {
         of_disk,
         of_listener,
@@ -222,7 +233,10 @@ fn serve_explaining<T: ServiceRuntime, O: Link + Drop, F: Link + Drop>(
     } = explaining;
     let errors = teller.rt.stderr();
     let disk = ReportedDisk::new(disk, Some(of_disk));
-    let listener = ReportedListener::new(listener, Some(of_listener));
+    let clients = Clients {
+        listener: ReportedListener::new(listener, Some(of_listener)),
+        until_input_ends,
+    };
     scope(
         scope_env(),
         threads,
@@ -238,7 +252,7 @@ fn serve_explaining<T: ServiceRuntime, O: Link + Drop, F: Link + Drop>(
                 },
             );
             // It takes both reporters, so behind it nobody is left to hand anything over.
-            let ended = serve(teller, threads, disk, listener, service, output, faults);
+            let ended = serve(teller, threads, disk, clients, service, output, faults);
             drop(goes_on);
             if let Ok(teller_of_whys) = teller_of_whys {
                 teller_of_whys.join(threads);
@@ -248,12 +262,19 @@ fn serve_explaining<T: ServiceRuntime, O: Link + Drop, F: Link + Drop>(
     )
 }
 
-/// Serves the clients of this listener over this disk.
+/// The clients of a listener, to the last session, or until standard input ends.
+#[derive(Drop)]
+struct Clients<T: ServiceRuntime> {
+    listener: ReportedListener<T>,
+    until_input_ends: bool,
+}
+
+/// Serves these clients over this disk.
 fn serve<T: ServiceRuntime, O: Link + Drop, F: Link + Drop>(
     teller: Teller<'_>,
     threads: &T,
     disk: ReportedDisk<Modelled, T>,
-    listener: ReportedListener<T>,
+    clients: Clients<T>,
     service: Service,
     output: O,
     faults: F,
@@ -262,17 +283,30 @@ fn serve<T: ServiceRuntime, O: Link + Drop, F: Link + Drop>(
 {
     let rt = teller.rt;
     // Lines of clients that wait are told while others may be served, so they take a way of their own.
-    match BufWriter::with_capacity(rt.alloc(), FAULT_LINE, rt.stderr()) {
-        Ok(errors) => {
-            let ends = (output, faults, Streams::new(io::empty(), errors));
-            serve_between(threads, rt.alloc(), disk, listener, service, ends)
+    let Ok(errors) = BufWriter::with_capacity(rt.alloc(), FAULT_LINE, rt.stderr()) else {
+        return (teller.fault("memory"), output);
+    };
+    let ends = (output, faults, Streams::new(io::empty(), errors));
+    let Clients {
+        listener,
+        until_input_ends,
+    } = clients;
+    if !until_input_ends {
+        return serve_all(threads, rt.alloc(), disk, listener, service, ends);
+    }
+    match UntilInputEnds::new(rt, rt.alloc(), listener, rt.stdin()) {
+        Ok(source) => serve_source(threads, rt.alloc(), disk, source, service, ends),
+        Err(error) => {
+            let (output, _faults, _warnings) = ends;
+            let status = teller.fault("device");
+            teller.explain_poller(&error);
+            (status, output)
         }
-        Err(_) => (teller.fault("memory"), output),
     }
 }
 
-/// The same with these ends: the output, the faults, and the lines of clients that wait.
-fn serve_between<T: ServiceRuntime, O: Link + Drop, F: Link + Drop, W: Link + Send + Drop>(
+/// Serves the clients of this listener to the last session. The ends are the output, the faults, and the lines of clients that wait.
+fn serve_all<T: ServiceRuntime, O: Link, F: Link + Drop, W: Link + Send + Drop>(
     threads: &T,
     alloc: Global,
     disk: ReportedDisk<Modelled, T>,
@@ -283,7 +317,7 @@ fn serve_between<T: ServiceRuntime, O: Link + Drop, F: Link + Drop, W: Link + Se
     requires { IsService service }
 {
     let (mut output, mut faults, warnings) = ends;
-    let (status, _disk) = serve_clients(
+    let status = serve_by_reference(
         threads,
         alloc,
         disk,
@@ -297,7 +331,7 @@ fn serve_between<T: ServiceRuntime, O: Link + Drop, F: Link + Drop, W: Link + Se
 }
 
 /// The same by reference. It stands alone, since its clause is long.
-fn serve_clients<T: ServiceRuntime, O: Link, F: Link, W: Link + Send + Drop>(
+fn serve_by_reference<T: ServiceRuntime, O: Link, F: Link, W: Link + Send + Drop>(
     threads: &T,
     alloc: Global,
     disk: ReportedDisk<Modelled, T>,
@@ -306,10 +340,67 @@ fn serve_clients<T: ServiceRuntime, O: Link, F: Link, W: Link + Send + Drop>(
     output: &mut O,
     faults: &mut F,
     warnings: W,
-) -> (u8, ReportedDisk<Modelled, T>)
+) -> u8
     requires { IsService service }
 {
-    serve_on(
+    let (status, _disk) = serve_on(
         threads, alloc, listener, disk, service, output, faults, warnings,
-    )
+    );
+    status
+}
+
+/// Serves the clients of this source until the service is to end.
+fn serve_source<
+    T: ServiceRuntime,
+    S: ClientSource + Send + Drop,
+    O: Link,
+    F: Link + Drop,
+    W: Link + Send + Drop,
+>(
+    threads: &T,
+    alloc: Global,
+    disk: ReportedDisk<Modelled, T>,
+    source: S,
+    service: Service,
+    ends: (O, F, W),
+) -> (u8, O)
+    requires { IsService service }
+{
+    let (mut output, mut faults, warnings) = ends;
+    let status = serve_source_by_reference(
+        threads,
+        alloc,
+        disk,
+        source,
+        service,
+        &mut output,
+        &mut faults,
+        warnings,
+    );
+    (status, output)
+}
+
+/// The same by reference.
+fn serve_source_by_reference<
+    T: ServiceRuntime,
+    S: ClientSource + Send + Drop,
+    O: Link,
+    F: Link,
+    W: Link + Send + Drop,
+>(
+    threads: &T,
+    alloc: Global,
+    disk: ReportedDisk<Modelled, T>,
+    source: S,
+    service: Service,
+    output: &mut O,
+    faults: &mut F,
+    warnings: W,
+) -> u8
+    requires { IsService service }
+{
+    let (status, _disk) = serve_until(
+        threads, alloc, source, disk, service, output, faults, warnings,
+    );
+    status
 }

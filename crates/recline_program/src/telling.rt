@@ -196,6 +196,15 @@ impl<'a> Teller<'a> {
         }
     }
 
+    /// Says why clients and the end of standard input cannot be waited for, where that is asked for.
+    pub(crate) fn explain_poller(self, error: &io::Error) {
+        if self.explains {
+            let _told = eprintln!(self.rt;
+                "recline: cannot wait for clients and for standard input: {error}"
+            );
+        }
+    }
+
     /// Says that there are so many of at most so many.
     pub(crate) fn tell_near(self, what: &str, number: u32, most: u32) {
         let _told = eprintln!(self.rt; "recline: {what} {number} of {most}");

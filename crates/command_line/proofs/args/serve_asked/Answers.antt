@@ -26,6 +26,6 @@ returns-in_default-optional_number_in c = (
 pub returns : goal.returns
 returns c =
     let rows = values_of c.args.serving.now in
-    let has : HasValues rows (commands.Serve c.wanted_in-file.result c.in-Some.port c.in-Some-number_in.sessions c.in-Some-number_in-2.workers c.in-Some-optional_number_in.idle) =
-    (c.wanted_in-file.ensures, c.in-Some.ensures.some, c.in-Some-number_in.ensures.some, c.in-Some-number_in-2.ensures.some, c.in-Some-optional_number_in.ensures.some) in
-    ((refl, has), all_numbers rows c.wanted_in-file.result c.in-Some.port c.in-Some-number_in.sessions c.in-Some-number_in-2.workers c.in-Some-optional_number_in.idle has)
+    let has : HasValues rows (commands.Serve c.wanted_in-file.result c.in-Some.port c.in-Some-number_in.sessions c.in-Some-number_in-2.workers c.in-Some-optional_number_in.idle c.flag_in-until_input_ends.result) =
+    (c.wanted_in-file.ensures, c.in-Some.ensures.some, c.in-Some-number_in.ensures.some, c.in-Some-number_in-2.ensures.some, c.in-Some-optional_number_in.ensures.some, c.flag_in-until_input_ends.ensures) in
+    ((refl, has), all_numbers rows c.wanted_in-file.result c.in-Some.port c.in-Some-number_in.sessions c.in-Some-number_in-2.workers c.in-Some-optional_number_in.idle c.flag_in-until_input_ends.result has)

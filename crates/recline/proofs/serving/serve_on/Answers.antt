@@ -1,22 +1,8 @@
-use Rattle.std.proofs.Common.{ℕ, List, inl, inr, refl, subst}
-use Rattle.recline.specs.Outcome.{Tells}
+-- `serve_on`: a listener never says that the service is to end.
+use Rattle.recline.proofs.Stopping.{all_served}
 use Rattle.recline.proofs.serving.serve_on.Goals as goal
 
-pub returns-in-Ok-serve_desk : goal.returns-in-Ok-serve_desk
-returns-in-Ok-serve_desk g c =
-    let opened = c.in-Ok.ensures in
-    inl (record {
-      desk = c.in-Ok.desk;
-      opened = record { records = opened.records; opened = opened.opened; any_moment = opened.any_moment; fresh = opened.fresh; premise = opened.premise };
-      serves = inl (record { dropped = c.in-Ok-serve_desk.dropped; served = c.in-Ok-serve_desk.ensures.ok; told = c.tell_dropped.ensures; status_is = refl });
-    })
-
-pub returns-in-Err-serve_desk : goal.returns-in-Err-serve_desk
-returns-in-Err-serve_desk g c =
-    let opened = c.in-Ok.ensures in
-    let told = subst (λ (l : List ℕ). Tells (g.F.Link.told c.args.faults.now) (g.F.Link.told c.tell.new.faults) l) c.line_of.ensures c.tell.ensures in
-    inl (record {
-      desk = c.in-Ok.desk;
-      opened = record { records = opened.records; opened = opened.opened; any_moment = opened.any_moment; fresh = opened.fresh; premise = opened.premise };
-      serves = inr (record { stop = c.in-Err-serve_desk.field-0.stop; stops_so = c.in-Err-serve_desk.ensures.err; faults_are = told; status_is = refl });
-    })
+pub returns : goal.returns
+returns g c =
+    let until = c.serve_until.ensures in
+    rw (all_served c.args.service.sessions until.0 until.1) at until.2

@@ -1,2 +1,3 @@
 pub mod Sent
 mod Screening
+mod Outgoing

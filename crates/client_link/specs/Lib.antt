@@ -2,3 +2,4 @@ pub mod Links
 pub mod Memory
 pub mod Requests
 pub mod Connections
+pub mod Outboxes

@@ -1,5 +1,5 @@
 -- What a link tells of itself, and what reads, writes, flushes and its end do to it.
-use Rattle.std.specs.Prelude.{◌≡◌, ◌⊎◌, ℕ, ◌+◌, ◌-◌, ◌^◌, ◌<◌, ◌==◌, ◌&&◌, not, min, max, if◌then◌else◌, List, [], ◌++◌, length, Option, None, Some, Result, Ok, Err, OnOk}
+use Rattle.std.specs.Prelude.{◌≡◌, ◌⊎◌, ℕ, ◌+◌, ◌-◌, ◌^◌, ◌<◌, ◌==◌, ◌&&◌, Bool, not, true, min, max, if◌then◌else◌, List, [], ◌++◌, length, Option, None, Some, Result, Ok, Err, OnOk}
 use Rattle.std.specs.Io.KnownBytes.{Appends, Keeps, ReadConsumes, WriteAppends}
 
 -- a count that went up by n, as far as 64 bits count
@@ -52,6 +52,37 @@ pub record IsWrite {E : Type 0} (old new : LinkState) (result : Result ℕ E) (b
 -- what was taken was handed on, and nothing more was taken; of a link that was ended it fails
 pub record IsFlush {E : Type 0} (old new : LinkState) (result : Result (Unit {0}) E) : Type 0 where
   pub handed : OnOk result (new.waiting ≡ [])
+  pub held : Keeps old.held new.held
+  pub failures : new.failures ≡ failures_after result old.failures
+  pub stalls : new.stalls ≡ old.stalls
+  pub left : new.left ≡ old.left
+  pub reads : new.reads ≡ old.reads
+  pub lasts : OnOk result (old.ended ≡ None)
+  pub ended : new.ended ≡ old.ended
+
+-- ---- calls that need not wait
+
+-- no call was counted, and what the link will give and what it took is as before
+pub record IsUntouched (old new : LinkState) : Type 0 where
+  pub left : Keeps old.left new.left
+  pub held : new.held ≡ old.held
+  pub waiting : new.waiting ≡ old.waiting
+  pub reads : new.reads ≡ old.reads
+  pub failures : new.failures ≡ old.failures
+  pub stalls : new.stalls ≡ old.stalls
+  pub ended : new.ended ≡ old.ended
+
+-- a read that need not wait: nothing was there, which is no read; or it is a read
+abbrev pub IsTriedRead : {E : Type 0} → LinkState → LinkState → Result (Option ℕ) E → List ℕ → Type 0
+IsTriedRead old new (Ok None) buf = IsUntouched old new
+IsTriedRead {E} old new (Ok (Some n)) buf = IsRead {E = E} old new (Ok n) buf
+IsTriedRead old new (Err e) buf = IsRead old new (Err e) buf
+
+-- A flush that need not wait: of what was taken as much was handed on, from the front, as went then, and where the answer is yes all of
+-- it; of a link that was ended it fails.
+pub record IsTriedFlush {E : Type 0} (old new : LinkState) (result : Result Bool E) : Type 0 where
+  pub handed : result ≡ Ok true → new.waiting ≡ []
+  pub rest : OnOk result ((sent : List ℕ) × (old.waiting ≡ sent ++ new.waiting))
   pub held : Keeps old.held new.held
   pub failures : new.failures ≡ failures_after result old.failures
   pub stalls : new.stalls ≡ old.stalls

@@ -2,10 +2,11 @@
 
 ghost use Rattle.std.specs.Prelude.{◌≡◌, ◌⊎◌, ◌↔◌, ◌<◌, ◌≤◌, [], Some, None, length, drop, IfOk, OnOk, OnErr, IsTrue};
 ghost use Rattle.std.specs.List.{flat_map};
-ghost use Rattle.client_link.specs.Links.{LinkState, IsRead, IsWrite, IsFlush, IsEnd};
+ghost use Rattle.client_link.specs.Links.{LinkState, IsRead, IsWrite, IsFlush, IsEnd, IsTriedRead, IsTriedFlush};
 ghost use Rattle.client_link.specs.Memory.{calls_of, failing_of, IsCall, IsOver, Fails};
 
 use crate::link::{Link, LinkFault};
+use crate::nonblocking::NonblockingLink;
 use std::alloc::{AllocError, Global};
 
 /// A link in memory. Each read gives bytes of one of the given pieces, what is written is kept, and one call may be planned to fail.
@@ -192,5 +193,17 @@ impl Link for MemoryLink {
 
     fn failures(&self) -> u64 {
         self.failures
+    }
+}
+
+impl NonblockingLink for MemoryLink {
+    fn try_read(&mut self, buf: &mut [u8]) -> Result<Option<usize>, LinkFault> {
+        let n = self.read(buf)?;
+        Ok(Some(n))
+    }
+
+    fn try_flush(&mut self) -> Result<bool, LinkFault> {
+        self.flush()?;
+        Ok(true)
     }
 }

@@ -743,9 +743,10 @@ fn tell_dropped<F: Link>(faults: &mut F, dropped: u64)
 }
 
 /// The command `serve` with its end by request: opens the record file on a disk, tells the port, serves so many sessions over one desk, or
-/// fewer where the source of clients says that the service is to end, by so many workers, of which each computes lines by as many threads at most, holds what the clients were shown against the turns,
-/// and tells how many reports were accepted, and how many clients were dropped for want of memory, if some were. What has come while it
-/// goes on, as that its sessions are used up, lines on a link of their own tell. Answers the status of the process, and the disk.
+/// fewer where the source of clients says that the service is to end, by so many workers, of which each computes lines by as many threads at
+/// most, holds what the clients were shown against the turns, and tells how many reports were accepted, and how many clients were dropped for
+/// want of memory, if some were. What has come while it goes on, as that its sessions are used up, lines on a link of their own tell. Answers
+/// the status of the process, and the disk.
 pub fn serve_until<
     D: Disk + Send + Drop,
     T: ClientSource + Send + Drop,

@@ -22,30 +22,30 @@ use Rattle.session.proofs.ServedTurns.{mean_then, mean_length, no_bye_then, bye_
 use Rattle.session.proofs.ServeSteps.{faults_then}
 use Rattle.session.proofs.Gone.{nothing_gone, gone_then, gone_counted}
 
-consumes_none : (a : Option (List ℕ)) → Consumes a a []
+pub consumes_none : (a : Option (List ℕ)) → Consumes a a []
 consumes_none None = tt
 consumes_none (Some xs) = refl
 
-consumes_then : (a b c : Option (List ℕ)) (x y : List ℕ) → Consumes a b x → Consumes b c y → Consumes a c (x ++ y)
+pub consumes_then : (a b c : Option (List ℕ)) (x y : List ℕ) → Consumes a b x → Consumes b c y → Consumes a c (x ++ y)
 consumes_then None b c x y p q = tt
 consumes_then (Some xs) None c x y p q = absurd p
 consumes_then (Some xs) (Some ys) None x y p q = absurd q
 consumes_then (Some xs) (Some ys) (Some zs) x y p q = p ∙ ap (λ (l : List ℕ). x ++ l) q ∙ sym (append_assoc x y zs)
 
-appends_held : (a b c : Option (List ℕ)) (x : List ℕ) → Appends a b x → Keeps b c → Appends a c x
+pub appends_held : (a b c : Option (List ℕ)) (x : List ℕ) → Appends a b x → Keeps b c → Appends a c x
 appends_held None b c x p k = tt
 appends_held (Some xs) None c x p k = absurd p
 appends_held (Some xs) (Some ys) None x p k = absurd k
 appends_held (Some xs) (Some ys) (Some zs) x p k = k ∙ p
 
-text_then : (es fs : List Exchange) → session_text es ++ session_text fs ≡ session_text (es ++ fs)
+pub text_then : (es fs : List Exchange) → session_text es ++ session_text fs ≡ session_text (es ++ fs)
 text_then es fs = sym (flat_map-append exchange_line es fs)
 
-joined_more : (pieces : List (List ℕ)) (piece : List ℕ) → joined pieces ++ piece ≡ joined (pieces ++ piece ∷ [])
+pub joined_more : (pieces : List (List ℕ)) (piece : List ℕ) → joined pieces ++ piece ≡ joined (pieces ++ piece ∷ [])
 joined_more pieces piece =
     ap (λ (l : List ℕ). joined pieces ++ l) (sym (append-nil piece)) ∙ sym (flat_map-append (λ (p : List ℕ). p) pieces (piece ∷ []))
 
-length_more : (pieces : List (List ℕ)) (piece : List ℕ) → length (pieces ++ piece ∷ []) ≡ length pieces + 1
+pub length_more : (pieces : List (List ℕ)) (piece : List ℕ) → length (pieces ++ piece ∷ []) ≡ length pieces + 1
 length_more pieces piece = omega (arith, length-append pieces (piece ∷ []))
 
 abbrev Cut : Type 0
@@ -58,7 +58,7 @@ cut_more pieces piece stand e =
 
 -- ---- no reading ahead
 
-widened : {K : Type 0} (told : K → LinkState) (link : K) (n : ℕ) (earlier : List ℕ) (turned more : List Exchange) → IsReadAt told link n earlier turned → IsReadAt told link n earlier (turned ++ more)
+pub widened : {K : Type 0} (told : K → LinkState) (link : K) (n : ℕ) (earlier : List ℕ) (turned more : List Exchange) → IsReadAt told link n earlier turned → IsReadAt told link n earlier (turned ++ more)
 widened told link n earlier turned more r =
     record {
       reading = r.reading;
@@ -74,7 +74,7 @@ widened told link n earlier turned more r =
       is_open = r.is_open;
     }
 
-prompt_then : {K : Type 0} (told : K → LinkState) (link : K) (pieces : List (List ℕ)) (piece : List ℕ) (turned more : List Exchange) → IsPrompt told link pieces turned
+pub prompt_then : {K : Type 0} (told : K → LinkState) (link : K) (pieces : List (List ℕ)) (piece : List ℕ) (turned more : List Exchange) → IsPrompt told link pieces turned
     → IsReadAt told link (length pieces) (joined pieces) (turned ++ more) → IsPrompt told link (pieces ++ piece ∷ []) (turned ++ more)
 prompt_then {K} told link pieces piece turned more before here =
     let P : ℕ → Type 0 = λ (n : ℕ). IsReadAt told link n (joined (take n (pieces ++ piece ∷ []))) (turned ++ more) in
@@ -131,10 +131,10 @@ read_at makes grounds laws told when link now reading stand state mid reads coun
       is_open = subst (λ (x : Stand). IsSome x) (sym s.stands) s.is_open;
     }
 
-reads_more : (first now reading next n : ℕ) → now ≡ up n first → reading ≡ now → next ≡ up 1 reading → next ≡ up (n + 1) first
+pub reads_more : (first now reading next n : ℕ) → now ≡ up n first → reading ≡ now → next ≡ up 1 reading → next ≡ up (n + 1) first
 reads_more first now reading next n a b c = omega arith
 
-all_more : (pieces : List (List ℕ)) (piece : List ℕ) → AreNonEmptyReads pieces → 0 < length piece → AreNonEmptyReads (pieces ++ piece ∷ [])
+pub all_more : (pieces : List (List ℕ)) (piece : List ℕ) → AreNonEmptyReads pieces → 0 < length piece → AreNonEmptyReads (pieces ++ piece ∷ [])
 all_more [] piece gave some = (some, tt)
 all_more (p ∷ ps) piece gave some = (gave.0, all_more ps piece gave.1 some)
 

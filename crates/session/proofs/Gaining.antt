@@ -25,14 +25,14 @@ use Rattle.client_link.specs.Links.{LinkState, IsEnd, Puts}
 use Rattle.session.specs.SessionText.{Means, joined, at_pass, IsForeign}
 use Rattle.session.specs.Ends.{Leaves}
 use Rattle.session.specs.Gained.{exchange_of, GainsEach, Gains, LinkServed}
-use Rattle.session.specs.working.Parts.{AreLawful, PutsLast, refused_as, one_reply, Serves, Ran}
+use Rattle.session.specs.working.Parts.{AreLawful, PutsLast, WritesNothing, refused_as, one_reply, Serves, Ran}
 use Rattle.session.proofs.ServeSteps.{said_on, said_bye, said_part, unmade, worn_out, foreign}
 
 abbrev Exchanges : Type 0
 Exchanges = List Exchange
 
 module _ {D : Type 0} (keeps : D → Type 0) (view : D → View) where
-  gains_then : (old mid new : PassState) (es fs : Exchanges) → GainsEach keeps view old es mid → GainsEach keeps view mid fs new → GainsEach keeps view old (es ++ fs) new
+  pub gains_then : (old mid new : PassState) (es fs : Exchanges) → GainsEach keeps view old es mid → GainsEach keeps view mid fs new → GainsEach keeps view old (es ++ fs) new
   gains_then old mid new [] fs s t = subst (λ (p : PassState). GainsEach keeps view p fs new) s t
   gains_then old mid new (e ∷ es) fs s t = (s.0, s.1, gains_then s.0 mid new es fs s.2 t)
 
@@ -68,6 +68,12 @@ module _ {D : Type 0} (keeps : D → Type 0) (view : D → View) where
   none_made s line pass after (refused.Foreign front seen turns last) same why = foreign (GainsEach keeps view) at_pass (pass_lawful keeps view) s line pass after same (is_foreign pass front seen turns last why)
   none_made s line pass after refused.Worn same why = worn_out (GainsEach keeps view) at_pass (pass_lawful keeps view) s line pass after same tt
   none_made s line pass after refused.Memory same why = unmade (GainsEach keeps view) at_pass (pass_lawful keeps view) s line pass after same (λ none. cc)
+
+-- nothing was written then
+pub untouched : {K : Type 0} (fault : CallFault) (link : K) → WritesNothing (Some (refused_as fault)) link link
+untouched (refused.Foreign front seen turns last) link = refl
+untouched refused.Worn link = refl
+untouched refused.Memory link = refl
 
 -- ---- one line
 
@@ -110,7 +116,7 @@ module _ {D : Type 0} (keeps : D → Type 0) (view : D → View) where
   -- ---- a session
 
   -- what the pass gained in all
-  each_gained : (old new : PassState) (es : Exchanges) → GainsEach keeps view old es new → Gains keeps view old es new
+  pub each_gained : (old new : PassState) (es : Exchanges) → GainsEach keeps view old es new → Gains keeps view old es new
   each_gained old new [] s = record { each = s; entries = []; gained = ap (λ (p : PassState). p.entries) s ∙ sym (append-nil old.entries); exchanges_are = refl; number = ap (λ (p : PassState). p.number) s }
   each_gained old new (e ∷ es) s =
       let answered = s.1.0 in
@@ -122,6 +128,10 @@ module _ {D : Type 0} (keeps : D → Type 0) (view : D → View) where
         exchanges_are = ap (λ (x : Exchange). x ∷ es) s.1.1 ∙ ap (λ (l : Exchanges). exchange_of answered.entry ∷ l) rest.exchanges_are;
         number = rest.number ∙ answered.one.number;
       }
+
+  -- more in two parts
+  pub gained_then : (old mid new : PassState) (es fs : Exchanges) → Gains keeps view old es mid → Gains keeps view mid fs new → Gains keeps view old (es ++ fs) new
+  gained_then old mid new es fs p q = each_gained old new (es ++ fs) (gains_then keeps view old mid new es fs p.each q.each)
 
   -- what ran over a pass
   pub link_served : {K : Type 0} (told : K → LinkState) (link final now : K) (pass after : PassState) (kind : SessionEndKind) (count : ℕ) → Ran (GainsEach keeps view) at_pass told flush_policies.EachReply link final pass after kind count → Leaves kind (told link) (told final) → IsEnd (told final) (told now)

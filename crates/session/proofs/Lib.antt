@@ -5,6 +5,8 @@ mod ServedTurns
 mod Gone
 mod ServeSteps
 mod Steps
+mod FirstLines
+mod Resting
 mod Ending
 mod OverDesk
 mod Gaining

@@ -5,7 +5,7 @@ use Rattle.std.proofs.lemmas.List.Concat.{flat_map-append}
 use Rattle.session.specs.Exchanges.{Exchange}
 use Rattle.session.specs.declared.kind.SessionEndKind.{SessionEndKind}
 use Rattle.session.specs.declared.kind.SessionEndKind.TheVariants as kinds
-use Rattle.session.specs.SessionText.{Mean, NoBye, LastSaysBye, StartsWithQuestion, ServedOver, at_desk, at_pass, IsUnmade, exchange_line, session_text, IsCutInReply}
+use Rattle.session.specs.SessionText.{Mean, NoBye, LastSaysBye, StartsWithQuestion, ServedOver, at_desk, at_pass, at_passes, IsUnmade, exchange_line, session_text, IsCutInReply}
 use Rattle.session.specs.working.Parts.{AreLawful, IsSaid, HowFar}
 
 abbrev Lines : Type 0
@@ -82,6 +82,7 @@ some_then (l ∷ ls) more some e = cc
 pub unmade_more : (grounds : ServedOver) (later more : Lines) (es : Exchanges) → IsUnmade grounds later es → IsUnmade grounds (later ++ more) es
 unmade_more (at_desk made) later more es u = (question_then later more u.0, u.1)
 unmade_more (at_pass pass) later more es u = some_then later more u
+unmade_more at_passes later more es u = some_then later more u
 
 -- where some lines were all answered, and the next ones as far as this, so were both; more lines follow only where it ends
 pub far_then : {S : Type 0} (makes : S → Exchanges → S → Type 0) (grounds : S → ServedOver) (laws : AreLawful makes grounds) (end : Option SessionEndKind) (s mid : S) (later more : Lines) (es fs : Exchanges) (text line : List ℕ) (m n : ℕ) → makes s es mid → NoBye es

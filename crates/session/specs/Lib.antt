@@ -10,4 +10,5 @@ pub mod Openings
 pub mod TwoOpenings
 pub mod Gained
 pub mod Sessions
+pub mod Lasting
 pub mod working

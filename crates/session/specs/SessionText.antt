@@ -40,10 +40,12 @@ pub record LastSaysBye (exchanges : List Exchange) : Type 0 where
   pub none_before : NoBye before
   pub bye : SaysBye last
 
--- Over what the calls of a session take their turns: a desk that made so many turns before, or a pass as it was before.
+-- Over what the calls of a session take their turns: a desk that made so many turns before, a pass as it was before, or passes of one
+-- coordinator after the other, each of them new.
 pub data ServedOver : Type 0 where
   at_desk : ℕ → ServedOver
   at_pass : PassState → ServedOver
+  at_passes : ServedOver
 
 -- the question that at a desk may for want of memory get no turn: that for a state
 abbrev pub IsQuestion : Call → Type 0
@@ -59,19 +61,23 @@ pub record StartsWithQuestion (lines : List (List ℕ)) : Type 0 where
   pub means : Means line call
   pub question : IsQuestion call
 
--- all turns that a desk makes were made, some of them before the session; who has a pass does not know how many others made
+-- All turns that a desk makes were made, some of them before the session; who has a pass does not know how many others made. Where the
+-- turns of one coordinator are made another one follows.
 abbrev pub IsWorn : ServedOver → List Exchange → Type 0
 IsWorn (at_desk made) turned = made + length turned ≡ turn_limit
 IsWorn (at_pass pass) turned = ⊤
+IsWorn at_passes turned = ⊥
 
 -- for want of memory the first of these later lines may get no turn: at a desk only that question, where a turn is left
 abbrev pub IsUnmade : ServedOver → List (List ℕ) → List Exchange → Type 0
 IsUnmade (at_desk made) later turned = StartsWithQuestion later × ¬ IsWorn (at_desk made) turned
 IsUnmade (at_pass pass) later turned = later ≢ []
+IsUnmade at_passes later turned = later ≢ []
 
--- the pass has seen a turn or a front, which another coordinator may not have
+-- the pass has seen a turn or a front, which another coordinator may not have; each coordinator gives a pass of its own
 abbrev pub IsForeign : ServedOver → List Exchange → Type 0
 IsForeign (at_desk made) turned = ⊥
+IsForeign at_passes turned = ⊥
 IsForeign (at_pass pass) turned = (turned ≢ []) ⊎ ((0 < pass.front) ⊎ (pass.entries ≢ []))
 
 -- ---- the text

@@ -8,7 +8,7 @@ ghost use Rattle.coordinator.specs.PassTurn.{IsPassTurn};
 ghost use Rattle.desk.specs.Files.{IsShort};
 ghost use Rattle.desk.specs.Records.{IsReadOff};
 ghost use Rattle.session.specs.Gained.{GainsEach, LinkServed};
-ghost use Rattle.session.specs.working.Parts.{Serves, PutsLast, refused_as, one_reply};
+ghost use Rattle.session.specs.working.Parts.{Serves, PutsLast, WritesNothing, refused_as, one_reply};
 ghost use Rattle.session.specs.SessionText.{at_pass};
 
 use crate::flush_policy::FlushPolicy;
@@ -72,7 +72,7 @@ fn put_shown<L: Ledger, K: Link>(pass: &Pass<L>, link: &mut K) -> Result<(), Lin
 }
 
 /// One line: its turn is made, and then its reply is written. Answers why the session ends, if it does.
-fn serve_by_pass<R: Threads + Wait + Sync, L: Ledger, D: Disk, G: Gate, K: Link>(
+pub(crate) fn serve_by_pass<R: Threads + Wait + Sync, L: Ledger, D: Disk, G: Gate, K: Link>(
     rt: &R,
     coordinator: &Coordinator<L, D>,
     gate: &G,
@@ -81,7 +81,8 @@ fn serve_by_pass<R: Threads + Wait + Sync, L: Ledger, D: Disk, G: Gate, K: Link>
     line: &[u8],
 ) -> Option<SessionEndKind>
     requires { IsLine line.now }
-    ensures { Serves (GainsEach D.keeps D.view) at_pass (K.told link.old) (K.told link.new) (line.now ∷ []) pass.old pass.new result (one_reply result) }
+    ensures served { Serves (GainsEach D.keeps D.view) at_pass (K.told link.old) (K.told link.new) (line.now ∷ []) pass.old pass.new result (one_reply result) }
+    ensures untouched { WritesNothing result link.old link.new }
 {
     let read = read_line(coordinator.alloc(), line);
     let last = is_bye(&read);

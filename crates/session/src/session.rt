@@ -16,7 +16,7 @@ use report_line::Feed;
 const MOST_READS: u64 = 1_048_576;
 
 /// The ending line of a session that ends so, if it has one.
-fn line_of_end(kind: SessionEndKind) -> &'static [u8]
+pub(crate) fn line_of_end(kind: SessionEndKind) -> &'static [u8]
     ensures { result.now ≡ ending_line kind }
 {
     match kind {

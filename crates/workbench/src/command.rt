@@ -16,6 +16,8 @@ pub enum Command<'a> {
     Gate { workers: NonZeroU32, place: Place },
     /// Three sessions by two workers, whose clients send and get so many bytes at a time.
     Workers(NonZeroU32),
+    /// A session in steps, whose client sends and gets so many bytes at a time, over coordinators that each make so many steps.
+    Lasting { most: NonZeroU32, count: NonZeroU32 },
     /// A table of needs by so many threads, of which two may wait for each other.
     Table { workers: NonZeroU32, place: Place },
     /// A session over a coordinator of the record file of this path.
@@ -57,6 +59,10 @@ fn tool_by_two<'a>(tool: &str, one: &'a str, other: &'a str) -> Option<Command<'
         "gate" => Some(Command::Gate {
             workers: count_of(one)?,
             place: place_of(other)?,
+        }),
+        "lasting" => Some(Command::Lasting {
+            most: count_of(one)?,
+            count: count_of(other)?,
         }),
         "table" => Some(Command::Table {
             workers: count_of(one)?,

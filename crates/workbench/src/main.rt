@@ -19,7 +19,7 @@ use std::thread::Threads;
 /// Which words there are.
 const USAGE: &str =
     "usage: workbench calls | served FILE | shared FILE | openings FILE | failing CALL EFFECT | world | passes COUNT |
-                 gate THREADS PLACE | workers BYTES | table THREADS PLACE
+                 gate THREADS PLACE | workers BYTES | lasting BYTES STEPS | table THREADS PLACE
 
 calls     answers each line of standard input, a call of the libraries, by a line
 served    serves the client of standard input and output over a coordinator of the record file FILE; tells on standard error how the
@@ -38,6 +38,9 @@ gate      serves three clients, whose texts on standard input are parted by empt
 workers   serves three clients, whose texts on standard input are parted by empty lines, by two workers, the last two at once: their first
           reads wait for each other. Each read and each write takes BYTES bytes at most. Writes what each got, that of the last two in
           the order of these texts, how many of them waited in vain, and how the coordinator ended
+lasting   serves the client whose text is on standard input by a session in steps, over one coordinator after the other, each of which is
+          closed behind STEPS steps. Each read and each write takes BYTES bytes at most, and none at first. Writes what the client got, and
+          how many coordinators there were
 table     makes the table of needs of the reports on standard input by THREADS threads, with a gate as above, and writes it, a line
           for each element";
 
@@ -54,6 +57,7 @@ fn run<T: Threads + Wait + Sync>(
             rt, threads, workers, place,
         ),
         Command::Workers(most) => gates::workers::answer_all(rt, threads, most),
+        Command::Lasting { most, count } => gates::lasting::answer_all(rt, threads, most, count),
         Command::Table { workers, place } => gates::tables::answer_all(rt, threads, workers, place),
         Command::Served(path) => again::served::serve_one(rt, threads, path),
         Command::Shared(path) => again::shared::answer_all(rt, threads, path),

@@ -114,6 +114,13 @@ one_reply None = 1
 one_reply (Some kinds.Bye) = 1
 one_reply _ = 0
 
+-- where a line got no turn nothing was written
+abbrev pub WritesNothing : {K : Type 0} → Option SessionEndKind → K → K → Type 0
+WritesNothing (Some kinds.Worn) old new = new ≡ old
+WritesNothing (Some kinds.Foreign) old new = new ≡ old
+WritesNothing (Some kinds.Memory) old new = new ≡ old
+WritesNothing _ old new = ⊤
+
 -- why a session ends behind a hand-on, where it ended so before it
 abbrev pub end_after : {E : Type 0} → Result (Unit {0}) E → Option SessionEndKind → Option SessionEndKind
 end_after (Ok _) end = end

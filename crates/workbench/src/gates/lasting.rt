@@ -64,11 +64,12 @@ impl Write for Got {
     }
 }
 
-// A client, its session, and room for what is read.
+// A client, its session and what that rests at, and room for what is read.
 #[derive(Drop)]
 struct Client<'t> {
     link: NonblockingStreams<Sent<'t>, Got>,
     session: LastingSession,
+    rest: Rest,
     buf: [u8; 8192],
 }
 
@@ -88,6 +89,7 @@ fn client_of(alloc: Global, text: &[u8], most: usize) -> Client<'_> {
     Client {
         session: LastingSession::new(alloc, &link),
         link,
+        rest: Rest::Receive,
         buf: [0u8; 8192],
     }
 }
@@ -97,6 +99,7 @@ fn text_of(client: Client<'_>) -> Vec<u8> {
     let Client {
         link,
         session: _,
+        rest: _,
         buf: _,
     } = client;
     let (_rest, got) = link.into_inner();
@@ -114,9 +117,8 @@ fn step<L: Ledger, R: Threads + Wait + Sync>(
     coordinator: &Coordinator<L, MemoryDisk>,
     pass: &mut Pass<L>,
     client: &mut Client<'_>,
-    rest: Rest,
 ) -> Rest {
-    match rest {
+    match client.rest {
         Rest::Due => client
             .session
             .answer(rt, coordinator, pass, &OpenGate, &mut client.link),
@@ -134,10 +136,9 @@ fn steps<L: Ledger, R: Threads + Wait + Sync>(
     client: &mut Client<'_>,
     count: u32,
 ) -> bool {
-    let mut rest = Rest::Receive;
     for _ in 0..count {
-        rest = step(rt, coordinator, pass, client, rest);
-        if let Rest::Over(_) = rest {
+        client.rest = step(rt, coordinator, pass, client);
+        if let Rest::Over(_) = client.rest {
             return true;
         }
     }

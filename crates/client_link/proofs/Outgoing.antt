@@ -1,7 +1,7 @@
 -- What was written moves from what waits to what the writer has.
-use Rattle.std.proofs.Common.{◌≡◌, ℕ, ◌+◌, List, ◌++◌, take, drop, Option, Some, None, sym, ap, ◌∙◌, append_assoc}
+use Rattle.std.proofs.Common.{◌≡◌, ℕ, ◌+◌, List, [], ◌++◌, take, drop, Option, Some, None, refl, sym, ap, ◌∙◌, append_assoc}
 use Rattle.std.specs.Io.KnownBytes.{Appends, Keeps, append_known}
-use Rattle.std.proofs.lemmas.List.{take-append-drop, drop-drop}
+use Rattle.std.proofs.lemmas.List.{append-nil, take-append-drop, drop-drop}
 
 -- so many bytes were written
 pub sent_on : (a b : Option (List ℕ)) (bytes : List ℕ) (k n : ℕ) → Appends a b (take n (drop k bytes)) → Keeps (append_known a (drop k bytes)) (append_known b (drop (k + n) bytes))
@@ -10,6 +10,11 @@ sent_on (Some xs) None bytes k n w = absurd w
 sent_on (Some xs) (Some ys) bytes k n w =
     let rest : drop (k + n) bytes ≡ drop n (drop k bytes) = sym (drop-drop n k bytes) in
     ap (λ (l : List ℕ). l ++ drop (k + n) bytes) w ∙ append_assoc xs (take n (drop k bytes)) (drop (k + n) bytes) ∙ ap (λ (l : List ℕ). xs ++ (take n (drop k bytes) ++ l)) rest ∙ ap (λ (l : List ℕ). xs ++ l) (take-append-drop n (drop k bytes))
+
+-- nothing waits
+pub none_waits : (a : Option (List ℕ)) → append_known a [] ≡ a
+none_waits None = refl
+none_waits (Some xs) = ap Some (append-nil xs)
 
 -- none were
 pub unsent_kept : (a b : Option (List ℕ)) (bytes : List ℕ) → Keeps a b → Keeps (append_known a bytes) (append_known b bytes)

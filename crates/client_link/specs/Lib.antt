@@ -3,3 +3,4 @@ pub mod Memory
 pub mod Requests
 pub mod Connections
 pub mod Outboxes
+pub mod Departures

@@ -5,8 +5,10 @@ ghost use Rattle.std.specs.List.{flat_map};
 ghost use Rattle.client_link.specs.Links.{LinkState, IsRead, IsWrite, IsFlush, IsEnd, IsTriedRead, IsTriedFlush};
 ghost use Rattle.client_link.specs.Memory.{calls_of, failing_of, IsCall, IsOver, Fails};
 
+use crate::leaving::Leaving;
 use crate::link::{Link, LinkFault};
 use crate::nonblocking::NonblockingLink;
+use crate::service_link::ServiceLink;
 use std::alloc::{AllocError, Global};
 
 /// A link in memory. Each read gives bytes of one of the given pieces, what is written is kept, and one call may be planned to fail.
@@ -205,5 +207,11 @@ impl NonblockingLink for MemoryLink {
     fn try_flush(&mut self) -> Result<bool, LinkFault> {
         self.flush()?;
         Ok(true)
+    }
+}
+
+impl ServiceLink for MemoryLink {
+    fn let_go(self) -> Option<Leaving> {
+        None
     }
 }

@@ -56,10 +56,7 @@ fn read_uninterrupted<R: Read>(input: &mut R, buf: &mut [u8]) -> io::Result<usiz
 impl<R: Read, W: Write> NonblockingStreams<R, W> {
     /// No call was counted yet, and nothing waits.
     pub fn new(alloc: Global, input: R, output: W) -> NonblockingStreams<R, W>
-        ensures left { (⟦<NonblockingStreams<R, W> as Link>⟧.told result).left ≡ R.remaining input }
-        ensures held { Keeps (W.contents output) (⟦<NonblockingStreams<R, W> as Link>⟧.told result).held }
-        ensures waiting { (⟦<NonblockingStreams<R, W> as Link>⟧.told result).waiting ≡ [] }
-        ensures ended { (⟦<NonblockingStreams<R, W> as Link>⟧.told result).ended ≡ None }
+        ensures { ⟦<NonblockingStreams<R, W> as Link>⟧.told result ≡ record { left = R.remaining input; held = W.contents output; waiting = []; reads = 0; failures = 0; stalls = 0; ended = None } }
     {
         NonblockingStreams {
             input,

@@ -38,9 +38,10 @@ impl<W: Write> Outbox<W> {
     ghost use Rattle.client_link.specs.Outboxes.{unsent, taken};
 
     /// Nothing waits. It takes no memory.
+    #[tactic(auto, using(crate::proofs::Outgoing::none_waits))]
     pub(crate) fn new(alloc: Global, writer: W) -> Outbox<W>
         ensures unsent { unsent result ≡ [] }
-        ensures taken { Keeps (W.contents writer) (taken W.contents result) }
+        ensures taken { taken W.contents result ≡ W.contents writer }
     {
         Outbox {
             alloc,

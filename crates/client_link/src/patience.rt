@@ -13,7 +13,7 @@ use std::net::{OpenStream, Shutdown};
 use std::time::{Clock, Duration, Instant};
 
 /// How many bytes are read away at most where a connection ends.
-const MOST_AWAY: usize = 1_048_576;
+pub(crate) const MOST_AWAY: usize = 1_048_576;
 
 /// A connection of which reads wait for a limited time in all, from one LF to the next, if there is a limit. The time that passes between two
 /// reads does not count. Once its end is requested, it is at its end.

@@ -1,6 +1,6 @@
 -- Steps of a session that lasts.
 use Rattle.std.proofs.Common.{◌≡◌, ◌≢◌, ℕ, zero, suc, Bool, ◌+◌, ◌≤◌, ◌<◌, List, [], ◌∷◌, ◌++◌, length, take, drop, Option, Some, None, Result, Ok, Err, true, false, refl, sym, ap, subst, ◌∙◌, append_assoc, append-nil, arith, inl, inr}
-use Rattle.std.specs.Prelude.{IsSome, IsNone}
+use Rattle.std.specs.Prelude.{IsSome, IsNone, IfSome}
 use Rattle.std.specs.List.{flat_map, AllByRecursion}
 use Rattle.std.specs.Io.KnownBytes.{Appends, Consumes, Keeps}
 use Rattle.std.proofs.lemmas.List.{length-append, take-append-le, take_all}
@@ -843,6 +843,13 @@ begins told link unanswered none rests =
     }
 
 -- ---- one pass after the other
+
+-- a reply was written, and others come first, or the step goes on
+pub due_or_on : {D K : Type 0} (keeps : D → Type 0) (view : D → View) (told : K → LinkState) (begun now : K) (state : LastingState) (turned : Exchanges) (old new : PassState) (rest : Option Rest) → IfSome rest (λ r. r ≡ rests.Due)
+    → IsAnsweredOn keeps view told begun now state turned old new None → IsAnsweredOn keeps view told begun now state turned old new rest
+due_or_on keeps view told begun now state turned old new None due a = a
+due_or_on keeps view told begun now state turned old new (Some rest) due a =
+    record { more = a.more; goes = subst (λ (r : Rest). ComesTo r told begun now state (turned ++ a.more)) (sym due) a.goes; gains = a.gains }
 
 pub another_pass : {D : Type 0} (keeps : D → Type 0) (view : D → View) (passes : List PassState) (turned : Exchanges) (pass : PassState) → AreOfPasses keeps view passes turned → IsNewPass pass → AreOfPasses keeps view (pass ∷ passes) turned
 another_pass keeps view passes turned pass are new =

@@ -1,7 +1,7 @@
 //! A session in steps: it rests between any two lines, and goes on over the same coordinator or another one.
 
 ghost use denote.Param.Send.{IsSync};
-ghost use Rattle.std.specs.Prelude.{◌≡◌, ◌∷◌, ◌++◌, [], ℕ, List, None};
+ghost use Rattle.std.specs.Prelude.{◌≡◌, ◌∷◌, ◌++◌, [], ℕ, List, None, IfSome};
 ghost use Rattle.report_line.specs.Cutting.{cut_of};
 ghost use Rattle.session.specs.Exchanges.{Exchange};
 ghost use Rattle.coordinator.specs.Passes.{PassState, IsNewPass};
@@ -19,6 +19,7 @@ use crate::unanswered::Unanswered;
 use client_link::{Link, NonblockingLink, put};
 use coordinator::{Coordinator, Gate, Pass};
 use line_disk::Disk;
+use report_line::Reply;
 use std::alloc::Global;
 use std::marker::Model;
 use std::sync::Wait;
@@ -153,6 +154,16 @@ fn no_line<K: Link>(unanswered: &Unanswered, stage: &mut Stage, link: &mut K) ->
     Rest::Receive
 }
 
+/// Whether others come first: behind a line that was computed, which took a while.
+fn due_behind<L: Ledger>(pass: &Pass<L>) -> Option<Rest>
+    ensures { IfSome result (λ rest. rest ≡ Rest.Due) }
+{
+    match pass.shown() {
+        Some(Reply::Line(_)) => Some(Rest::Due),
+        _ => None,
+    }
+}
+
 /// Answers the first line, where all was handed on. Answers what the session rests at, unless it goes on.
 fn answer_line<R: Threads + Wait + Sync, L: Ledger, D: Disk, G: Gate, K: Link>(
     rt: &R,
@@ -174,7 +185,7 @@ fn answer_line<R: Threads + Wait + Sync, L: Ledger, D: Disk, G: Gate, K: Link>(
         None => {
             unanswered.drop_front(length);
             *stage = Stage::Replying;
-            None
+            due_behind(pass)
         }
         Some(SessionEndKind::Bye) => {
             *stage = Stage::Ending(SessionEndKind::Bye);
@@ -232,7 +243,8 @@ impl LastingSession {
         rest
     }
 
-    /// Answers up to 64 lines that are there, each once the reply to the one before was handed on. It does not wait for the client. A line of
+    /// Answers up to 64 lines that are there, each once the reply to the one before was handed on; none behind a question whose line was
+    /// computed. It does not wait for the client. A line of
     /// which the coordinator makes no turn, because all were made or the pass is not of it, stays there, and another coordinator can answer it.
     pub fn answer<R: Threads + Wait + Sync, L: Ledger, D: Disk, G: Gate, K: NonblockingLink>(
         &mut self,

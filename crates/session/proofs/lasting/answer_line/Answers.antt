@@ -1,6 +1,6 @@
 use Rattle.std.proofs.Common.{◌∙◌, refl}
 use Rattle.session.specs.working.Resting.{standing}
-use Rattle.session.proofs.Resting.{replied, replied_bye, reply_cut, no_memory, none_there, line_dropped}
+use Rattle.session.proofs.Resting.{due_or_on, replied, replied_bye, reply_cut, no_memory, none_there, line_dropped}
 use Rattle.session.proofs.lasting.answer_line.Goals as goal
 
 pub returns-in_default : goal.returns-in_default
@@ -9,7 +9,8 @@ returns-in_default g c = λ begun turned r. none_there g.D.Disk.keeps g.D.Disk.v
 pub returns-in-None : goal.returns-in-None
 returns-in-None g c = λ begun turned r.
     rw (c.drop_front.ensures ∙ line_dropped c.args.unanswered.now c.in-Some.line.now c.in-Some.ensures.1.0 _ refl c.in-Some.ensures.1.1)
-    (replied g.D.Disk.keeps g.D.Disk.view g.K.Link.told begun _ _ c.args.unanswered.now c.in-Some.line.now c.in-Some.ensures.1.0 turned _ _ c.in-Some.ensures.0 c.in-Some.ensures.1.1 (rw c.requires at r) c.in-None.ensures.served)
+    (due_or_on g.D.Disk.keeps g.D.Disk.view g.K.Link.told begun _ _ turned _ _ c.due_behind.result c.due_behind.ensures
+    (replied g.D.Disk.keeps g.D.Disk.view g.K.Link.told begun _ _ c.args.unanswered.now c.in-Some.line.now c.in-Some.ensures.1.0 turned _ _ c.in-Some.ensures.0 c.in-Some.ensures.1.1 (rw c.requires at r) c.in-None.ensures.served))
 
 pub returns-in-Some-Bye : goal.returns-in-Some-Bye
 returns-in-Some-Bye g c = λ begun turned r.

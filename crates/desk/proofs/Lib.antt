@@ -18,3 +18,4 @@ pub mod Turned
 pub mod Spelled
 pub mod Short
 pub mod LawfulTurns
+pub mod NewList

@@ -8,7 +8,7 @@ use Rattle.desk.specs.Records.{recorded}
 pub record DeskState (D : Type 0) : Type 0 where
   -- the accepted list with its epochs, the front, the present epoch, and whether the store is stopped
   pub held : Held
-  -- what was held when it was opened
+  -- what was held when it was opened or renewed
   pub opening : Held
   -- what the records said then
   pub found : List Said

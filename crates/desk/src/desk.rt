@@ -1,6 +1,6 @@
 //! The desk.
 
-ghost use Rattle.std.specs.Prelude.{◌≡◌, ◌↔◌, ◌≤◌, [], ℕ, List, false, IfOk, IfErr, IfSome, MatchResult, vec_capacity};
+ghost use Rattle.std.specs.Prelude.{◌≡◌, ◌⊎◌, ◌↔◌, ◌≤◌, [], ℕ, List, true, false, IfOk, IfErr, IfSome, MatchResult, vec_capacity};
 ghost use Rattle.line_disk.specs.Disk.{Leaves};
 ghost use Rattle.record_file.specs.File.{Stands};
 ghost use Rattle.record_file.specs.Kept.{said_in};
@@ -14,6 +14,7 @@ ghost use Rattle.desk.specs.Openings.{RefusesRecords};
 use crate::answering::answered;
 use crate::fault::DeskFault;
 use crate::opening::admit_records;
+use crate::renewing::take_in;
 use crate::turn::{Receipt, Turn, TurnFault};
 use chains::Chains;
 use line_disk::Disk;
@@ -24,7 +25,8 @@ use std::marker::Model;
 
 const TURN_LIMIT: usize = 65536;
 
-/// What was accepted, whose records are in a file, and the turns that were made since it was opened.
+/// What was accepted, whose records are in a file, and the turns that were made since it was opened. A desk that `renewed` returns
+/// counts as opened at that moment.
 pub struct Desk<D: Disk> {
     chains: Chains,
     /// The chains as they were when the desk was opened.
@@ -240,6 +242,42 @@ impl<D: Disk> Desk<D> {
                 Ok(desk)
             }
             Err(refused) => Err(refused),
+        }
+    }
+
+    /// The desk with a new list of turns: what is held now is its opening, and the records of its turns are among those found. No call
+    /// of the device is made, and the file is not read.
+    ///
+    /// `Device`: the desk is stopped. Its file may have one record more than the desk knows, which only `reopen` finds out. `Memory`: a
+    /// growth was refused. Both hand the disk back.
+    pub fn renewed(self) -> Result<Desk<D>, (DeskFault, D)>
+        ensures renewed { IfOk result (λ desk. (desk.held ≡ self.held) × (desk.opening ≡ self.held) × (desk.found ≡ records_of self) × (desk.turns ≡ []) × (desk.disk ≡ self.disk)) }
+        ensures running { IfOk result (λ desk. self.held.stopped ≡ false) }
+        ensures disk { IfErr result (λ e. e.1 ≡ self.disk) }
+        ensures why { IfErr result (λ e. ((e.0 ≡ DeskFault.Device) × (self.held.stopped ≡ true)) ⊎ ((e.0 ≡ DeskFault.Memory) × (self.held.stopped ≡ false))) }
+    {
+        self.recall_lawful();
+        if self.stopped() {
+            return Err((DeskFault::Device, self.close()));
+        }
+        let Ok(opening) = self.snapshot() else {
+            return Err((DeskFault::Memory, self.close()));
+        };
+        let alloc = self.chains.alloc();
+        let Desk {
+            chains,
+            opening: _,
+            store,
+            turns,
+        } = self;
+        match take_in(alloc, store, turns) {
+            Ok((store, turns)) => Ok(Desk {
+                chains,
+                opening,
+                store,
+                turns,
+            }),
+            Err(disk) => Err((DeskFault::Memory, disk)),
         }
     }
 

@@ -10,6 +10,7 @@ mod fault;
 mod laws;
 mod opening;
 mod placing;
+mod renewing;
 mod reply_pair;
 mod returning;
 mod turn;

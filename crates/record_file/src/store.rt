@@ -1,6 +1,6 @@
 //! A store of records in a record file.
 
-ghost use Rattle.std.specs.Prelude.{◌≡◌, ◌≢◌, ◌↔◌, ◌+◌, ◌≤◌, List, length, true, false, vec_len, IfOk, IfErr, IsOk, OnOk, MatchResult};
+ghost use Rattle.std.specs.Prelude.{◌≡◌, ◌≢◌, ◌↔◌, ◌+◌, ◌≤◌, List, [], ◌∷◌, ◌++◌, length, true, false, vec_len, IfOk, IfErr, IsOk, OnOk, MatchResult};
 ghost use Rattle.line_disk.specs.Disk.{LeavesAlways, CountsDevice};
 ghost use Rattle.record_file.specs.File.{Said, first_version, Stands, line_limit};
 ghost use Rattle.record_file.specs.Kept.{said_in};
@@ -95,11 +95,25 @@ impl<D: Disk> Store<D> {
         }
     }
 
-    /// The epochs and the lines of the records that the store found when it was opened.
+    /// The epochs and the lines of the records that the store found when it was opened, and of those that were added since.
     pub fn records(&self) -> &[(u32, Vec<u8>)]
         ensures { said_in result.now ≡ found_records self.now }
     {
         &self.records
+    }
+
+    /// Puts a record behind those that the store found. This is done in memory only: no call of the device is made, and the file is not
+    /// asked whether it has the record. On `Err` the store is as it was.
+    pub fn add_found(&mut self, epoch: u32, line: Vec<u8>) -> Result<(), AllocError>
+        ensures found { OnOk result (found_records self.new ≡ found_records self.old ++ (epoch, line.items) ∷ []) }
+        ensures unchanged { IfErr result (λ _. found_records self.new ≡ found_records self.old) }
+        ensures disk { disk_of self.new ≡ disk_of self.old }
+        ensures stopped { is_stopped self.new ≡ is_stopped self.old }
+        ensures version { version_of self.new ≡ version_of self.old }
+        ensures rests { (said : List Said) → HasRecords D.view self.old said → HasRecords D.view self.new said }
+    {
+        self.records.push((epoch, line))?;
+        Ok(())
     }
 
     /// Whether an append was answered Before or Unknown since the store was opened.

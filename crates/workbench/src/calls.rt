@@ -12,7 +12,8 @@
 //!   place of the one that is refused, from 0, and why);
 //! - the disk in memory that the desk is over: `close` closes the desk, `disk HEX` puts a new disk that holds these bytes in place
 //!   of all (`disk` an empty one), and `open` opens a desk over the disk, behind the end of one that is open (its front, or the fault
-//!   as the program tells it). While no desk is open the calls above are answered by `closed`, but for `new` and `kept CALL`, and those
+//!   as the program tells it). `renew` begins a new list of turns of the desk (its front, or the fault, with which the desk is
+//!   closed). While no desk is open the calls above are answered by `closed`, but for `new` and `kept CALL`, and those
 //!   below are made, which are answered by `open` otherwise: `fail K none`, `fail K all` (the K-th call of the device from now on
 //!   fails, and has done nothing or all; which one that is, counted from the disk's first), `file` (the bytes that it holds in
 //!   hexadecimal, `-` for none), `calls` (how many calls there were), `stop K N` (in place of the disk comes one that holds what a

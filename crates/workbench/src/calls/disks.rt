@@ -149,6 +149,17 @@ fn put_opened(held: &mut Held, out: &mut Answer) {
     }
 }
 
+fn put_renewed(held: &mut Held, out: &mut Answer) {
+    if !held.is_open() {
+        out.put(b"closed");
+        return;
+    }
+    match held.renew(out.alloc()) {
+        Ok(fault) => put_outcome(fault, held.front(), out),
+        Err(_) => out.run_out(),
+    }
+}
+
 fn put_closed(held: &mut Held, out: &mut Answer) {
     match held.close(out.alloc()) {
         Ok(()) => out.put(b"closed"),
@@ -161,7 +172,7 @@ fn is_call(words: &[&str]) -> bool {
     match *words {
         [word, ..] => matches!(
             word,
-            "disk" | "open" | "close" | "fail" | "file" | "calls" | "stop"
+            "disk" | "open" | "renew" | "close" | "fail" | "file" | "calls" | "stop"
         ),
         [] => false,
     }
@@ -176,6 +187,7 @@ pub fn answer(held: &mut Held, words: &[&str], out: &mut Answer) -> bool {
         ["disk"] => put_disk(held, "", out),
         ["disk", bytes] => put_disk(held, bytes, out),
         ["open"] => put_opened(held, out),
+        ["renew"] => put_renewed(held, out),
         ["close"] => put_closed(held, out),
         ["fail" | "file" | "calls" | "stop", ..] => put_of(held, words, out),
         _ => put_no_call(out),

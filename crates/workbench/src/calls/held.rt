@@ -28,6 +28,14 @@ fn opened(alloc: Global, held: Held) -> Result<Desk<MemoryDisk>, (DeskFault, Mem
     }
 }
 
+// The same, with a new list of turns of one that is open.
+fn renewed(alloc: Global, held: Held) -> Result<Desk<MemoryDisk>, (DeskFault, MemoryDisk)> {
+    match held {
+        Held::Open(desk) => desk.renewed(),
+        Held::Closed(disk) => Desk::open(alloc, disk),
+    }
+}
+
 // The disk alone.
 fn closed(held: Held) -> MemoryDisk {
     match held {
@@ -48,15 +56,34 @@ impl Held {
         Ok(mem::replace(self, Held::Closed(empty)))
     }
 
-    /// Opens a desk over the disk, behind the end of one that is open. Answers the fault where none was opened.
-    pub fn open(&mut self, alloc: Global) -> Result<Option<DeskFault>, AllocError> {
-        let held = self.take(alloc)?;
-        let (held, fault) = match opened(alloc, held) {
+    // Holds the desk, or the disk that came back in its place. Answers why it came back.
+    fn hold(
+        &mut self,
+        made: Result<Desk<MemoryDisk>, (DeskFault, MemoryDisk)>,
+    ) -> Option<DeskFault> {
+        let (held, fault) = match made {
             Ok(desk) => (Held::Open(desk), None),
             Err((fault, disk)) => (Held::Closed(disk), Some(fault)),
         };
         *self = held;
-        Ok(fault)
+        fault
+    }
+
+    /// Whether a desk is open.
+    pub fn is_open(&self) -> bool {
+        matches!(self, Held::Open(_))
+    }
+
+    /// Opens a desk over the disk, behind the end of one that is open. Answers the fault where none was opened.
+    pub fn open(&mut self, alloc: Global) -> Result<Option<DeskFault>, AllocError> {
+        let held = self.take(alloc)?;
+        Ok(self.hold(opened(alloc, held)))
+    }
+
+    /// Begins a new list of turns, if a desk is open, and else opens one. Answers the fault where the desk was closed or none was opened.
+    pub fn renew(&mut self, alloc: Global) -> Result<Option<DeskFault>, AllocError> {
+        let held = self.take(alloc)?;
+        Ok(self.hold(renewed(alloc, held)))
     }
 
     /// Closes the desk, if one is open.

@@ -121,3 +121,10 @@ pub record IsEnded {D : Type 0} (keeps : D → Type 0) (view : D → View) (open
   pub admitted : Opens (found ++ recorded list) (unstopped held)
   pub pending : (one : Said) → IsPending held.epoch list one → (held.stopped ≡ true) × ((after : Held) × Admits (unstopped held) one after)
   pub audited : IsAudited opening list passes
+
+-- The coordinator has ended so, and the desk is there: the turns, what is held at the end and the records that were found are its own.
+pub record EndsWith {D : Type 0} (keeps : D → Type 0) (view : D → View) (opening : Held) (passes : List PassState) (desk : DeskState D) : Type 0 where
+  pub ends : IsEnded keeps view opening passes (length desk.turns) desk.held.front desk.disk
+  pub list_is : ends.list ≡ desk.turns
+  pub held_is : ends.held ≡ desk.held
+  pub found_is : ends.found ≡ desk.found

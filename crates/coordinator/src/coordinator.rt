@@ -7,7 +7,7 @@ ghost use Rattle.desk.specs.Files.{IsShort};
 ghost use Rattle.desk.specs.Records.{IsReadOff};
 ghost use Rattle.coordinator.specs.Passes.{IsPlain, IsNewPass, line_call, ledger_parts};
 ghost use Rattle.coordinator.specs.PassTurn.{IsPassTurn};
-ghost use Rattle.coordinator.specs.Closing.{IsAuditCause, IsEnded, IsRefused, IsRemainder};
+ghost use Rattle.coordinator.specs.Closing.{EndsWith, IsAuditCause, IsEnded, IsRefused, IsRemainder};
 
 use crate::auditing::audit;
 use crate::fault::{CallFault, CloseFault, PassFault};
@@ -318,6 +318,17 @@ impl<L: Ledger, D: Disk> Coordinator<L, D> {
         ensures ok { IfOk result (λ e. IsEnded D.keeps D.view self passes.items e.turns e.front e.disk) }
         ensures left { IfErr result (λ r. IsRemainder D.keeps D.view self passes.items r.fault r.ended.turns r.ended.front r.ended.disk) }
     {
+        match self.finish_with_desk(passes) {
+            Ok(desk) => Ok(end_desk(desk)),
+            Err(remainder) => Err(remainder),
+        }
+    }
+
+    /// Ends as `finish` does. The desk is not closed, and comes back with all its turns.
+    pub fn finish_with_desk(self, passes: Vec<Pass<L>>) -> Result<Desk<D>, Remainder<D>>
+        ensures ok { IfOk result (λ desk. EndsWith D.keeps D.view self passes.items desk) }
+        ensures left { IfErr result (λ r. IsRemainder D.keeps D.view self passes.items r.fault r.ended.turns r.ended.front r.ended.disk) }
+    {
         let Coordinator {
             alloc: _,
             opening,
@@ -341,22 +352,24 @@ fn end_desk<D: Disk>(desk: Desk<D>) -> Ended<D>
     Ended { disk, front, turns }
 }
 
-/// What is left of the desk under the lock, and why the passes do not show each turn once, and the right lines, if they do not.
+/// The desk under the lock, or what is left of it, and why the passes do not show each turn once, and the right lines, if they do not.
 fn finish_over<L: Ledger, D: Disk>(
     opening: &Chains,
     locked: Locked<L, D>,
     passes: &[Pass<L>],
-) -> Result<Ended<D>, Remainder<D>>
-    ensures ok { IfOk result (λ e. IsEnded D.keeps D.view (held_of opening.now) passes.now e.turns e.front e.disk) }
+) -> Result<Desk<D>, Remainder<D>>
+    ensures ok { IfOk result (λ desk. EndsWith D.keeps D.view (held_of opening.now) passes.now desk) }
     ensures left { IfErr result (λ r. IsRemainder D.keeps D.view (held_of opening.now) passes.now r.fault r.ended.turns r.ended.front r.ended.disk) }
 {
     let audited = audit(opening, locked.desk(), passes);
     let desk = locked.into_desk();
     desk.recall_lawful();
-    let ended = end_desk(desk);
     match audited {
-        Ok(()) => Ok(ended),
-        Err(fault) => Err(Remainder { fault, ended }),
+        Ok(()) => Ok(desk),
+        Err(fault) => {
+            let ended = end_desk(desk);
+            Err(Remainder { fault, ended })
+        }
     }
 }
 

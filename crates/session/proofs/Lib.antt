@@ -7,6 +7,7 @@ mod ServeSteps
 mod Steps
 mod FirstLines
 mod Resting
+mod Clients
 mod Ending
 mod OverDesk
 mod Gaining

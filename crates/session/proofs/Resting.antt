@@ -1,5 +1,5 @@
 -- Steps of a session that lasts.
-use Rattle.std.proofs.Common.{◌≡◌, ◌≢◌, ℕ, zero, suc, Bool, ◌+◌, ◌≤◌, ◌<◌, List, [], ◌∷◌, ◌++◌, length, take, drop, Option, Some, None, Result, Ok, Err, true, false, refl, sym, ap, subst, ◌∙◌, append_assoc, append-nil, arith, inl, inr}
+use Rattle.std.proofs.Common.{◌≡◌, ◌≢◌, ℕ, zero, suc, Bool, ◌+◌, ◌≤◌, ◌<◌, List, [], ◌∷◌, ◌++◌, length, take, drop, Option, Some, None, Result, Ok, Err, true, refl, sym, ap, subst, ◌∙◌, append_assoc, append-nil, arith, inl, inr}
 use Rattle.std.specs.Prelude.{IsSome, IsNone, IfSome}
 use Rattle.std.specs.List.{flat_map, AllByRecursion}
 use Rattle.std.specs.Io.KnownBytes.{Appends, Consumes, Keeps}
@@ -10,7 +10,7 @@ use Rattle.report_line.specs.Cutting.{Stand, IsLine, ended, onto, cut_of}
 use Rattle.line_disk.specs.Disk.{View}
 use Rattle.coordinator.specs.Passes.{PassState, IsNewPass}
 use Rattle.client_link.specs.declared.link.LinkFault.{LinkFault}
-use Rattle.client_link.specs.Links.{up, LinkState, IsSound, IsFault, IsRead, IsUntouched, IsTriedFlush}
+use Rattle.client_link.specs.Links.{up, LinkState, IsSound, IsFault, IsRead, IsTriedFlush}
 use Rattle.client_link.proofs.Sent.{appends_none, appends_then, sound_none, sound_then, fault_then}
 use Rattle.session.specs.Exchanges.{Exchange}
 use Rattle.session.specs.declared.kind.SessionEndKind.{SessionEndKind}
@@ -22,7 +22,7 @@ use Rattle.session.specs.declared.stage.Stage.TheVariants as stages
 use Rattle.session.specs.SessionText.{Mean, NoBye, at_pass, at_passes, exchange_line, session_text, ending_line, ending_count, joined, EndReason, Ends, IsCutInReply, IsWhole, AreNonEmptyReads, GaveAll, IsSession}
 use Rattle.session.specs.Ends.{IsReadAt, IsPrompt, HaveGone, EachHasGone, Leaves}
 use Rattle.session.specs.Gained.{GainsEach, Gains}
-use Rattle.session.specs.Lasting.{LastingState, HasDone, HasLastLine, ending_at, StandsSo, Rests, IsOver, ComesTo, IsAnswered, AreOfPasses}
+use Rattle.session.specs.Lasting.{LastingState, HasDone, HasLastLine, Rests, IsOver, ComesTo, IsAnswered, AreOfPasses}
 use Rattle.session.specs.working.Parts.{Serves}
 use Rattle.session.specs.working.Resting.{standing, GoesOn, BeginsEnd, StandsBehind, IsAnsweredOn}
 use Rattle.session.proofs.ServedTurns.{mean_then, mean_length, no_bye_then, bye_then, cut_then}
@@ -161,76 +161,8 @@ read_line_more front line behind rest bytes read is =
     read ∙ ap (λ (t : Bytes). flat_map ended front ++ t) is ∙ sym (append_assoc (flat_map ended front) (ended line) behind)
     ∙ ap (λ (t : Bytes). (flat_map ended front ++ t) ++ behind) (sym (append-nil (ended line))) ∙ ap (λ (t : Bytes). t ++ behind) (lines_then front (line ∷ []))
 
--- ---- it rests, and nothing was done but by its link
+-- ---- the last line of all was handed on
 
-stands_on : (stage : Stage) (waiting after : Bytes) (pieces front : List Bytes) (rest unanswered : Bytes) (turned : Exchanges) (count : ℕ) → (stage ≡ stages.Listening → after ≡ waiting) → StandsSo stage waiting pieces front rest unanswered turned count → StandsSo stage after pieces front rest unanswered turned count
-stands_on stages.Listening waiting after pieces front rest unanswered turned count same s = (s.0, (s.1.0, (s.1.1.0, same refl ∙ s.1.1.1)))
-stands_on stages.Replying waiting after pieces front rest unanswered turned count same s = s
-stands_on (stages.Ending kind) waiting after pieces front rest unanswered turned count same s = s
-stands_on (stages.Ended kind) waiting after pieces front rest unanswered turned count same s = absurd s
-
-rests_on : {K : Type 0} (told : K → LinkState) (begun now new : K) (state : LastingState) (turned : Exchanges) → Rests told begun now state turned → Keeps (told now).left (told new).left → Keeps (told now).held (told new).held → (told new).reads ≡ (told now).reads → IsSound (told now) (told new)
-    → (state.stage ≡ stages.Listening → (told new).waiting ≡ (told now).waiting) → Rests told begun new state turned
-rests_on told begun now new state turned r left held reads sound waiting =
-    record {
-      pieces = r.pieces;
-      front = r.front;
-      rest = r.rest;
-      count = r.count;
-      lines = r.lines;
-      read = r.read;
-      gave = r.gave;
-      mean = r.mean;
-      done = done_kept told begun now new r.pieces (session_text turned ++ ending_at state.stage) r.done left held reads;
-      sound = sound_then (told begun) (told now) (told new) r.sound sound;
-      prompt = r.prompt;
-      gone = r.gone;
-      stands = stands_on state.stage (told now).waiting (told new).waiting r.pieces r.front r.rest state.unanswered turned r.count waiting r.stands;
-    }
-
--- nothing was there to read
-pub nothing_read : {K : Type 0} (told : K → LinkState) (begun now new : K) (state : LastingState) (turned : Exchanges) → Rests told begun now state turned → IsUntouched (told now) (told new) → Rests told begun new state turned
-nothing_read told begun now new state turned r u =
-    rests_on told begun now new state turned r u.left (keeps_same (told now).held (told new).held u.held) u.reads (record { failures = u.failures; stalls = u.stalls; ended = u.ended }) (λ listens. u.waiting)
-
-replying_waits : stages.Replying ≡ stages.Listening → ⊥
-replying_waits e = cc
-
-ending_waits : (kind : SessionEndKind) → stages.Ending kind ≡ stages.Listening → ⊥
-ending_waits kind e = cc
-
--- not all was handed on
-pub reply_waits : {K : Type 0} (told : K → LinkState) (begun now new : K) (unanswered : Bytes) (turned : Exchanges) → Rests told begun now (standing unanswered stages.Replying) turned → IsTriedFlush {E = LinkFault} (told now) (told new) (Ok false) → Rests told begun new (standing unanswered stages.Replying) turned
-reply_waits told begun now new unanswered turned r f =
-    rests_on told begun now new (standing unanswered stages.Replying) turned r (keeps_same (told now).left (told new).left f.left) f.held f.reads (sound_flush (told now) (told new) false f) (λ listens. absurd (replying_waits listens))
-
-pub end_waits : {K : Type 0} (told : K → LinkState) (begun now new : K) (unanswered : Bytes) (kind : SessionEndKind) (turned : Exchanges) → Rests told begun now (standing unanswered (stages.Ending kind)) turned → IsTriedFlush {E = LinkFault} (told now) (told new) (Ok false) → Rests told begun new (standing unanswered (stages.Ending kind)) turned
-end_waits told begun now new unanswered kind turned r f =
-    rests_on told begun now new (standing unanswered (stages.Ending kind)) turned r (keeps_same (told now).left (told new).left f.left) f.held f.reads (sound_flush (told now) (told new) false f) (λ listens. absurd (ending_waits kind listens))
-
--- ---- the last line was handed on
-
-pub reply_gone : {K : Type 0} (told : K → LinkState) (begun now new : K) (unanswered : Bytes) (turned : Exchanges) → Rests told begun now (standing unanswered stages.Replying) turned → IsTriedFlush {E = LinkFault} (told now) (told new) (Ok true) → Rests told begun new (standing unanswered stages.Listening) turned
-reply_gone told begun now new unanswered turned r f =
-    let done = done_flush told begun now new r.pieces (session_text turned ++ []) (Ok true) r.done f in
-    let sound = sound_then (told begun) (told now) (told new) r.sound (sound_flush (told now) (told new) true f) in
-    record {
-      pieces = r.pieces;
-      front = r.front;
-      rest = r.rest;
-      count = r.count + 1;
-      lines = r.lines;
-      read = r.read;
-      gave = r.gave;
-      mean = r.mean;
-      done = done;
-      sound = sound;
-      prompt = r.prompt;
-      gone = record { before_each = r.gone.before_each; last = λ some all. gone_now told begun new r.pieces turned done sound (f.handed refl) };
-      stands = (r.stands.0, (r.stands.1.0, (r.stands.1.1, f.handed refl)));
-    }
-
--- so did the last line of all
 whole_end : (kind : SessionEndKind) (pieces : List Bytes) (stand : Stand) (front later : List Bytes) (turned : Exchanges) (text : Bytes) (count : ℕ) → HasLastLine kind → EndReason kind at_passes pieces stand front later turned → IsWhole kind turned text count → Ends kind at_passes pieces stand front later turned text count
 whole_end kinds.Bye pieces stand front later turned text count has reason whole = (reason, whole)
 whole_end kinds.TooLong pieces stand front later turned text count has reason whole = (reason, whole)
@@ -800,6 +732,13 @@ answered_then keeps view told begun now new state after turned old mid pass rest
       gains = gains_then keeps view old mid pass a.more b.more a.gains b.gains;
     }
 
+-- behind a line that was computed others may come first
+pub due_or_on : {D K : Type 0} (keeps : D → Type 0) (view : D → View) (told : K → LinkState) (begun now : K) (state : LastingState) (turned : Exchanges) (old new : PassState) (rest : Option Rest) → IfSome rest (λ r. r ≡ rests.Due)
+    → IsAnsweredOn keeps view told begun now state turned old new None → IsAnsweredOn keeps view told begun now state turned old new rest
+due_or_on keeps view told begun now state turned old new None due a = a
+due_or_on keeps view told begun now state turned old new (Some rest) due a =
+    record { more = a.more; goes = subst (λ (r : Rest). ComesTo r told begun now state (turned ++ a.more)) (sym due) a.goes; gains = a.gains }
+
 pub answered_all : {D K : Type 0} (keeps : D → Type 0) (view : D → View) (told : K → LinkState) (begun now : K) (state : LastingState) (turned : Exchanges) (old pass : PassState) (rest : Rest) → IsAnsweredOn keeps view told begun now state turned old pass (Some rest) → IsAnswered keeps view told begun now state turned old pass rest
 answered_all keeps view told begun now state turned old pass rest a = record { more = a.more; comes = a.goes; gains = each_gained keeps view old pass a.more a.gains }
 
@@ -845,12 +784,6 @@ begins told link unanswered none rests =
 -- ---- one pass after the other
 
 -- a reply was written, and others come first, or the step goes on
-pub due_or_on : {D K : Type 0} (keeps : D → Type 0) (view : D → View) (told : K → LinkState) (begun now : K) (state : LastingState) (turned : Exchanges) (old new : PassState) (rest : Option Rest) → IfSome rest (λ r. r ≡ rests.Due)
-    → IsAnsweredOn keeps view told begun now state turned old new None → IsAnsweredOn keeps view told begun now state turned old new rest
-due_or_on keeps view told begun now state turned old new None due a = a
-due_or_on keeps view told begun now state turned old new (Some rest) due a =
-    record { more = a.more; goes = subst (λ (r : Rest). ComesTo r told begun now state (turned ++ a.more)) (sym due) a.goes; gains = a.gains }
-
 pub another_pass : {D : Type 0} (keeps : D → Type 0) (view : D → View) (passes : List PassState) (turned : Exchanges) (pass : PassState) → AreOfPasses keeps view passes turned → IsNewPass pass → AreOfPasses keeps view (pass ∷ passes) turned
 another_pass keeps view passes turned pass are new =
     record { before = turned; ours = []; turned_are = sym (append-nil turned); fresh = pass; is_new = new; gains = each_gained keeps view pass pass [] refl; earlier = are }

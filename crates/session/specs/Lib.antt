@@ -11,4 +11,5 @@ pub mod TwoOpenings
 pub mod Gained
 pub mod Sessions
 pub mod Lasting
+pub mod Guests
 pub mod working

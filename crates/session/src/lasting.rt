@@ -1,8 +1,8 @@
 //! A session in steps: it rests between any two lines, and goes on over the same coordinator or another one.
 
 ghost use denote.Param.Send.{IsSync};
-ghost use Rattle.std.specs.Prelude.{◌≡◌, ◌∷◌, ◌++◌, [], ℕ, List, None, IfSome};
-ghost use Rattle.report_line.specs.Cutting.{cut_of};
+ghost use Rattle.std.specs.Prelude.{◌≡◌, ◌∷◌, ◌++◌, [], ℕ, List, None, length, IfSome, IsTrue, IsFalse};
+ghost use Rattle.report_line.specs.Cutting.{IsLine, ended, cut_of};
 ghost use Rattle.session.specs.Exchanges.{Exchange};
 ghost use Rattle.coordinator.specs.Passes.{PassState, IsNewPass};
 ghost use Rattle.session.specs.Gained.{Gains};
@@ -243,9 +243,27 @@ impl LastingSession {
         rest
     }
 
+    /// How many bytes it keeps of which no line is answered yet.
+    pub fn unanswered(&self) -> usize
+        ensures { result ≡ length self.now.unanswered }
+    {
+        self.unanswered.len()
+    }
+
+    /// Whether a line is there that is not too long.
+    pub fn has_line(&self) -> bool
+        ensures some { IsTrue result → (line rest : List ℕ) × (IsLine line × (self.now.unanswered ≡ ended line ++ rest)) }
+        ensures none { IsFalse result → (cut_of self.now.unanswered).0 ≡ [] }
+    {
+        match self.unanswered.line() {
+            Some(_) => true,
+            None => false,
+        }
+    }
+
     /// Answers up to 64 lines that are there, each once the reply to the one before was handed on; none behind a question whose line was
-    /// computed. It does not wait for the client. A line of
-    /// which the coordinator makes no turn, because all were made or the pass is not of it, stays there, and another coordinator can answer it.
+    /// computed. It does not wait for the client. A line of which the coordinator makes no turn, because all were made or the pass is not of
+    /// it, stays there, and another coordinator can answer it.
     pub fn answer<R: Threads + Wait + Sync, L: Ledger, D: Disk, G: Gate, K: NonblockingLink>(
         &mut self,
         rt: &R,

@@ -6,6 +6,7 @@
 #![tactic(auto)]
 
 mod flush_policy;
+mod guest;
 mod kind;
 mod lasting;
 mod laws;
@@ -23,6 +24,7 @@ mod turns;
 mod unanswered;
 
 pub use flush_policy::FlushPolicy;
+pub use guest::{Answered, Guest, Seat};
 pub use kind::{SessionEnd, SessionEndKind};
 pub use lasting::{LastingSession, exchanges_of_passes};
 pub use laws::{

@@ -71,6 +71,13 @@ impl Unanswered {
         }
     }
 
+    /// How many there are.
+    pub(crate) fn len(&self) -> usize
+        ensures { result ≡ length self.now }
+    {
+        self.bytes.len() - self.at
+    }
+
     /// Whether they are more than a line may have.
     pub(crate) fn is_long(&self) -> bool
         ensures { IsTrue result ↔ (line_limit < length self.now) }

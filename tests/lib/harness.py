@@ -161,8 +161,8 @@ class Suite:
         """A run of the program with these words, of which all that it prints is kept."""
         return subprocess.run([self.program, *words], capture_output=True, timeout=HANG, check=False, **more)
 
-    def serve(self, file: str, sessions: int, workers: int, *more: str, **limits: Any) -> Service:
-        """A service over a file of this name in the folder of the suite, which ends with the suite."""
+    def serve(self, file: str, sessions: int | None, workers: int, *more: str, **limits: Any) -> Service:
+        """A service over a file of this name in the folder of the suite, which ends with the suite. Without a number of sessions it lasts."""
         service = Service(self.program, self.path(file), sessions, workers, *more, **limits)
         self.services.append(service)
         return service
@@ -243,14 +243,15 @@ class Suite:
 
 
 class Service:
-    """A service over a record file, with so many sessions and workers, and so many descriptors and bytes of a file at most. Its standard input
-    is at its end, if it is not given."""
+    """A service over a record file, with so many sessions and workers, and so many descriptors and bytes of a file at most. With `None` sessions
+    it lasts. Its standard input is at its end, if it is not given."""
 
     def __init__(
-            self, recline: str, file: str, sessions: int, workers: int, *more: str, descriptors: int | None = None, most: int | None = None,
+            self, recline: str, file: str, sessions: int | None, workers: int, *more: str, descriptors: int | None = None, most: int | None = None,
             environment: dict[str, str] | None = None, stdin: int = subprocess.DEVNULL, script: str | None = None) -> None:
         self.file = file
-        words = [*([script] if script else [recline, "serve"]), file, "--port", "0", "--sessions", str(sessions), "--workers", str(workers), *more]
+        bounded = [] if sessions is None else ["--sessions", str(sessions)]
+        words = [*([script] if script else [recline, "serve"]), file, "--port", "0", *bounded, "--workers", str(workers), *more]
 
         def limit() -> None:
             if descriptors is not None:

@@ -79,8 +79,8 @@ module _ (rows : List Row) where
   abbrev has_port : Bool
   has_port = has_number 0 65535 (first_of (codes "port") rows)
 
-  abbrev has_sessions : Bool
-  has_sessions = has_number 1 4096 (first_of (codes "sessions") rows)
+  abbrev may_have_sessions : Bool
+  may_have_sessions = may_have_number 1 4096 (first_of (codes "sessions") rows)
 
   abbrev has_workers : Bool
   has_workers = has_number 1 64 (first_of (codes "workers") rows)
@@ -92,19 +92,19 @@ module _ (rows : List Row) where
   Fails e = HasKind (value_refusals (Some (codes "serve", rows))) e
 
   pub no_port : (e : Error) → has_port ≡ false → IsValueFault e → Fails e
-  no_port e none has = by_port has_port has_sessions has_workers may_have_idle e none has
+  no_port e none has = by_port has_port may_have_sessions has_workers may_have_idle e none has
 
-  pub no_sessions : (e : Error) → has_sessions ≡ false → IsValueFault e → Fails e
-  no_sessions e none has = by_sessions has_port has_sessions has_workers may_have_idle e none has
+  pub no_sessions : (e : Error) → may_have_sessions ≡ false → IsValueFault e → Fails e
+  no_sessions e none has = by_sessions has_port may_have_sessions has_workers may_have_idle e none has
 
   pub no_workers : (e : Error) → has_workers ≡ false → IsValueFault e → Fails e
-  no_workers e none has = by_workers has_port has_sessions has_workers may_have_idle e none has
+  no_workers e none has = by_workers has_port may_have_sessions has_workers may_have_idle e none has
 
   pub no_idle : (e : Error) → may_have_idle ≡ false → IsValueFault e → Fails e
-  no_idle e none has = by_idle has_port has_sessions has_workers may_have_idle e none has
+  no_idle e none has = by_idle has_port may_have_sessions has_workers may_have_idle e none has
 
-  pub all_numbers : (file : Bor Text) (port sessions workers : ℕ) (idle : Option ℕ) (until_input_ends : Bool) → HasValues rows (commands.Serve file port sessions workers idle until_input_ends)
+  pub all_numbers : (file : Bor Text) (port : ℕ) (sessions : Option ℕ) (workers : ℕ) (idle : Option ℕ) (until_input_ends : Bool) → HasValues rows (commands.Serve file port sessions workers idle until_input_ends)
       → value_refusals (Some (codes "serve", rows)) ≡ []
   all_numbers file port sessions workers idle until_input_ends has =
-      by_none has_port has_sessions has_workers may_have_idle (number_there 0 65535 port _ has.1) (number_there 1 4096 sessions _ has.2) (number_there 1 64 workers _ has.3)
+      by_none has_port may_have_sessions has_workers may_have_idle (number_there 0 65535 port _ has.1) (may_there 1 4096 sessions _ has.2) (number_there 1 64 workers _ has.3)
       (may_there 1 4294967295 idle _ has.4)

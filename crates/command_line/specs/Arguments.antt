@@ -43,10 +43,10 @@ command_with name rules = fold with_rule (new_app name) rules
 abbrev pub run : App
 run = command_with (codes "run") (new_rule (codes "FILE") ∷ [])
 
--- the command `serve` with what it wants: the path of a record file, a port, and how many sessions and workers
+-- the command `serve` with what says how much is served: the path of a record file, a port, how many sessions, if that is given, and workers
 abbrev pub serve_wants : App
 serve_wants =
-    command_with (codes "serve") (wanted_rule (codes "FILE") ∷ wanted_option (codes "port") ∷ wanted_option (codes "sessions") ∷ wanted_option (codes "workers") ∷ [])
+    command_with (codes "serve") (wanted_rule (codes "FILE") ∷ wanted_option (codes "port") ∷ option_rule (codes "sessions") ∷ wanted_option (codes "workers") ∷ [])
 
 -- and it may be given how long a client may be silent, and a flag
 abbrev pub serve : App
@@ -117,10 +117,10 @@ has_number least most value = option_map_or (is_unsigned_in least most) value fa
 abbrev pub may_have_number : ℕ → ℕ → Option Text → Bool
 may_have_number least most value = option_map_or (is_unsigned_in least most) value true
 
--- the numbers of the command `serve` are within their limits: its port, how many sessions and workers, and the seconds
+-- the numbers of the command `serve` are within their limits: its port and how many workers, and how many sessions and the seconds, if they are given
 abbrev pub has_numbers_of_serve : List Row → Bool
 has_numbers_of_serve rows =
-    has_number 0 65535 (first_of (codes "port") rows) && (has_number 1 4096 (first_of (codes "sessions") rows)
+    has_number 0 65535 (first_of (codes "port") rows) && (may_have_number 1 4096 (first_of (codes "sessions") rows)
     && (has_number 1 64 (first_of (codes "workers") rows) && may_have_number 1 4294967295 (first_of (codes "idle") rows)))
 
 -- the commands that may be asked over the first records alone
@@ -182,7 +182,7 @@ name_of (commands.Draw path comments records failed why at) = codes "draw"
 abbrev pub HasValues : List Row → Command → Type 0
 HasValues rows (commands.Run file) = first_of (codes "FILE") rows ≡ option_map (λ s. s.now) file
 HasValues rows (commands.Serve file port sessions workers idle until_input_ends) =
-    (first_of (codes "FILE") rows ≡ Some file.now) × IsNumber 0 65535 port (first_of (codes "port") rows) × IsNumber 1 4096 sessions (first_of (codes "sessions") rows)
+    (first_of (codes "FILE") rows ≡ Some file.now) × IsNumber 0 65535 port (first_of (codes "port") rows) × MayBeNumber 1 4096 sessions (first_of (codes "sessions") rows)
     × IsNumber 1 64 workers (first_of (codes "workers") rows) × MayBeNumber 1 4294967295 idle (first_of (codes "idle") rows)
     × (is_set (first_of (codes "until-input-ends") rows) ≡ until_input_ends)
 HasValues rows (commands.Check file certificate at) =

@@ -19,13 +19,13 @@ pub enum Command<'a> {
     Run {
         file: Option<&'a str>,
     },
-    /// Serves clients over the record file of this path, on a port of the machine itself; 0 lets the system choose one. So many
-    /// sessions are served, 1 to 4,096, by 1 to 64 workers, or fewer where it is asked for that the end of standard input ends the service. A client
-    /// that is silent for so many seconds is let go, if they are given.
+    /// Serves clients over the record file of this path, on a port of the machine itself; 0 lets the system choose one. The service
+    /// has 1 to 64 workers. It ends after so many sessions, 1 to 4,096, if they are given, and at the end of standard input, if that is asked
+    /// for. A client that is silent for so many seconds is disconnected, if they are given.
     Serve {
         file: &'a str,
         port: u16,
-        sessions: u64,
+        sessions: Option<u64>,
         workers: u64,
         idle: Option<u64>,
         until_input_ends: bool,
@@ -239,15 +239,15 @@ fn run_command<'a>(alloc: Global) -> Result<Program<'a>, AllocError>
     )
 }
 
-/// The command `serve`, with the options that are wanted.
+/// The command `serve`, with what says how much is served.
 fn serve_wanted<'a>(alloc: Global) -> Result<Program<'a>, AllocError>
     ensures { IsCommand serve_wants result }
 {
     let command = told_command(
         alloc,
         "serve",
-        "Serves clients that connect by TCP, and ends after the last session",
-        "Example: recline serve records --port 0 --sessions 100 --workers 8\nStatus: 0 all sessions ended; 2 wrong words; 3 a file, the port, a stream or memory failed",
+        "Serves clients that connect by TCP, until it is told to end, or so many sessions ended",
+        "Example: recline serve records --port 0 --workers 8 --until-input-ends\nStatus: 0 the service ended in order; 2 wrong words; 3 a file, the port, a stream or memory failed",
         word_argument(
             alloc,
             "FILE",
@@ -265,11 +265,11 @@ fn serve_wanted<'a>(alloc: Global) -> Result<Program<'a>, AllocError>
     );
     let command = with_argument(
         command,
-        wanted_argument(
+        option_argument(
             alloc,
             "sessions",
             "N",
-            "How many sessions to serve, 1 to 4096",
+            "Ends after so many sessions, 1 to 4096; without it never",
         ),
     );
     with_argument(
@@ -278,7 +278,7 @@ fn serve_wanted<'a>(alloc: Global) -> Result<Program<'a>, AllocError>
             alloc,
             "workers",
             "W",
-            "How many sessions to serve at once, 1 to 64",
+            "How many clients to answer at once, 1 to 64",
         ),
     )
 }
@@ -296,7 +296,7 @@ fn serve_command<'a>(alloc: Global) -> Result<Program<'a>, AllocError>
     let until_input_ends = flag_argument(
         alloc,
         "until-input-ends",
-        "Also ends, in order, at the end of standard input, a pipe or a terminal",
+        "Ends, in order, at the end of standard input, a pipe or a terminal; at once for a file or /dev/null",
     );
     with_argument(with_argument(serve_wanted(alloc), idle), until_input_ends)
 }
@@ -481,7 +481,7 @@ fn with_version<'a>(program: Program<'a>) -> Program<'a>
     ensures { app_of result ≡ on_top (λ s. record s { has_version = true; subcommand_required = true }) (app_of program.entry) }
 {
     program
-        .version("0.1.0 (sources of 2026-11-30, record files of versions 1 and 2)")
+        .version("0.1.0 (sources of 2026-12-01, record files of versions 1 and 2)")
         .about(
             "Computes the recovery line: to which checkpoint each process returns after a failure",
         )
@@ -633,7 +633,7 @@ fn serve_asked<'a>(alloc: Global, serving: &ArgMatches<'a>) -> Result<Command<'a
     let Some(port) = number_in(serving, "port", 0, 65_535) else {
         return Err(number_refused(alloc, "--port takes a number from 0 to 65535"));
     };
-    let Some(sessions) = number_in(serving, "sessions", 1, 4_096) else {
+    let Some(sessions) = optional_number_in(serving, "sessions", 1, 4_096) else {
         return Err(number_refused(alloc, "--sessions takes a number from 1 to 4096"));
     };
     let Some(workers) = number_in(serving, "workers", 1, 64) else {

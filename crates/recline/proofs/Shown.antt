@@ -1,5 +1,5 @@
 -- The text of a record file, by what its chains hold.
-use Rattle.std.proofs.Common.{◌≡◌, ℕ, Bool, true, false, List, ◌++◌, Some, Option, sym, ap, subst, ◌∙◌}
+use Rattle.std.proofs.Common.{◌≡◌, ℕ, Bool, true, false, List, ◌++◌, Some, sym, ap, subst, ◌∙◌}
 use Rattle.record_file.specs.File.{Said}
 use Rattle.earlier_file.specs.declared.found.FileFacts.{FileFacts}
 use Rattle.report_line.specs.declared.report.Report.{Report}

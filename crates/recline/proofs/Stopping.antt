@@ -22,7 +22,7 @@ all_served wanted served (inl is) = is
 all_served wanted served (inr fewer) = absurd (∥∥₁_elim fewer.1 (λ a b. absurd a) (λ over. over.1))
 
 -- a part of a second text was written behind the first
-part_then : (old between new : LinkState) (x y : List ℕ) → WritesAll old between x → WritesPart between new y → WritesPart old new (x ++ y)
+pub part_then : (old between new : LinkState) (x y : List ℕ) → WritesAll old between x → WritesPart between new y → WritesPart old new (x ++ y)
 part_then old between new x y all wrote = record {
   part = x ++ wrote.part;
   more = wrote.more;

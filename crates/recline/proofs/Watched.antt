@@ -1,5 +1,5 @@
 -- Notices, one after the other.
-use Rattle.std.proofs.Common.{ℕ, List, [], ◌∷◌, ◌++◌, ◌≡◌, refl, sym, subst}
+use Rattle.std.proofs.Common.{List, [], ◌∷◌, ◌++◌, refl, sym, subst}
 use Rattle.client_link.specs.Links.{LinkState}
 use Rattle.recline.specs.Outcome.{Tells}
 use Rattle.recline.specs.declared.notices.Notice.{Notice}

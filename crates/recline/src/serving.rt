@@ -69,7 +69,7 @@ impl Service {
 
 /// Why a service stops before its end.
 #[derive(Clone, Copy)]
-enum Stop {
+pub(crate) enum Stop {
     /// The listener failed for good, or standard output did.
     Device,
     /// Memory was wanting.
@@ -79,7 +79,7 @@ enum Stop {
 }
 
 /// Why a service stops whose turns are not those of its passes.
-fn stop_of(fault: &CloseFault) -> Stop
+pub(crate) fn stop_of(fault: &CloseFault) -> Stop
     ensures { result ≡ stopped_by fault.now }
 {
     match fault {
@@ -89,7 +89,7 @@ fn stop_of(fault: &CloseFault) -> Stop
 }
 
 /// The fault line for it.
-fn line_of(stop: Stop) -> &'static [u8]
+pub(crate) fn line_of(stop: Stop) -> &'static [u8]
     ensures { result.now ≡ stop_line stop }
 {
     match stop {
@@ -100,7 +100,7 @@ fn line_of(stop: Stop) -> &'static [u8]
 }
 
 /// Tells the port.
-fn write_port<O: Link>(output: &mut O, port: u16) -> Result<(), LinkFault>
+pub(crate) fn write_port<O: Link>(output: &mut O, port: u16) -> Result<(), LinkFault>
     ensures { Writes (O.told output.old) (O.told output.new) result (port_line port) }
 {
     let mut digits = Buffer::new();
@@ -115,7 +115,7 @@ fn write_port<O: Link>(output: &mut O, port: u16) -> Result<(), LinkFault>
 }
 
 /// Tells the front at the end.
-fn write_end<O: Link>(output: &mut O, front: u32) -> Result<(), LinkFault>
+pub(crate) fn write_end<O: Link>(output: &mut O, front: u32) -> Result<(), LinkFault>
     ensures { Writes (O.told output.old) (O.told output.new) result (end_line front) }
 {
     let mut digits = Buffer::new();
@@ -138,7 +138,7 @@ const PASSING: [i32; 12] = [1, 12, 23, 24, 64, 71, 92, 100, 101, 105, 112, 113];
 const PAUSE: u64 = 100;
 
 /// Whether there may be a connection to accept a little later.
-fn is_passing(error: &io::Error) -> bool {
+pub(crate) fn is_passing(error: &io::Error) -> bool {
     match error.raw_os_error() {
         Some(number) => PASSING.contains(&number),
         None => matches!(error.kind(), ErrorKind::OutOfMemory),

@@ -30,7 +30,7 @@ pub(crate) struct Door {
 
 /// What was told already.
 #[derive(Drop)]
-struct Told {
+pub(crate) struct Told {
     front: bool,
     processes: bool,
     sessions: bool,
@@ -38,6 +38,20 @@ struct Told {
     file: bool,
     /// Of so many times in which there was no connection to take.
     closed: u64,
+}
+
+impl Told {
+    /// Nothing.
+    fn nothing() -> Told {
+        Told {
+            front: false,
+            processes: false,
+            sessions: false,
+            turns: false,
+            file: false,
+            closed: 0,
+        }
+    }
 }
 
 /// Tells a notice once it holds, if it was not told before.
@@ -117,14 +131,7 @@ pub(crate) fn watch<L: Ledger, D: Disk, K: Drop, W: Link, R: Wait + Clock>(
 )
     ensures { TellsNotices (W.told warnings.old) (W.told warnings.new) }
 {
-    let mut told = Told {
-        front: false,
-        processes: false,
-        sessions: false,
-        turns: false,
-        file: false,
-        closed: 0,
-    };
+    let mut told = Told::nothing();
     // How many were taken at each of the last looks, the oldest first.
     let mut looks = [0u64; SECONDS];
     let mut silent = SECONDS;
@@ -162,4 +169,76 @@ pub(crate) fn watch_end<W: Link, R: Wait + Clock>(
     let ended = going.recv_timeout(rt, Duration::from_secs(1));
     let goes_on = matches!(ended, Err(RecvTimeoutError::Timeout));
     tell_where(warnings, goes_on, Notice::Checking(lines));
+}
+
+/// So many seconds lie at least between two lines that no connection is taken, where a service lasts.
+const QUIET: u64 = 60;
+
+/// Where a service that lasts tells what its operator has to know, and what it told already.
+#[derive(Drop)]
+pub(crate) struct Watched<W: Link + Drop> {
+    warnings: W,
+    told: Told,
+    /// In which second it was told last that no connection is taken, if it was.
+    closed_at: Option<u64>,
+}
+
+/// Whether it may be told again that no connection is taken.
+fn is_quiet(closed_at: Option<u64>, seconds: u64) -> bool {
+    match closed_at {
+        Some(before) => seconds >= before.saturating_add(QUIET),
+        None => true,
+    }
+}
+
+impl<W: Link + Drop> Watched<W> {
+    /// Nothing was told.
+    pub(crate) fn new(warnings: W) -> Watched<W> {
+        Watched {
+            warnings,
+            told: Told {
+                turns: true,
+                ..Told::nothing()
+            },
+            closed_at: None,
+        }
+    }
+
+    /// Tells that no connection was taken since that was told last, at most once a minute.
+    fn look_at_door(&mut self, closed: &AtomicU64, seconds: u64)
+        ensures { TellsNotices (W.told self.old.warnings) (W.told self.new.warnings) }
+    {
+        let closed = closed.load(Ordering::SeqCst);
+        let is_due = closed != self.told.closed && is_quiet(self.closed_at, seconds);
+        tell_where(&mut self.warnings, is_due, Notice::NoConnection);
+        if is_due {
+            self.told.closed = closed;
+            self.closed_at = Some(seconds);
+        }
+    }
+
+    /// Looks once a second how far a coordinator has come, until what says that it goes on is dropped, and then once more, from this second on.
+    /// Tells at once, and once each, that the file failed, and that the front or the processes come near their limit; and at most once a minute
+    /// that no connection is taken.
+    pub(crate) fn watch<L: Ledger, D: Disk, R: Wait + Clock>(
+        &mut self,
+        rt: &R,
+        going: &Receiver<()>,
+        coordinator: &Coordinator<L, D>,
+        closed: &AtomicU64,
+        seconds: u64,
+    )
+        ensures { TellsNotices (W.told self.old.warnings) (W.told self.new.warnings) }
+    {
+        let mut seconds = seconds;
+        for _ in rt.forever() {
+            let ended = going.recv_timeout(rt, Duration::from_secs(1));
+            self.look_at_door(closed, seconds);
+            look_at_turns(coordinator, &mut self.told, &mut self.warnings);
+            let Err(RecvTimeoutError::Timeout) = ended else {
+                return;
+            };
+            seconds = seconds.saturating_add(1);
+        }
+    }
 }

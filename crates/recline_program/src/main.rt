@@ -6,6 +6,7 @@ mod drawing;
 mod files;
 mod hearing;
 mod nearing;
+mod notices;
 mod reporting;
 mod running;
 mod serving;
@@ -20,7 +21,7 @@ use files::explain_damage;
 use hearing::Heard;
 use recline::{Form, Question, ServiceRuntime};
 use running::{explain_lines, run_over_file};
-use serving::{Place, serve_over_file};
+use serving::{Numbers, Place, serve_over_file};
 use std::env;
 use std::io::{self, BufWriter, Read, Write};
 use std::process::ExitCode;
@@ -55,7 +56,11 @@ fn act<T: ServiceRuntime, K: Link + Drop, F: Link + Drop>(
                 port,
                 until_input_ends,
             };
-            let numbers = (sessions, workers, idle);
+            let numbers = Numbers {
+                sessions,
+                workers,
+                idle,
+            };
             return serve_over_file(teller, threads, file, place, numbers, client, faults);
         }
         Command::Check { file, at, .. } => {

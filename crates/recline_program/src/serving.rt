@@ -1,18 +1,23 @@
 //! A service over a record file.
 
 ghost use Rattle.std.specs.Thread.{IsSend, IsSync};
+ghost use Rattle.recline.specs.Lasting.{IsLastingService};
 ghost use Rattle.recline.specs.Serving.{IsService};
 
 use crate::files::open_file;
+use crate::notices::{HandedOver, MOST_NOTICES, write_notices};
 use crate::reporting::{ReportedDisk, ReportedListener, Reporter, tell_whys};
 use crate::telling::{FAULT_LINE, Teller, Why};
-use client_link::{Link, Streams};
+use client_link::{Link, NonblockingClient, Streams};
 use crossbeam_channel::{Receiver, Sender, bounded};
 use line_disk::{FileDisk, Modelled};
-use recline::{ClientSource, Service, ServiceRuntime, UntilInputEnds, serve_on, serve_until};
+use recline::{
+    Bell, ClientSource, Door, LastingService, Service, ServiceRuntime, TcpDoor, UntilInputEnds,
+    serve_lasting, serve_on, serve_until,
+};
 use std::alloc::{AllocError, Global};
-use std::io::{self, BufWriter};
-use std::net::{Ipv4Addr, SocketAddr, SocketAddrV4, TcpListener};
+use std::io::{self, BufWriter, Write};
+use std::net::{Ipv4Addr, OpenListener, SocketAddr, SocketAddrV4, TcpListener};
 use std::thread::{scope, scope_env};
 
 /// The port of the machine itself that is listened on, or the status, where the cause is told.
@@ -26,6 +31,14 @@ fn listener_on(teller: Teller<'_>, port: u16) -> Result<TcpListener, u8> {
             Err(status)
         }
     }
+}
+
+/// How many sessions a service has, if it does not last, how many workers, and how many seconds a client may rest, if there is a limit.
+#[derive(Clone, Copy)]
+pub(crate) struct Numbers {
+    pub(crate) sessions: Option<u64>,
+    pub(crate) workers: u64,
+    pub(crate) idle: Option<u64>,
 }
 
 /// Where a service listens, and whether the end of standard input ends it.
@@ -45,39 +58,18 @@ fn base_of(teller: Teller<'_>, path: &str, place: Place) -> Result<Base, u8> {
     Ok((disk, listener, place.until_input_ends))
 }
 
-/// Serves clients that connect to this place of the machine itself over the record file of this path, and answers the status and the output. The
-/// numbers are those of sessions, of workers, and of the seconds that a client may rest.
+/// Serves clients that connect to this place of the machine itself over the record file of this path, and answers the status and the output.
 pub(crate) fn serve_over_file<T: ServiceRuntime, O: Link + Drop, F: Link + Drop>(
     teller: Teller<'_>,
     threads: &T,
     path: &str,
     place: Place,
-    numbers: (u64, u64, Option<u64>),
+    numbers: Numbers,
     output: O,
     faults: F,
 ) -> (u8, O) {
-    let (sessions, workers, idle) = numbers;
-    match Service::new(sessions, workers, idle) {
-        Some(service) => serve_at(teller, threads, path, place, service, output, faults),
-        // Numbers out of their limits are refused with the words.
-        None => (2, output),
-    }
-}
-
-/// The same by this service.
-fn serve_at<T: ServiceRuntime, O: Link + Drop, F: Link + Drop>(
-    teller: Teller<'_>,
-    threads: &T,
-    path: &str,
-    place: Place,
-    service: Service,
-    output: O,
-    faults: F,
-) -> (u8, O)
-    requires { IsService service }
-{
     match base_of(teller, path, place) {
-        Ok(base) => serve_over_base(teller, threads, path, base, service, output, faults),
+        Ok(base) => serve_over_base(teller, threads, path, base, numbers, output, faults),
         Err(status) => (status, output),
     }
 }
@@ -88,16 +80,14 @@ fn serve_over_base<T: ServiceRuntime, O: Link + Drop, F: Link + Drop>(
     threads: &T,
     path: &str,
     base: Base,
-    service: Service,
+    numbers: Numbers,
     output: O,
     faults: F,
-) -> (u8, O)
-    requires { IsService service }
-{
+) -> (u8, O) {
     if teller.explains {
-        serve_with_reasons(teller, threads, path, base, service, output, faults)
+        serve_with_reasons(teller, threads, path, base, numbers, output, faults)
     } else {
-        serve_without_reasons(teller, threads, base, service, output, faults)
+        serve_without_reasons(teller, threads, base, numbers, output, faults)
     }
 }
 
@@ -106,12 +96,10 @@ fn serve_without_reasons<T: ServiceRuntime, O: Link + Drop, F: Link + Drop>(
     teller: Teller<'_>,
     threads: &T,
     base: Base,
-    service: Service,
+    numbers: Numbers,
     output: O,
     faults: F,
-) -> (u8, O)
-    requires { IsService service }
-{
+) -> (u8, O) {
     let (disk, listener, until_input_ends) = base;
     let disk = ReportedDisk::new(disk, None::<Reporter<T>>);
     let listener = ReportedListener::new(listener, None::<Reporter<T>>);
@@ -119,7 +107,7 @@ fn serve_without_reasons<T: ServiceRuntime, O: Link + Drop, F: Link + Drop>(
         listener,
         until_input_ends,
     };
-    serve(teller, threads, disk, clients, service, output, faults)
+    serve(teller, threads, disk, clients, numbers, output, faults)
 }
 
 /// So many bytes a line that says why has at most beside the path.
@@ -195,16 +183,14 @@ fn serve_with_reasons<T: ServiceRuntime, O: Link + Drop, F: Link + Drop>(
     threads: &T,
     path: &str,
     base: Base,
-    service: Service,
+    numbers: Numbers,
     output: O,
     faults: F,
-) -> (u8, O)
-    requires { IsService service }
-{
+) -> (u8, O) {
     match Explaining::new(teller.rt.alloc(), threads, path) {
         Some(explaining) => {
             let parts = (base, explaining);
-            serve_explaining(teller, threads, path, parts, service, output, faults)
+            serve_explaining(teller, threads, path, parts, numbers, output, faults)
         }
         None => (teller.fault("memory"), output),
     }
@@ -216,12 +202,10 @@ fn serve_explaining<T: ServiceRuntime, O: Link + Drop, F: Link + Drop>(
     threads: &T,
     path: &str,
     parts: (Base, Explaining<T>),
-    service: Service,
+    numbers: Numbers,
     output: O,
     faults: F,
-) -> (u8, O)
-    requires { IsService service }
-{
+) -> (u8, O) {
     let ((disk, listener, until_input_ends), explaining) = parts;
     let Explaining {
         of_disk,
@@ -241,7 +225,7 @@ fn serve_explaining<T: ServiceRuntime, O: Link + Drop, F: Link + Drop>(
         scope_env(),
         threads,
         move |scope| -> (u8, O)
-            requires { IsSync T.row × IsSend T.row × IsService service }
+            requires { IsSync T.row × IsSend T.row }
         {
             let teller_of_whys = scope.spawn(
                 move ||
@@ -252,7 +236,7 @@ fn serve_explaining<T: ServiceRuntime, O: Link + Drop, F: Link + Drop>(
                 },
             );
             // It takes both reporters, so behind it nobody is left to hand anything over.
-            let ended = serve(teller, threads, disk, clients, service, output, faults);
+            let ended = serve(teller, threads, disk, clients, numbers, output, faults);
             drop(goes_on);
             if let Ok(teller_of_whys) = teller_of_whys {
                 teller_of_whys.join(threads);
@@ -271,6 +255,31 @@ struct Clients<T: ServiceRuntime> {
 
 /// Serves these clients over this disk.
 fn serve<T: ServiceRuntime, O: Link + Drop, F: Link + Drop>(
+    teller: Teller<'_>,
+    threads: &T,
+    disk: ReportedDisk<Modelled, T>,
+    clients: Clients<T>,
+    numbers: Numbers,
+    output: O,
+    faults: F,
+) -> (u8, O) {
+    let Numbers {
+        sessions,
+        workers,
+        idle,
+    } = numbers;
+    let Some(sessions) = sessions else {
+        return serve_on_end(teller, threads, disk, clients, numbers, output, faults);
+    };
+    match Service::new(sessions, workers, idle) {
+        Some(service) => serve_sessions(teller, threads, disk, clients, service, output, faults),
+        // Numbers out of their limits are refused with the words.
+        None => (2, output),
+    }
+}
+
+/// Serves these clients over this disk to the last session, or until standard input ends.
+fn serve_sessions<T: ServiceRuntime, O: Link + Drop, F: Link + Drop>(
     teller: Teller<'_>,
     threads: &T,
     disk: ReportedDisk<Modelled, T>,
@@ -401,6 +410,133 @@ fn serve_source_by_reference<
 {
     let (status, _disk) = serve_until(
         threads, alloc, source, disk, service, output, faults, warnings,
+    );
+    status
+}
+
+/// Serves these clients over this disk until standard input ends, if that is to end the service. Another thread writes what is told meanwhile,
+/// so that no client waits for standard error.
+fn serve_on_end<T: ServiceRuntime, O: Link + Drop, F: Link + Drop>(
+    teller: Teller<'_>,
+    threads: &T,
+    disk: ReportedDisk<Modelled, T>,
+    clients: Clients<T>,
+    numbers: Numbers,
+    output: O,
+    faults: F,
+) -> (u8, O) {
+    let alloc = teller.rt.alloc();
+    let handle: Result<T, AllocError> = threads.clone();
+    let (Ok(handle), Ok((notices, told))) = (handle, bounded::<Vec<u8>, _>(alloc, MOST_NOTICES))
+    else {
+        return (teller.fault("memory"), output);
+    };
+    let errors = teller.rt.stderr();
+    let notices = HandedOver::new(handle, alloc, notices);
+    scope(
+        scope_env(),
+        threads,
+        move |scope| -> (u8, O)
+            requires { IsSync T.row × IsSend T.row }
+        {
+            let writer = scope.spawn(
+                move ||
+                    requires { IsSync T.row × IsSend T.row }
+                {
+                    let mut errors = errors;
+                    write_notices(threads, &told, &mut errors)
+                },
+            );
+            // It takes the notices, so behind it nobody is left to hand any over.
+            let ended = serve_telling(
+                teller, threads, disk, clients, numbers, notices, output, faults,
+            );
+            if let Ok(writer) = writer {
+                writer.join(threads);
+            }
+            ended
+        },
+    )
+}
+
+/// The same, where what is told meanwhile goes to this writer.
+fn serve_telling<T: ServiceRuntime, N: Write + Send + Drop, O: Link + Drop, F: Link + Drop>(
+    teller: Teller<'_>,
+    threads: &T,
+    disk: ReportedDisk<Modelled, T>,
+    clients: Clients<T>,
+    numbers: Numbers,
+    notices: N,
+    output: O,
+    faults: F,
+) -> (u8, O) {
+    let Some(service) = LastingService::new(numbers.workers, numbers.idle) else {
+        // Numbers out of their limits are refused with the words.
+        return (2, output);
+    };
+    let rt = teller.rt;
+    let Clients {
+        listener,
+        until_input_ends,
+    } = clients;
+    let Ok(address) = listener.local_addr() else {
+        return (teller.fault("device"), output);
+    };
+    let Ok(notices) = BufWriter::with_capacity(rt.alloc(), FAULT_LINE, notices) else {
+        return (teller.fault("memory"), output);
+    };
+    let warnings = Streams::new(io::empty(), notices);
+    let input = if until_input_ends {
+        Some(rt.stdin())
+    } else {
+        None
+    };
+    match TcpDoor::new(rt, rt.alloc(), listener, input) {
+        Ok((door, bell)) => {
+            let (mut output, mut faults) = (output, faults);
+            let status = serve_at_door(
+                threads,
+                rt.alloc(),
+                (door, bell, address.port()),
+                disk,
+                service,
+                &mut output,
+                &mut faults,
+                warnings,
+            );
+            (status, output)
+        }
+        Err(error) => {
+            let status = teller.fault("device");
+            teller.explain_poller(&error);
+            (status, output)
+        }
+    }
+}
+
+/// Serves the clients that come in at a door, with its bell and its port. It stands alone, since its clause is long.
+fn serve_at_door<
+    T: ServiceRuntime,
+    S: Door<NonblockingClient> + Send + Drop,
+    B: Bell + Sync + Drop,
+    O: Link,
+    F: Link,
+    W: Link + Send + Drop,
+>(
+    threads: &T,
+    alloc: Global,
+    entrance: (S, B, u16),
+    disk: ReportedDisk<Modelled, T>,
+    service: LastingService,
+    output: &mut O,
+    faults: &mut F,
+    warnings: W,
+) -> u8
+    requires { IsLastingService service }
+{
+    let (door, bell, port) = entrance;
+    let (status, _disk) = serve_lasting(
+        threads, alloc, door, &bell, port, disk, service, output, faults, warnings,
     );
     status
 }

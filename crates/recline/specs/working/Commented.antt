@@ -1,5 +1,5 @@
 -- The lines of a script as a function of its bytes.
-use Rattle.std.specs.Prelude.{ℕ, ◌-◌, ◌==◌, if◌then◌else◌, List, [], ◌∷◌}
+use Rattle.std.specs.Prelude.{ℕ, ◌==◌, if◌then◌else◌, List, [], ◌∷◌}
 
 -- a byte in front of the first of these lines; in front of none it is of no line
 abbrev pub onto_first : ℕ → List (List ℕ) → List (List ℕ)

@@ -1,7 +1,6 @@
 -- Parts of what the command `serve` answers.
 use Rattle.std.specs.Prelude.{◌≡◌, ◌≢◌, ◌⊎◌, ℕ, Option, Some, None}
 use Rattle.coordinator.specs.declared.fault.CloseFault.{CloseFault}
-use Rattle.report_line.specs.Cutting.{ended}
 use Rattle.client_link.specs.Links.{LinkState}
 use Rattle.recline.specs.Driving.{WritesAll, WritesPart}
 use Rattle.recline.specs.declared.serving.Stop.{Stop}

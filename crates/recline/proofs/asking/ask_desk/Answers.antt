@@ -1,5 +1,4 @@
 use Rattle.std.proofs.Common.{◌∙◌, ap, append-nil, List, [], ℕ, None, Some}
-use Rattle.client_link.specs.Links.{LinkState}
 use Rattle.recline.proofs.AsTold.{asks_desk}
 use Rattle.recline.proofs.asking.ask_desk.Goals as goal
 

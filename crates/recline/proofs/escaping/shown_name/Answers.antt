@@ -1,9 +1,9 @@
-use Rattle.std.proofs.Common.{◌≡◌, ◌<◌, ℕ, ◌+◌, length, arith, rules, subst, sym, ◌∙◌}
+use Rattle.std.proofs.Common.{length, rules, ◌∙◌}
 use Rattle.std.proofs.lemmas.Iterator.{YieldsList-from_chars}
 use Rattle.std.proofs.lemmas.List.{length_push}
 use Rattle.std.proofs.lemmas.Iterator.Consumers.{YieldsList-turn, YieldsList-end}
 use Rattle.std.specs.Str.{chars}
-use Rattle.recline.proofs.Escapes.{IsSoFar, ended_at, one_more, all_shown}
+use Rattle.recline.proofs.Escapes.{ended_at, one_more, all_shown}
 use Rattle.recline.proofs.escaping.shown_name.Goals as goal
 
 pub returns-then-escaped_length-len : goal.returns-then-escaped_length-len

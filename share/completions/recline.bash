@@ -5,7 +5,7 @@ _recline_take() {
     case "$1" in
     "") options=(-h --help -V --version) arguments=(command) ;;
     run) options=(--explain -h --help) arguments=(path) ;;
-    serve) options=(--port --sessions --workers --idle --until-input-ends --explain -h --help) arguments=(path) ;;
+    serve) options=(--port --workers --sessions --idle --until-input-ends --explain -h --help) arguments=(path) ;;
     check) options=(--at --explain -h --help) arguments=(path path) ;;
     line) options=(--at --explain -h --help) arguments=(path nothing) ;;
     garbage) options=(--at --explain -h --help) arguments=(path) ;;

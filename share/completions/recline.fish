@@ -42,7 +42,7 @@ end
 
 complete -c recline -f
 complete -c recline -n '__recline_stands "" 0' -a run -d 'Answers each line of standard input, a report or a question, on standard output'
-complete -c recline -n '__recline_stands "" 0' -a serve -d 'Serves clients that connect by TCP, and ends after the last session'
+complete -c recline -n '__recline_stands "" 0' -a serve -d 'Serves clients that connect by TCP, until it is told to end, or so many sessions ended'
 complete -c recline -n '__recline_stands "" 0' -a check -d 'Checks a certificate against a record file, and prints YES, or NO with the cause'
 complete -c recline -n '__recline_stands "" 0' -a line -d 'Prints the recovery line for a record file, as the reply to \'LINE NAMES\''
 complete -c recline -n '__recline_stands "" 0' -a garbage -d 'Prints the line before which all checkpoints are obsolete, as the reply to \'GARBAGE\''
@@ -57,10 +57,10 @@ complete -c recline -n '__recline_takes "run" --explain' -l explain -d 'Also pri
 complete -c recline -n '__recline_takes "run" -h --help' -s h -l help -d 'Print help'
 complete -c recline -n '__recline_stands "run" 0' -F
 complete -c recline -n '__recline_takes "serve" --port' -l port -x -d 'The port on this machine, 0 to 65535; 0 lets the system choose'
-complete -c recline -n '__recline_takes "serve" --sessions' -l sessions -x -d 'How many sessions to serve, 1 to 4096'
-complete -c recline -n '__recline_takes "serve" --workers' -l workers -x -d 'How many sessions to serve at once, 1 to 64'
+complete -c recline -n '__recline_takes "serve" --workers' -l workers -x -d 'How many clients to answer at once, 1 to 64'
+complete -c recline -n '__recline_takes "serve" --sessions' -l sessions -x -d 'Ends after so many sessions, 1 to 4096; without it never'
 complete -c recline -n '__recline_takes "serve" --idle' -l idle -x -d 'After how many silent seconds a client is disconnected, 1 to 4294967295; without it never'
-complete -c recline -n '__recline_takes "serve" --until-input-ends' -l until-input-ends -d 'Also ends, in order, at the end of standard input, a pipe or a terminal'
+complete -c recline -n '__recline_takes "serve" --until-input-ends' -l until-input-ends -d 'Ends, in order, at the end of standard input, a pipe or a terminal; at once for a file or /dev/null'
 complete -c recline -n '__recline_takes "serve" --explain' -l explain -d 'Also prints on standard error why a file or a stream failed, in the system\'s words'
 complete -c recline -n '__recline_takes "serve" -h --help' -s h -l help -d 'Print help'
 complete -c recline -n '__recline_stands "serve" 0' -F
@@ -97,7 +97,7 @@ complete -c recline -n '__recline_takes "draw" --explain' -l explain -d 'Also pr
 complete -c recline -n '__recline_takes "draw" -h --help' -s h -l help -d 'Print help'
 complete -c recline -n '__recline_stands "draw" 0' -F
 complete -c recline -n '__recline_stands "help" 0' -a run -d 'Answers each line of standard input, a report or a question, on standard output'
-complete -c recline -n '__recline_stands "help" 0' -a serve -d 'Serves clients that connect by TCP, and ends after the last session'
+complete -c recline -n '__recline_stands "help" 0' -a serve -d 'Serves clients that connect by TCP, until it is told to end, or so many sessions ended'
 complete -c recline -n '__recline_stands "help" 0' -a check -d 'Checks a certificate against a record file, and prints YES, or NO with the cause'
 complete -c recline -n '__recline_stands "help" 0' -a line -d 'Prints the recovery line for a record file, as the reply to \'LINE NAMES\''
 complete -c recline -n '__recline_stands "help" 0' -a garbage -d 'Prints the line before which all checkpoints are obsolete, as the reply to \'GARBAGE\''

@@ -1,6 +1,6 @@
 //! A link in memory.
 
-ghost use Rattle.std.specs.Prelude.{◌≡◌, ◌⊎◌, ◌↔◌, ◌<◌, ◌≤◌, [], Some, None, length, drop, IfOk, OnOk, OnErr, IsTrue};
+ghost use Rattle.std.specs.Prelude.{◌≡◌, ◌⊎◌, ◌↔◌, ◌<◌, ◌≤◌, [], Some, None, length, drop, IfOk, OnOk, OnErr, IsTrue, ⊤};
 ghost use Rattle.std.specs.List.{flat_map};
 ghost use Rattle.client_link.specs.Links.{LinkState, IsRead, IsWrite, IsFlush, IsEnd, IsTriedRead, IsTriedFlush};
 ghost use Rattle.client_link.specs.Memory.{calls_of, failing_of, IsCall, IsOver, Fails};
@@ -199,6 +199,10 @@ impl Link for MemoryLink {
 }
 
 impl NonblockingLink for MemoryLink {
+    ghost finds_nothing = { λ old new. ⊥ };
+
+    ghost takes_no_more = { λ old new. ⊥ };
+
     fn try_read(&mut self, buf: &mut [u8]) -> Result<Option<usize>, LinkFault> {
         let n = self.read(buf)?;
         Ok(Some(n))
@@ -211,6 +215,8 @@ impl NonblockingLink for MemoryLink {
 }
 
 impl ServiceLink for MemoryLink {
+    ghost leaves_nothing = { λ link. ⊤ };
+
     fn let_go(self) -> Option<Leaving> {
         None
     }

@@ -1,6 +1,6 @@
 //! A client's socket as a link that need not wait.
 
-ghost use Rattle.std.specs.Prelude.{◌≡◌, IfOk, None, []};
+ghost use Rattle.std.specs.Prelude.{◌≡◌, IfOk, None, [], ⊤};
 
 use crate::half::Half;
 use crate::leaving::Leaving;
@@ -31,6 +31,8 @@ impl NonblockingStreams<Screened<Half>, Half> {
 }
 
 impl ServiceLink for NonblockingStreams<Screened<Half>, Half> {
+    ghost leaves_nothing = { λ link. ⊤ };
+
     fn let_go(self) -> Option<Leaving> {
         let (_reader, writer) = self.into_inner();
         Leaving::new(writer)

@@ -131,6 +131,10 @@ impl<R: Read, W: Write> Link for NonblockingStreams<R, W> {
 }
 
 impl<R: Read, W: Write> NonblockingLink for NonblockingStreams<R, W> {
+    ghost finds_nothing = { λ old new. old.ended ≡ None };
+
+    ghost takes_no_more = { λ old new. old.ended ≡ None };
+
     fn try_read(&mut self, buf: &mut [u8]) -> Result<Option<usize>, LinkFault> {
         if self.ended.is_none() {
             match read_uninterrupted(&mut self.input, buf) {

@@ -22,5 +22,6 @@ pub use auditing::audit;
 pub use coordinator::{Coordinator, Ended, Gate, OpenGate, Refused, Remainder, Unclosed};
 pub use entry::Entry;
 pub use fault::{CallFault, CloseFault, PassFault};
+pub use line::threads_for;
 pub use pass::Pass;
 pub use progress::Progress;

@@ -16,12 +16,12 @@ use std::thread::Threads;
 /// How many processes a thread looks at, at the least, where there is more than one.
 const PROCESSES_A_THREAD: u32 = 128;
 
-/// How many threads make a table: as many as there may be, where there are processes enough for them.
-fn threads_for(chains: &Chains, workers: usize) -> usize
+/// How many threads make the table for a line over so many processes: as many as there may be, where there are processes enough for them.
+pub fn threads_for(processes: u32, workers: usize) -> usize
     requires { (0 < workers) × (workers ≤ 64) }
-    ensures { (0 < result) × (result ≤ 64) }
+    ensures { (0 < result) × (result ≤ workers) }
 {
-    let enough = (chains.count() / PROCESSES_A_THREAD) as usize;
+    let enough = (processes / PROCESSES_A_THREAD) as usize;
     if enough == 0 {
         1
     } else if enough < workers {
@@ -43,7 +43,7 @@ fn line_for<R: Threads + Sync, G: ChunkGate + Sync>(
     requires { (0 < workers) × (workers ≤ 64) }
     ensures { IfSome result (IsAnswer (held_of chains.now) call.now) }
 {
-    let threads = threads_for(chains, workers);
+    let threads = threads_for(chains.count(), workers);
     match needs(rt, chains, threads, gate) {
         Ok(table) => answer_for(chains, Some(&table), call),
         Err(_) => None,

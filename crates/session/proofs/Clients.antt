@@ -1,5 +1,5 @@
 -- A client is served in one session, wherever that rests, and over all its coordinators.
-use Rattle.std.proofs.Common.{◌≡◌, [], refl, List, ◌++◌, Option, Some, None}
+use Rattle.std.proofs.Common.{◌≡◌, [], refl, subst, List, ◌++◌, Option, Some, None}
 use Rattle.std.proofs.Math.Logic.{∥∥₁_map}
 use Rattle.std.specs.Prelude.{IfSome}
 use Rattle.line_disk.specs.Disk.{View}
@@ -7,11 +7,28 @@ use Rattle.coordinator.specs.Passes.{PassState, IsNewPass}
 use Rattle.client_link.specs.Links.{LinkState}
 use Rattle.session.specs.Exchanges.{Exchange}
 use Rattle.session.specs.Lasting.{LastingState, Rests, ComesTo, IsAnswered}
-use Rattle.session.specs.Guests.{IsServedBy, IsGuest, IsSeated, IsPassOfGuest, with_pass}
-use Rattle.session.specs.working.Guests.{IsOpen}
+use Rattle.session.specs.Gained.{Gains}
+use Rattle.session.specs.Guests.{IsServedBy, IsGuest, IsSeated, IsPassOfGuest, IsOpen, IsGiven, HasGained, with_pass}
 use Rattle.session.specs.declared.rest.Rest.{Rest}
 use Rattle.session.specs.declared.rest.Rest.TheVariants as rests
+use Rattle.session.proofs.Gaining.{each_gained}
 use Rattle.session.proofs.Resting.{another_pass, answered_more}
+
+-- what a client has by now is a pass with no entries added, or none
+pub no_more : {D : Type 0} (keeps : D → Type 0) (view : D → View) (pass : Option PassState) → HasGained keeps view pass pass
+no_more keeps view None = tt
+no_more keeps view (Some pass) = ∣ ([], each_gained keeps view pass pass [] refl) ∣₁
+
+pub given_none : {D : Type 0} (keeps : D → Type 0) (view : D → View) (old new : Option PassState) → IsGiven old new → new ≡ None → HasGained keeps view old new
+given_none keeps view None None given none = tt
+given_none keeps view (Some pass) None given none = absurd cc
+given_none keeps view old (Some pass) given none = absurd cc
+
+pub given_then : {D : Type 0} (keeps : D → Type 0) (view : D → View) (old between new : Option PassState) → IsGiven old between → HasGained keeps view between new → HasGained keeps view old new
+given_then keeps view None None new given gained = gained
+given_then keeps view None (Some pass) None given gained = absurd gained
+given_then keeps view None (Some pass) (Some new) given gained = ∥∥₁_map gained (λ g. (pass, (given, g)))
+given_then keeps view (Some pass) between new given gained = subst (λ (b : Option PassState). HasGained keeps view b new) given gained
 
 rests_open : {K : Type 0} (rest : Rest) (told : K → LinkState) (begun now : K) (state : LastingState) (turned : List Exchange) → IsOpen rest → ComesTo rest told begun now state turned → Rests told begun now state turned
 rests_open rests.Read told begun now state turned goes comes = comes
@@ -72,7 +89,15 @@ module _ {D K : Type 0} (keeps : D → Type 0) (view : D → View) (told : K →
         };
       })
 
-  -- at a coordinator, and behind it
+  -- the pass gained what was answered
+  pub seat_gained : (new : K) (after : LastingState) (next : Rest) (old pass : PassState) → IsOpen rest
+      → ((begun : K) (turned : List Exchange) → Rests told begun now state turned → IsAnswered keeps view told begun new after turned old pass next)
+      → ∥ IsSeated keeps view told now state rest (Some old) ∥₁ → HasGained keeps view (Some old) (Some pass)
+  seat_gained new after next old pass goes step t = ∥∥₁_map t (λ s.
+      let a = step s.begun s.served.turned (rests_open rest told s.begun now state s.served.turned goes s.served.comes) in
+      (a.more, a.gains))
+
+  -- at a coordinator, and after it
   pub guest_sits : ∥ IsGuest keeps view told now state rest ∥₁ → ∥ IsSeated keeps view told now state rest None ∥₁
   guest_sits t = ∥∥₁_map t (λ g. record { begun = g.begun; unread = g.unread; earlier = g.passes; served = g.served })
 

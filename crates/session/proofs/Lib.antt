@@ -7,6 +7,7 @@ mod ServeSteps
 mod Steps
 mod FirstLines
 mod Resting
+mod RestReasons
 mod Clients
 mod Ending
 mod OverDesk
@@ -15,7 +16,7 @@ mod Places
 mod Unfailing
 mod TurnSteps
 pub mod RightLines
-mod OverRuns
+pub mod OverRuns
 mod OverAnswers
 mod FileTurns
 mod OverFiles

@@ -713,15 +713,12 @@ line_dropped unanswered line behind n counted is =
 
 -- ---- one line after the other
 
-pub answered_none : {D K : Type 0} (keeps : D → Type 0) (view : D → View) (told : K → LinkState) (begun now : K) (state : LastingState) (turned : Exchanges) (pass : PassState) → Rests told begun now state turned → IsAnsweredOn keeps view told begun now state turned pass pass None
-answered_none keeps view told begun now state turned pass r = record { more = []; goes = subst (λ (t : Exchanges). Rests told begun now state t) (sym (append-nil turned)) r; gains = refl }
-
 goes_same : {K : Type 0} (rest : Option Rest) (told : K → LinkState) (begun now : K) (state : LastingState) (turned other : Exchanges) → turned ≡ other → GoesOn rest told begun now state turned → GoesOn rest told begun now state other
 goes_same rest told begun now state turned other same g = subst (λ (es : Exchanges). GoesOn rest told begun now state es) same g
 
-pub answered_flushed : {D K : Type 0} (keeps : D → Type 0) (view : D → View) (told : K → LinkState) (begun now new : K) (state after : LastingState) (turned : Exchanges) (old pass : PassState) (rest : Option Rest) → (a : IsAnsweredOn keeps view told begun now state turned old pass None)
-    → GoesOn rest told begun new after (turned ++ a.more) → IsAnsweredOn keeps view told begun new after turned old pass rest
-answered_flushed keeps view told begun now new state after turned old pass rest a g = record { more = a.more; goes = g; gains = a.gains }
+-- a flush ended the step, and no line was answered
+pub flushed_so : {D K : Type 0} (keeps : D → Type 0) (view : D → View) (told : K → LinkState) (begun now : K) (state : LastingState) (turned : Exchanges) (pass : PassState) (rest : Option Rest) → GoesOn rest told begun now state turned → IsAnsweredOn keeps view told begun now state turned pass pass rest
+flushed_so keeps view told begun now state turned pass rest g = record { more = []; goes = goes_same rest told begun now state turned (turned ++ []) (sym (append-nil turned)) g; gains = refl }
 
 pub answered_then : {D K : Type 0} (keeps : D → Type 0) (view : D → View) (told : K → LinkState) (begun now new : K) (state after : LastingState) (turned : Exchanges) (old mid pass : PassState) (rest : Option Rest) → (a : IsAnsweredOn keeps view told begun now state turned old mid None)
     → IsAnsweredOn keeps view told begun new after (turned ++ a.more) mid pass rest → IsAnsweredOn keeps view told begun new after turned old pass rest

@@ -1,5 +1,5 @@
 -- A session in steps, which can rest between any two lines, and goes on over the same coordinator or another one.
-use Rattle.std.specs.Prelude.{◌≡◌, ◌≢◌, ℕ, ◌+◌, List, [], ◌∷◌, ◌++◌, length, ⊤}
+use Rattle.std.specs.Prelude.{◌≡◌, ◌≢◌, ◌⊎◌, ℕ, ◌+◌, ◌<◌, List, [], ◌∷◌, ◌++◌, length, ⊤}
 use Rattle.std.specs.List.{flat_map, AllByRecursion}
 use Rattle.std.specs.Io.KnownBytes.{Appends, Consumes}
 use Rattle.report_line.specs.Cutting.{IsLine, ended, cut_of}
@@ -88,6 +88,55 @@ pub record IsOver {K : Type 0} (told : K → LinkState) (begun now : K) (turned 
 abbrev pub ComesTo : {K : Type 0} → Rest → (K → LinkState) → K → K → LastingState → List Exchange → Type 0
 ComesTo (rests.Over kind) told begun now state turned = IsOver told begun now turned kind
 ComesTo _ told begun now state turned = Rests told begun now state turned
+
+-- ---- why it rests
+
+-- a line that is not too long can be read off the front
+abbrev pub HasLine : List ℕ → Type 0
+HasLine unanswered = (line rest : List ℕ) × (IsLine line × (unanswered ≡ ended line ++ rest))
+
+-- the ending line was written and was not handed on yet
+abbrev pub IsEnding : Stage → Type 0
+IsEnding (stages.Ending kind) = ⊤
+IsEnding _ = ⊥
+
+-- a session that stands so answers lines
+abbrev pub Answers : Stage → Type 0
+Answers stages.Listening = ⊤
+Answers stages.Replying = ⊤
+Answers _ = ⊥
+
+-- After everything was handed on, a read found nothing. If nothing waited, it was a read of the link as it was. No line is there.
+pub record IsReadInVain {K : Type 0} (finds_nothing : K → K → Type 0) (old new : K) (before after : LastingState) : Type 0 where
+  pub flushed : K
+  pub found : finds_nothing flushed new
+  pub at_once : before.stage ≡ stages.Listening → flushed ≡ old
+  pub listens : after.stage ≡ stages.Listening
+  pub no_line : (cut_of after.unanswered).0 ≡ []
+
+-- Why a session rests at this after `receive`: a read found nothing; a flush could not hand on everything; or there is something to do, because
+-- everything was handed on and a line is there or bytes came, or the ending line was written. `IsOver` says how a session ended.
+abbrev pub IsReceived : {K : Type 0} → (K → K → Type 0) → (K → K → Type 0) → Rest → K → K → LastingState → LastingState → Type 0
+IsReceived finds_nothing takes_no_more rests.Read old new before after = IsReadInVain finds_nothing old new before after
+IsReceived finds_nothing takes_no_more rests.Write old new before after = takes_no_more old new
+IsReceived finds_nothing takes_no_more rests.Due old new before after =
+    ((after.stage ≡ stages.Listening) × (HasLine after.unanswered ⊎ (length before.unanswered < length after.unanswered))) ⊎ (IsEnding after.stage × ¬ IsEnding before.stage)
+IsReceived finds_nothing takes_no_more (rests.Over kind) old new before after = ⊤
+IsReceived finds_nothing takes_no_more _ old new before after = ⊥
+
+-- a line was answered, or the ending line was written
+abbrev pub HasMoved : LastingState → LastingState → Type 0
+HasMoved before after = (length after.unanswered < length before.unanswered) ⊎ (IsEnding after.stage × ¬ IsEnding before.stage)
+
+-- Why a session rests at this after `answer`: a flush could not hand on everything, at once or after a line was answered; no line is there;
+-- lines were answered; or one is there that got no turn, and the session does not end.
+abbrev pub IsAnsweredTo : {K : Type 0} → (K → K → Type 0) → Rest → K → K → LastingState → LastingState → Type 0
+IsAnsweredTo {K} takes_no_more rests.Read old new before after = ⊥
+IsAnsweredTo {K} takes_no_more rests.Write old new before after = takes_no_more old new ⊎ (HasMoved before after × ((flushed : K) × takes_no_more flushed new))
+IsAnsweredTo {K} takes_no_more rests.Receive old new before after = (after.stage ≡ stages.Listening) × ((cut_of after.unanswered).0 ≡ [])
+IsAnsweredTo {K} takes_no_more rests.Due old new before after = HasMoved before after
+IsAnsweredTo {K} takes_no_more rests.Renewal old new before after = HasLine after.unanswered × Answers after.stage
+IsAnsweredTo {K} takes_no_more (rests.Over kind) old new before after = ⊤
 
 -- ---- turns
 

@@ -1,11 +1,10 @@
 //! A client whose session goes on over one coordinator after the other.
 
 ghost use denote.Param.Send.{IsSync};
-ghost use Rattle.std.specs.Prelude.{◌≡◌, ◌++◌, [], ℕ, List, None, length, IfSome, IsSome, IsTrue, IsFalse};
-ghost use Rattle.report_line.specs.Cutting.{IsLine, ended, cut_of};
+ghost use Rattle.std.specs.Prelude.{◌≡◌, [], None, Some, length, IfSome, IfNone, IsSome, IsTrue, IsFalse};
 ghost use Rattle.client_link.specs.Departures.{read_away_of};
-ghost use Rattle.session.specs.Guests.{IsGuest, IsSeated, IsPassOfGuest};
-ghost use Rattle.session.specs.working.Guests.{IsOpen};
+ghost use Rattle.session.specs.Guests.{IsGuest, IsSeated, IsPassOfGuest, IsOpen, IsGiven, HasGained, entries_of};
+ghost use Rattle.session.specs.Lasting.{Answers, HasLine, IsReceived, IsAnsweredTo};
 
 use crate::lasting::LastingSession;
 use crate::rest::Rest;
@@ -55,7 +54,8 @@ pub struct Answered<L: Ledger, D: Disk, K: NonblockingLink + Drop> {
 
 /// Whether a session that rests at this goes on.
 fn is_open(rest: Rest) -> bool
-    ensures { IsTrue result → IsOpen rest }
+    ensures yes { IsTrue result → IsOpen rest }
+    ensures no { IsFalse result → ¬ IsOpen rest }
 {
     match rest {
         Rest::Over(_) => false,
@@ -68,7 +68,8 @@ impl<D: Disk, K: NonblockingLink + Drop> Guest<D, K> {
     pub fn new(alloc: Global, link: K) -> Guest<D, K>
         requires waiting { (K.told link).waiting ≡ [] }
         requires unread { (K.told link).reads ≡ 0 }
-        ensures { result.client.link ≡ link }
+        ensures link { result.client.link ≡ link }
+        ensures rest { result.client.rest ≡ Rest.Receive }
     {
         let session = LastingSession::new(alloc, &link);
         Guest {
@@ -83,8 +84,7 @@ impl<D: Disk, K: NonblockingLink + Drop> Guest<D, K> {
 
     /// The client at the next coordinator, of which it has no pass by now. Its session goes on.
     pub fn sit<L: Ledger>(self) -> Seat<L, D, K>
-        ensures link { result.client.link ≡ self.client.link }
-        ensures rest { result.client.rest ≡ self.client.rest }
+        ensures client { result.client ≡ self.client }
         ensures pass { result.pass ≡ None }
     {
         let Guest { client, disk } = self;
@@ -102,8 +102,11 @@ impl<D: Disk, K: NonblockingLink + Drop> Guest<D, K> {
         self.client.rest
     }
 
-    /// Hands on what waits, and reads once, unless a line is there. It makes no turn, and waits for nothing.
-    pub fn receive(&mut self, buf: &mut [u8; 8192]) {
+    /// Hands on what waits, and reads once, unless a line is there. It makes no turn and waits for nothing. If the session is over, it does nothing.
+    pub fn receive(&mut self, buf: &mut [u8; 8192])
+        ensures why { IsOpen self.old.client.rest → IsReceived K.finds_nothing K.takes_no_more self.new.client.rest self.old.client.link self.new.client.link self.old.client.session self.new.client.session }
+        ensures over { ¬ IsOpen self.old.client.rest → self.new.client ≡ self.old.client }
+    {
         if is_open(self.client.rest) {
             self.client.rest = self.client.session.receive(&mut self.client.link, buf);
         }
@@ -113,7 +116,8 @@ impl<D: Disk, K: NonblockingLink + Drop> Guest<D, K> {
 impl<D: Disk, K: ServiceLink> Guest<D, K> {
     /// Lets the client go: what waits of its last reply is not sent any more, and it sees the end. Answers what may still come of it.
     pub fn let_go(self) -> Option<Leaving>
-        ensures { IfSome result (λ leaving. read_away_of leaving ≡ 0) }
+        ensures some { IfSome result (λ leaving. read_away_of leaving ≡ 0) }
+        ensures none { IfNone result (K.leaves_nothing self.client.link) }
     {
         let Guest { client, disk: _ } = self;
         let Client {
@@ -130,6 +134,8 @@ fn answered_by<L: Ledger, D: Disk, K: NonblockingLink + Drop>(
     pass: Option<Pass<L>>,
 ) -> Option<Answered<L, D, K>>
     requires { IfSome pass (λ p. ∥ IsPassOfGuest D.keeps D.view K.told p ∥₁) }
+    ensures some { IfSome result (λ answered. pass ≡ Some answered.pass) }
+    ensures none { IfNone result (pass ≡ None) }
 {
     match pass {
         Some(pass) => Some(Answered {
@@ -149,7 +155,9 @@ impl<L: Ledger, D: Disk, K: NonblockingLink + Drop> Seat<L, D, K> {
     }
 
     /// What the client was answered by this coordinator so far, in order.
-    pub fn entries(&self) -> &[Entry] {
+    pub fn entries(&self) -> &[Entry]
+        ensures { result.now ≡ entries_of self.now.pass }
+    {
         match &self.pass {
             Some(pass) => pass.entries(),
             None => &[],
@@ -167,10 +175,10 @@ impl<L: Ledger, D: Disk, K: NonblockingLink + Drop> Seat<L, D, K> {
         }
     }
 
-    /// Whether a line is there that is not too long.
+    /// Whether a line is there that is not too long, in a session that does not end.
     pub fn has_line(&self) -> bool
-        ensures some { IsTrue result → (line rest : List ℕ) × (IsLine line × (self.now.client.session.unanswered ≡ ended line ++ rest)) }
-        ensures none { IsFalse result → (cut_of self.now.client.session.unanswered).0 ≡ [] }
+        ensures some { IsTrue result → HasLine self.now.client.session.unanswered × Answers self.now.client.session.stage }
+        ensures none { IsFalse result → HasLine self.now.client.session.unanswered → ¬ Answers self.now.client.session.stage }
     {
         self.client.session.has_line()
     }
@@ -182,36 +190,53 @@ impl<L: Ledger, D: Disk, K: NonblockingLink + Drop> Seat<L, D, K> {
         self.client.session.unanswered()
     }
 
-    /// Hands on what waits, and reads once, unless a line is there. It makes no turn, and waits for nothing.
-    pub fn receive(&mut self, buf: &mut [u8; 8192]) {
+    /// Hands on what waits, and reads once, unless a line is there. It makes no turn and waits for nothing. If the session is over, it does nothing.
+    pub fn receive(&mut self, buf: &mut [u8; 8192])
+        ensures why { IsOpen self.old.client.rest → IsReceived K.finds_nothing K.takes_no_more self.new.client.rest self.old.client.link self.new.client.link self.old.client.session self.new.client.session }
+        ensures over { ¬ IsOpen self.old.client.rest → self.new.client ≡ self.old.client }
+        ensures pass { self.new.pass ≡ self.old.pass }
+    {
         if is_open(self.client.rest) {
             self.client.rest = self.client.session.receive(&mut self.client.link, buf);
         }
     }
 
-    /// Takes a pass of the coordinator, if the client has none. Where there is none, the client waits for another coordinator.
-    fn take_pass<R: Wait>(&mut self, rt: &R, coordinator: &Coordinator<L, D>)
+    /// Takes a pass of the coordinator, if the client has none. Answers whether it has one: otherwise it waits for another coordinator.
+    fn take_pass<R: Wait>(&mut self, rt: &R, coordinator: &Coordinator<L, D>) -> bool
         requires { IsOpen self.old.client.rest }
+        ensures link { self.new.client.link ≡ self.old.client.link }
+        ensures session { self.new.client.session ≡ self.old.client.session }
+        ensures given { IsGiven self.old.pass self.new.pass }
+        ensures some { IsTrue result → IsSome self.new.pass × (self.new.client.rest ≡ self.old.client.rest) }
+        ensures none { IsFalse result → (self.new.pass ≡ None) × (self.new.client.rest ≡ Rest.Renewal) }
     {
         match &self.pass {
-            Some(_) => {}
+            Some(_) => true,
             None => match coordinator.pass(rt) {
-                Ok(pass) => self.pass = Some(pass),
-                Err(_) => self.client.rest = Rest::Renewal,
+                Ok(pass) => {
+                    self.pass = Some(pass);
+                    true
+                }
+                Err(_) => {
+                    self.client.rest = Rest::Renewal;
+                    false
+                }
             },
         }
     }
 
-    /// Answers lines by the pass, if there is one.
+    /// Answers lines by the pass.
     fn answer_by_pass<R: Threads + Wait + Sync, G: Gate>(
         &mut self,
         rt: &R,
         coordinator: &Coordinator<L, D>,
         gate: &G,
-    ) {
-        if !is_open(self.client.rest) {
-            return;
-        }
+    )
+        requires goes { IsOpen self.old.client.rest }
+        requires pass { IsSome self.old.pass }
+        ensures gains { HasGained D.keeps D.view self.old.pass self.new.pass }
+        ensures why { IsAnsweredTo K.takes_no_more self.new.client.rest self.old.client.link self.new.client.link self.old.client.session self.new.client.session }
+    {
         let Some(pass) = &mut self.pass else {
             return;
         };
@@ -221,25 +246,36 @@ impl<L: Ledger, D: Disk, K: NonblockingLink + Drop> Seat<L, D, K> {
             .answer(rt, coordinator, pass, gate, &mut self.client.link);
     }
 
-    /// Answers up to 64 lines that are there, each once the reply to the one before was handed on; none behind a question whose line was
-    /// computed. It does not wait for the client. The pass is taken with the first line: where there is none, or the coordinator makes no more
-    /// turns, the client waits for the next one.
+    /// Answers up to 64 lines that are there, each after the reply to the one before was handed on; none after a question whose line was
+    /// computed. It does not wait for the client. The pass is taken with the first line. If there is none, or the coordinator makes no more
+    /// turns, the client waits for the next coordinator. If no line is there, or the session is over, it does nothing.
     pub fn answer<R: Threads + Wait + Sync, G: Gate>(
         &mut self,
         rt: &R,
         coordinator: &Coordinator<L, D>,
         gate: &G,
-    ) {
-        if is_open(self.client.rest) && self.client.session.has_line() {
-            self.take_pass(rt, coordinator);
+    )
+        ensures gains { HasGained D.keeps D.view self.old.pass self.new.pass }
+        ensures over { ¬ IsOpen self.old.client.rest → self.new.client ≡ self.old.client }
+        ensures no_line { (HasLine self.old.client.session.unanswered → ¬ Answers self.old.client.session.stage) → self.new.client ≡ self.old.client }
+        ensures why { IsOpen self.old.client.rest → HasLine self.old.client.session.unanswered → Answers self.old.client.session.stage → IsAnsweredTo K.takes_no_more self.new.client.rest self.old.client.link self.new.client.link self.old.client.session self.new.client.session }
+    {
+        if !is_open(self.client.rest) {
+            return;
+        }
+        if !self.client.session.has_line() {
+            return;
+        }
+        if self.take_pass(rt, coordinator) {
             self.answer_by_pass(rt, coordinator, gate);
         }
     }
 
-    /// The client behind this coordinator, and what it was answered by it, if it was.
+    /// The client after this coordinator, and what it was answered by it, if it was.
     pub fn stand(self) -> (Guest<D, K>, Option<Answered<L, D, K>>)
-        ensures link { result.0.client.link ≡ self.client.link }
-        ensures rest { result.0.client.rest ≡ self.client.rest }
+        ensures client { result.0.client ≡ self.client }
+        ensures some { IfSome result.1 (λ answered. self.pass ≡ Some answered.pass) }
+        ensures none { IfNone result.1 (self.pass ≡ None) }
     {
         let Seat { client, pass, disk } = self;
         let guest = Guest { client, disk };

@@ -2,12 +2,12 @@
 
 ghost use denote.Param.Send.{IsSync};
 ghost use Rattle.std.specs.Prelude.{◌≡◌, ◌∷◌, ◌++◌, [], ℕ, List, None, length, IfSome, IsTrue, IsFalse};
-ghost use Rattle.report_line.specs.Cutting.{IsLine, ended, cut_of};
+ghost use Rattle.report_line.specs.Cutting.{cut_of};
 ghost use Rattle.session.specs.Exchanges.{Exchange};
 ghost use Rattle.coordinator.specs.Passes.{PassState, IsNewPass};
 ghost use Rattle.session.specs.Gained.{Gains};
-ghost use Rattle.session.specs.Lasting.{Rests, ComesTo, IsAnswered, AreOfPasses};
-ghost use Rattle.session.specs.working.Resting.{standing, GoesOn, BeginsEnd, StandsBehind, IsAnsweredOn};
+ghost use Rattle.session.specs.Lasting.{Rests, ComesTo, IsAnswered, AreOfPasses, Answers, HasLine, IsReceived, IsAnsweredTo};
+ghost use Rattle.session.specs.working.Resting.{standing, GoesOn, BeginsEnd, StandsBehind, IsAnsweredOn, IsFlushedSo, IsReadSo, IsWithoutLine, IsLineSo, IsStepSo};
 ghost use Rattle.session.specs.declared.stage.Stage.TheVariants as stages;
 
 use crate::kind::SessionEndKind;
@@ -52,10 +52,10 @@ impl Model for LastingSession {
     ghost view = { λ s. record { unanswered = s.unanswered; stage = s.stage } };
 }
 
-/// Hands on what waits of the last line. Answers what the session rests at, unless all was handed on and it goes on.
+/// Hands on what waits of the last line. Answers what the session rests at, unless everything was handed on and it goes on.
 fn flush_last<K: NonblockingLink>(stage: &mut Stage, link: &mut K) -> Option<Rest>
     ensures goes { (begun : K) (turned : List Exchange) (unanswered : List ℕ) → Rests K.told begun link.old (standing unanswered stage.old) turned → GoesOn result K.told begun link.new (standing unanswered stage.new) turned }
-    ensures listens { result ≡ None → stage.new ≡ stages.Listening }
+    ensures why { IsFlushedSo K.takes_no_more result link.old link.new stage.old stage.new }
 {
     match *stage {
         Stage::Listening => None,
@@ -76,7 +76,7 @@ fn flush_last<K: NonblockingLink>(stage: &mut Stage, link: &mut K) -> Option<Res
     }
 }
 
-/// Where a session stands that rests at this: one that ended stays so.
+/// The stage of a session that rests at this: one that ended stays so.
 fn stage_at(stage: Stage, rest: Rest) -> Stage
     ensures { StandsBehind stage rest result }
 {
@@ -99,7 +99,7 @@ fn begin_end<K: Link>(stage: &mut Stage, link: &mut K, kind: SessionEndKind) -> 
     }
 }
 
-/// Reads once, where all was handed on and no line is there.
+/// Reads once, when everything was handed on and no line is there.
 fn read_more<K: NonblockingLink>(
     unanswered: &mut Unanswered,
     stage: &mut Stage,
@@ -108,7 +108,8 @@ fn read_more<K: NonblockingLink>(
 ) -> Rest
     requires listening { stage.old ≡ stages.Listening }
     requires no_line { (cut_of unanswered.old).0 ≡ [] }
-    ensures { (begun : K) (turned : List Exchange) → Rests K.told begun link.old (standing unanswered.old stage.old) turned → ComesTo result K.told begun link.new (standing unanswered.new stage.new) turned }
+    ensures why { IsReadSo K.finds_nothing result link.old link.new unanswered.old (standing unanswered.new stage.new) }
+    ensures comes { (begun : K) (turned : List Exchange) → Rests K.told begun link.old (standing unanswered.old stage.old) turned → ComesTo result K.told begun link.new (standing unanswered.new stage.new) turned }
 {
     if unanswered.is_long() {
         return begin_end(stage, link, SessionEndKind::TooLong);
@@ -131,22 +132,24 @@ fn receive<K: NonblockingLink>(
     link: &mut K,
     buf: &mut [u8; 8192],
 ) -> Rest
-    ensures { (begun : K) (turned : List Exchange) → Rests K.told begun link.old (standing unanswered.old stage.old) turned → ComesTo result K.told begun link.new (standing unanswered.new stage.new) turned }
+    ensures why { IsReceived K.finds_nothing K.takes_no_more result link.old link.new (standing unanswered.old stage.old) (standing unanswered.new stage.new) }
+    ensures comes { (begun : K) (turned : List Exchange) → Rests K.told begun link.old (standing unanswered.old stage.old) turned → ComesTo result K.told begun link.new (standing unanswered.new stage.new) turned }
 {
     if let Some(rest) = flush_last(stage, link) {
         return rest;
     }
-    if unanswered.line().is_some() {
+    if let Some(_line) = unanswered.line() {
         return Rest::Due;
     }
     read_more(unanswered, stage, link, buf)
 }
 
-/// Where all was handed on and no line is there: the ending line, if there are more bytes than a line may have.
+/// When everything was handed on and no line is there: writes the ending line, if there are more bytes than a line may have.
 fn no_line<K: Link>(unanswered: &Unanswered, stage: &mut Stage, link: &mut K) -> Rest
     requires listening { stage.old ≡ stages.Listening }
     requires no_line { (cut_of unanswered.now).0 ≡ [] }
-    ensures { (begun : K) (turned : List Exchange) → Rests K.told begun link.old (standing unanswered.now stage.old) turned → ComesTo result K.told begun link.new (standing unanswered.now stage.new) turned }
+    ensures why { IsWithoutLine result stage.new }
+    ensures comes { (begun : K) (turned : List Exchange) → Rests K.told begun link.old (standing unanswered.now stage.old) turned → ComesTo result K.told begun link.new (standing unanswered.now stage.new) turned }
 {
     if unanswered.is_long() {
         return begin_end(stage, link, SessionEndKind::TooLong);
@@ -154,7 +157,7 @@ fn no_line<K: Link>(unanswered: &Unanswered, stage: &mut Stage, link: &mut K) ->
     Rest::Receive
 }
 
-/// Whether others come first: behind a line that was computed, which took a while.
+/// Whether others come first: after a line that was computed, which took a while.
 fn due_behind<L: Ledger>(pass: &Pass<L>) -> Option<Rest>
     ensures { IfSome result (λ rest. rest ≡ Rest.Due) }
 {
@@ -164,7 +167,7 @@ fn due_behind<L: Ledger>(pass: &Pass<L>) -> Option<Rest>
     }
 }
 
-/// Answers the first line, where all was handed on. Answers what the session rests at, unless it goes on.
+/// Answers the first line, when everything was handed on. Answers what the session rests at, unless it goes on.
 fn answer_line<R: Threads + Wait + Sync, L: Ledger, D: Disk, G: Gate, K: Link>(
     rt: &R,
     coordinator: &Coordinator<L, D>,
@@ -175,7 +178,8 @@ fn answer_line<R: Threads + Wait + Sync, L: Ledger, D: Disk, G: Gate, K: Link>(
     link: &mut K,
 ) -> Option<Rest>
     requires { stage.old ≡ stages.Listening }
-    ensures { (begun : K) (turned : List Exchange) → Rests K.told begun link.old (standing unanswered.old stage.old) turned → IsAnsweredOn D.keeps D.view K.told begun link.new (standing unanswered.new stage.new) turned pass.old pass.new result }
+    ensures why { IsLineSo result (standing unanswered.old stage.old) (standing unanswered.new stage.new) }
+    ensures comes { (begun : K) (turned : List Exchange) → Rests K.told begun link.old (standing unanswered.old stage.old) turned → IsAnsweredOn D.keeps D.view K.told begun link.new (standing unanswered.new stage.new) turned pass.old pass.new result }
 {
     let Some(line) = unanswered.line() else {
         return Some(no_line(unanswered, stage, link));
@@ -197,7 +201,26 @@ fn answer_line<R: Threads + Wait + Sync, L: Ledger, D: Disk, G: Gate, K: Link>(
     }
 }
 
-/// Answers some lines, one after the other, each once the reply to the one before was handed on.
+/// Hands on what waits and answers the first line. Answers what the session rests at, unless it goes on.
+fn answer_next<R: Threads + Wait + Sync, L: Ledger, D: Disk, G: Gate, K: NonblockingLink>(
+    rt: &R,
+    coordinator: &Coordinator<L, D>,
+    pass: &mut Pass<L>,
+    gate: &G,
+    unanswered: &mut Unanswered,
+    stage: &mut Stage,
+    link: &mut K,
+) -> Option<Rest>
+    ensures why { IsStepSo K.takes_no_more result link.old link.new (standing unanswered.old stage.old) (standing unanswered.new stage.new) }
+    ensures comes { (begun : K) (turned : List Exchange) → Rests K.told begun link.old (standing unanswered.old stage.old) turned → IsAnsweredOn D.keeps D.view K.told begun link.new (standing unanswered.new stage.new) turned pass.old pass.new result }
+{
+    if let Some(rest) = flush_last(stage, link) {
+        return Some(rest);
+    }
+    answer_line(rt, coordinator, pass, gate, unanswered, stage, link)
+}
+
+/// Answers some lines, one after the other, each after the reply to the one before was handed on.
 fn answer<R: Threads + Wait + Sync, L: Ledger, D: Disk, G: Gate, K: NonblockingLink>(
     rt: &R,
     coordinator: &Coordinator<L, D>,
@@ -207,17 +230,32 @@ fn answer<R: Threads + Wait + Sync, L: Ledger, D: Disk, G: Gate, K: NonblockingL
     stage: &mut Stage,
     link: &mut K,
 ) -> Rest
-    ensures { (begun : K) (turned : List Exchange) → Rests K.told begun link.old (standing unanswered.old stage.old) turned → IsAnswered D.keeps D.view K.told begun link.new (standing unanswered.new stage.new) turned pass.old pass.new result }
+    ensures why { IsAnsweredTo K.takes_no_more result link.old link.new (standing unanswered.old stage.old) (standing unanswered.new stage.new) }
+    ensures comes { (begun : K) (turned : List Exchange) → Rests K.told begun link.old (standing unanswered.old stage.old) turned → IsAnswered D.keeps D.view K.told begun link.new (standing unanswered.new stage.new) turned pass.old pass.new result }
 {
-    for _ in 0..MOST_LINES {
-        if let Some(rest) = flush_last(stage, link) {
-            return rest;
-        }
-        if let Some(rest) = answer_line(rt, coordinator, pass, gate, unanswered, stage, link) {
+    if let Some(rest) = answer_next(rt, coordinator, pass, gate, unanswered, stage, link) {
+        return rest;
+    }
+    for _ in 1..MOST_LINES {
+        if let Some(rest) = answer_next(rt, coordinator, pass, gate, unanswered, stage, link) {
             return rest;
         }
     }
     Rest::Due
+}
+
+/// Whether a line is there that is not too long, in a session that does not end.
+fn has_line(unanswered: &Unanswered, stage: Stage) -> bool
+    ensures some { IsTrue result → HasLine unanswered.now × Answers stage }
+    ensures none { IsFalse result → HasLine unanswered.now → ¬ Answers stage }
+{
+    match stage {
+        Stage::Listening | Stage::Replying => match unanswered.line() {
+            Some(_) => true,
+            None => false,
+        },
+        Stage::Ending(_) | Stage::Ended(_) => false,
+    }
 }
 
 impl LastingSession {
@@ -236,7 +274,8 @@ impl LastingSession {
     /// Hands on what waits, and reads once, unless a line is there: then the session is due. It makes no turn, and waits for nothing. Behind
     /// the session's end it does nothing, and so does `answer`; the link is not ended.
     pub fn receive<K: NonblockingLink>(&mut self, link: &mut K, buf: &mut [u8; 8192]) -> Rest
-        ensures { (begun : K) (turned : List Exchange) → Rests K.told begun link.old self.old turned → ComesTo result K.told begun link.new self.new turned }
+        ensures why { IsReceived K.finds_nothing K.takes_no_more result link.old link.new self.old self.new }
+        ensures comes { (begun : K) (turned : List Exchange) → Rests K.told begun link.old self.old turned → ComesTo result K.told begun link.new self.new turned }
     {
         let rest = receive(&mut self.unanswered, &mut self.stage, link, buf);
         self.stage = stage_at(self.stage, rest);
@@ -250,18 +289,15 @@ impl LastingSession {
         self.unanswered.len()
     }
 
-    /// Whether a line is there that is not too long.
+    /// Whether a line is there that is not too long, in a session that does not end.
     pub fn has_line(&self) -> bool
-        ensures some { IsTrue result → (line rest : List ℕ) × (IsLine line × (self.now.unanswered ≡ ended line ++ rest)) }
-        ensures none { IsFalse result → (cut_of self.now.unanswered).0 ≡ [] }
+        ensures some { IsTrue result → HasLine self.now.unanswered × Answers self.now.stage }
+        ensures none { IsFalse result → HasLine self.now.unanswered → ¬ Answers self.now.stage }
     {
-        match self.unanswered.line() {
-            Some(_) => true,
-            None => false,
-        }
+        has_line(&self.unanswered, self.stage)
     }
 
-    /// Answers up to 64 lines that are there, each once the reply to the one before was handed on; none behind a question whose line was
+    /// Answers up to 64 lines that are there, each after the reply to the one before was handed on; none after a question whose line was
     /// computed. It does not wait for the client. A line of which the coordinator makes no turn, because all were made or the pass is not of
     /// it, stays there, and another coordinator can answer it.
     pub fn answer<R: Threads + Wait + Sync, L: Ledger, D: Disk, G: Gate, K: NonblockingLink>(
@@ -272,7 +308,8 @@ impl LastingSession {
         gate: &G,
         link: &mut K,
     ) -> Rest
-        ensures { (begun : K) (turned : List Exchange) → Rests K.told begun link.old self.old turned → IsAnswered D.keeps D.view K.told begun link.new self.new turned pass.old pass.new result }
+        ensures why { IsAnsweredTo K.takes_no_more result link.old link.new self.old self.new }
+        ensures comes { (begun : K) (turned : List Exchange) → Rests K.told begun link.old self.old turned → IsAnswered D.keeps D.view K.told begun link.new self.new turned pass.old pass.new result }
     {
         let rest = answer(
             rt,

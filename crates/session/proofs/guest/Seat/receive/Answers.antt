@@ -6,5 +6,5 @@ pub invariant_of-self : goal.invariant_of-self
 invariant_of-self g c = record {
   served =
       seat_read g.D.Disk.keeps g.D.Disk.view g.K.Link.told c.args.self.now.client.link c.args.self.now.client.session c.args.self.now.client.rest
-      c.receive-self.new.link c.receive-self.new.self c.receive-self.result c.args.self.now.pass (c.if-is_open.ensures refl) c.receive-self.ensures c.args.self.now.served;
+      c.receive-self.new.link c.receive-self.new.self c.receive-self.result c.args.self.now.pass (c.if-is_open.ensures.yes refl) c.receive-self.ensures.comes c.args.self.now.served;
 }

@@ -1,5 +1,5 @@
 -- One coordinator after the other.
-use Rattle.std.proofs.Common.{◌≡◌, ◌⊎◌, ◌+◌, inl, inr, ℕ, Bool, true, false, List, [], ◌∷◌, ◌++◌, sym, subst, ◌∙◌}
+use Rattle.std.proofs.Common.{◌≡◌, ◌≢◌, ◌⊎◌, inl, inr, ℕ, Bool, true, false, List, [], ◌∷◌, ◌++◌, sym, subst, ◌∙◌}
 use Rattle.std.specs.Io.KnownBytes.{Appends}
 use Rattle.line_disk.specs.Disk.{View}
 use Rattle.chains.specs.Held.{Held}
@@ -8,28 +8,27 @@ use Rattle.desk.specs.Replays.{ReplaysFrom}
 use Rattle.desk.specs.declared.fault.DeskFault.{DeskFault}
 use Rattle.desk.specs.declared.fault.DeskFault.TheVariants as faults
 use Rattle.desk.specs.declared.turn.Turn.{Turn}
+use Rattle.law_turns.specs.Traces.{AreTurns}
 use Rattle.coordinator.specs.Passes.{PassState}
 use Rattle.coordinator.specs.Closing.{EndsWith, IsRemainder}
 use Rattle.coordinator.specs.declared.fault.CloseFault.{CloseFault}
 use Rattle.client_link.specs.Links.{LinkState}
+use Rattle.session.specs.Current.{trace_of}
 use Rattle.session.specs.Guests.{IsPassOfGuest}
+use Rattle.session.proofs.OverRuns.{replayed_turns}
 use Rattle.recline.specs.Outcome.{IsOpened}
 use Rattle.recline.specs.Driving.{WritesAll, WritesPart}
 use Rattle.recline.specs.Serving.{end_line, port_line, stopped_by}
 use Rattle.recline.specs.declared.serving.Stop.{Stop}
 use Rattle.recline.specs.declared.serving.Stop.TheVariants as stops
-use Rattle.recline.specs.Lasting.{ArePassesOfGuests, AreOneRun, ComeTo, Generation, IsEndCut, IsGeneration, IsNextDesk, IsRenewed, IsStoppedBehind, IsUnserved, IsUnsettled, LastsToEnd, MayStop, held_before, turns_of}
+use Rattle.recline.specs.Lasting.{ArePassesOfGuests, AreOneRun, Generation, IsEndCut, IsGeneration, IsLast, IsNextDesk, IsRenewed, IsStoppedService, IsUnserved, IsUnsettled, LastsToEnd, MayStop, held_before, turns_of}
 use Rattle.recline.specs.working.Lasting.{IsLastFront}
 use Rattle.recline.proofs.Passes.{appends_then}
 use Rattle.recline.proofs.Stopping.{part_then}
 
-come_from : (made : ℕ) (held : Held) (turns : List Turn) (after : Held) → ReplaysFrom made held turns after → ComeTo held turns after
-come_from made held [] after is = is
-come_from made held (turn ∷ turns) after (number, (between, step, more)) = (between, (step, come_from (made + 1) between turns after more))
-
-come_then : (held between after : Held) (turns more : List Turn) → ComeTo held turns between → ComeTo between more after → ComeTo held (turns ++ more) after
-come_then held between after [] more first then = subst (λ (h : Held). ComeTo h more after) first then
-come_then held between after (turn ∷ turns) more first then = (first.0, (first.1.0, come_then first.0 between after turns more first.1.1 then))
+turns_then : (held between after : Held) (turns more : List Turn) → AreTurns held (trace_of turns) between → AreTurns between (trace_of more) after → AreTurns held (trace_of (turns ++ more)) after
+turns_then held between after [] more is_first later = subst (λ (h : Held). AreTurns h (trace_of more) after) is_first later
+turns_then held between after (turn ∷ turns) more (middle, made, rest) later = (middle, made, turns_then middle between after turns more rest later)
 
 -- a desk that does not go on
 pub not_renewed : {T : Type 0} (has_failed : T → Type 0) (stopped : Bool) (fault : DeskFault) (stop : Stop) → ((fault ≡ faults.Device) × (stopped ≡ true)) ⊎ ((fault ≡ faults.Memory) × (stopped ≡ false))
@@ -72,13 +71,16 @@ module _ {D K : Type 0} (keeps : D → Type 0) (view : D → View) (told : K →
   abbrev generation : (desk after : DeskState D) → Generation D
   generation desk after = record { desk = desk; after = after }
 
+  is_last_of : (first : D) (desk after : DeskState D) (now : D) → IsNextDesk keeps view told first desk → IsGeneration keeps view told desk after → now ≡ after.disk → IsLast keeps view told first now (generation desk after)
+  is_last_of first desk after now next is same = record { earlier = next.generations; generations = (is, (next.begins, next.are)); disk_is = same }
+
   pub next_desk : (first : D) (desk after renewed : DeskState D) → IsNextDesk keeps view told first desk → IsGeneration keeps view told desk after → IsRenewed after renewed → IsNextDesk keeps view told first renewed
   next_desk first desk after renewed next is begins = record { generations = generation desk after ∷ next.generations; are = (is, (next.begins, next.are)); begins = begins }
 
   pub last_front : {T : Type 0} (is_over : T → Type 0) (first : D) (desk after : DeskState D) (now : D) (front : ℕ) → IsNextDesk keeps view told first desk → IsGeneration keeps view told desk after → now ≡ after.disk → front ≡ after.held.front
-      → ∥ ((door : T) × is_over door) ∥₁ → IsLastFront is_over keeps view told first now front
-  last_front is_over first desk after now front next is same front_is over =
-      record { last = generation desk after; earlier = next.generations; generations = (is, (next.begins, next.are)); disk_is = same; front_is = sym front_is; over = over }
+      → ∥ ((door : T) × is_over door) ∥₁ × (after.held.stopped ≡ false) → IsLastFront is_over keeps view told first now front
+  last_front is_over first desk after now front next is same front_is why =
+      record { last = generation desk after; is_last = is_last_of first desk after now next is same; front_is = sym front_is; over = why.0; running = why.1 }
 
   -- nothing went before
   pub first_desk : (first : D) (desk : DeskState D) → IsOpened keeps view first desk → IsNextDesk keeps view told first desk
@@ -86,27 +88,27 @@ module _ {D K : Type 0} (keeps : D → Type 0) (view : D → View) (told : K →
 
   -- it stopped
   pub stopped_after : {T : Type 0} (has_failed : T → Type 0) (first : D) (desk after : DeskState D) (now : D) (stop : Stop) → IsNextDesk keeps view told first desk → IsGeneration keeps view told desk after → now ≡ after.disk
-      → MayStop has_failed after.held.stopped stop → IsStoppedBehind has_failed keeps view told first now stop
+      → MayStop has_failed after.held.stopped stop → IsStoppedService has_failed keeps view told first now stop
   stopped_after has_failed first desk after now stop next is same why =
-      inl (record { last = generation desk after; earlier = next.generations; generations = (is, (next.begins, next.are)); disk_is = same; why = why })
+      inl (record { last = generation desk after; is_last = is_last_of first desk after now next is same; why = why })
 
   pub stopped_unsettled : {T : Type 0} (has_failed : T → Type 0) (first : D) (desk : DeskState D) (disk : D) (stop : Stop) → IsNextDesk keeps view told first desk → IsUnsettled keeps view told desk disk stop
-      → IsStoppedBehind has_failed keeps view told first disk stop
+      → IsStoppedService has_failed keeps view told first disk stop
   stopped_unsettled has_failed first desk disk stop next un = inr (desk, (next, un))
 
   -- ---- one run
 
-  of_one : (g : Generation D) → IsGeneration keeps view told g.desk g.after → ComeTo g.desk.opening g.after.turns g.after.held
+  of_one : (g : Generation D) → IsGeneration keeps view told g.desk g.after → AreTurns g.desk.opening (trace_of g.after.turns) g.after.held
   of_one g is =
       let ends = is.ends.ends in
       let turned = subst (λ (ts : List Turn). ReplaysFrom 0 g.desk.opening ts ends.held) is.ends.list_is ends.replay in
-      come_from 0 g.desk.opening g.after.turns g.after.held (subst (λ (h : Held). ReplaysFrom 0 g.desk.opening g.after.turns h) is.ends.held_is turned)
+      replayed_turns 0 g.desk.opening g.after.held g.after.turns (subst (λ (h : Held). ReplaysFrom 0 g.desk.opening g.after.turns h) is.ends.held_is turned)
 
   pub one_run : AreOneRun keeps view told
   one_run first last [] are = of_one last are.0
   one_run first last (g ∷ earlier) are =
-      come_then (held_before g earlier) g.after.held last.after.held (turns_of (g ∷ earlier)) last.after.turns (one_run first g earlier are.1.1)
-      (subst (λ (h : Held). ComeTo h last.after.turns last.after.held) are.1.0.opening (of_one last are.0))
+      turns_then (held_before g earlier) g.after.held last.after.held (turns_of (g ∷ earlier)) last.after.turns (one_run first g earlier are.1.1)
+      (subst (λ (h : Held). AreTurns h (trace_of last.after.turns) last.after.held) are.1.0.opening (of_one last are.0))
 
   -- ---- what was printed
 
@@ -114,10 +116,9 @@ module _ {D K : Type 0} (keeps : D → Type 0) (view : D → View) (told : K →
       → IsLastFront is_over keeps view told first now front → LastsToEnd is_over keeps view told port first now old new
   lasts_to_end is_over first now port front old between new all wrote last = record {
     last = last.last;
-    earlier = last.earlier;
-    generations = last.generations;
-    disk_is = last.disk_is;
+    is_last = last.is_last;
     over = last.over;
+    running = last.running;
     written = record {
       written = subst (λ (n : ℕ). Appends old.held new.held (port_line port ++ end_line n)) (sym last.front_is) (appends_then old.held between.held new.held (port_line port) (end_line front) all.written wrote.written);
       nothing_waits = wrote.nothing_waits;
@@ -132,9 +133,7 @@ module _ {D K : Type 0} (keeps : D → Type 0) (view : D → View) (told : K →
       → WritesPart between new (end_line front) → stop ≡ stops.Device → IsEndCut keeps view told port first now old new stop
   end_cut is_over first now stop port front old between new last all cut device = record {
     last = last.last;
-    earlier = last.earlier;
-    generations = last.generations;
-    disk_is = last.disk_is;
+    is_last = last.is_last;
     device = device;
     cut = subst (λ (n : ℕ). WritesPart old new (port_line port ++ end_line n)) (sym last.front_is) (part_then old between new (port_line port) (end_line front) all cut);
   }

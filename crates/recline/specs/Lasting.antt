@@ -1,14 +1,15 @@
 -- What the command `serve` answers that lasts.
-use Rattle.std.specs.Prelude.{◌≡◌, ◌⊎◌, ◌<◌, ◌≤◌, ℕ, Bool, true, false, List, [], ◌∷◌, ◌++◌, Option, IfSome, ⊤}
+use Rattle.std.specs.Prelude.{◌≡◌, ◌≢◌, ◌⊎◌, ◌<◌, ◌≤◌, ℕ, Bool, true, false, List, [], ◌∷◌, ◌++◌, Option, IfSome, ⊤}
 use Rattle.line_disk.specs.Disk.{View}
 use Rattle.chains.specs.Held.{Held}
-use Rattle.chains.specs.Turns.{IsTurn}
 use Rattle.desk.specs.Desks.{DeskState, records_of}
 use Rattle.desk.specs.declared.turn.Turn.{Turn}
+use Rattle.law_turns.specs.Traces.{AreTurns}
 use Rattle.coordinator.specs.Passes.{PassState}
 use Rattle.coordinator.specs.Closing.{EndsWith, IsRemainder}
 use Rattle.coordinator.specs.declared.fault.CloseFault.{CloseFault}
 use Rattle.client_link.specs.Links.{LinkState}
+use Rattle.session.specs.Current.{trace_of}
 use Rattle.session.specs.Guests.{IsPassOfGuest}
 use Rattle.recline.specs.Outcome.{IsOpened, IsNotOpened, Tells}
 use Rattle.recline.specs.Driving.{WritesAll, WritesPart}
@@ -31,8 +32,8 @@ abbrev pub ArePassesOfGuests : {D K : Type 0} → (D → Type 0) → (D → View
 ArePassesOfGuests keeps view client_told [] = ⊤
 ArePassesOfGuests keeps view client_told (pass ∷ passes) = ∥ IsPassOfGuest keeps view client_told pass ∥₁ × ArePassesOfGuests keeps view client_told passes
 
--- Over the desk clients were served, and the coordinator ended with just their passes: each of its turns is one entry of these, and each line
--- that a client was shown is right. At its end the desk was this one.
+-- Clients were served over the first desk, and the coordinator ended with just their passes: each of its turns is one entry of these, and each
+-- line that a client was shown is right. At its end the desk was the second one.
 pub record IsGeneration {D K : Type 0} (keeps : D → Type 0) (view : D → View) (client_told : K → LinkState) (desk after : DeskState D) : Type 0 where
   pub passes : List PassState
   pub ends : EndsWith keeps view desk.opening passes after
@@ -43,26 +44,27 @@ pub record Generation (D : Type 0) : Type 0 where
   pub desk : DeskState D
   pub after : DeskState D
 
--- The desk begins with what another one held: it found all records of that, those of its turns among them, over the same disk, and its turns
--- begin anew.
+-- The second desk begins with what the first one held: it found all records of that one, those of its turns among them, on the same disk, and has
+-- made no turn yet. The first one made a turn, so no coordinator that did nothing is followed by another.
 pub record IsRenewed {D : Type 0} (before desk : DeskState D) : Type 0 where
   pub running : before.held.stopped ≡ false
+  pub turned : before.turns ≢ []
   pub opening : desk.opening ≡ before.held
   pub held : desk.held ≡ before.held
   pub found : desk.found ≡ records_of before
   pub turns : desk.turns ≡ []
   pub disk : desk.disk ≡ before.disk
 
--- Behind these generations, the last of them first, a desk begins with what the last one held. The first of all is opened over a disk.
-abbrev pub BeginsBehind : {D : Type 0} → (D → Type 0) → (D → View) → D → List (Generation D) → DeskState D → Type 0
-BeginsBehind keeps view first [] desk = IsOpened keeps view first desk
-BeginsBehind keeps view first (last ∷ earlier) desk = IsRenewed last.after desk
+-- After these generations, the last of them first, a desk begins with what the last one held. The first of all is opened over a disk.
+abbrev pub BeginsAfter : {D : Type 0} → (D → Type 0) → (D → View) → D → List (Generation D) → DeskState D → Type 0
+BeginsAfter keeps view first [] desk = IsOpened keeps view first desk
+BeginsAfter keeps view first (last ∷ earlier) desk = IsRenewed last.after desk
 
 -- generations one after the other, the last of them first
 abbrev pub AreGenerations : {D K : Type 0} → (D → Type 0) → (D → View) → (K → LinkState) → D → List (Generation D) → Type 0
 AreGenerations keeps view client_told first [] = ⊤
 AreGenerations keeps view client_told first (g ∷ earlier) =
-    IsGeneration keeps view client_told g.desk g.after × (BeginsBehind keeps view first earlier g.desk × AreGenerations keeps view client_told first earlier)
+    IsGeneration keeps view client_told g.desk g.after × (BeginsAfter keeps view first earlier g.desk × AreGenerations keeps view client_told first earlier)
 
 -- the turns of all of them, in order
 abbrev pub turns_of : {D : Type 0} → List (Generation D) → List Turn
@@ -74,19 +76,14 @@ abbrev pub held_before : {D : Type 0} → Generation D → List (Generation D) �
 held_before last [] = last.desk.opening
 held_before last (g ∷ earlier) = held_before g earlier
 
--- Whatever their numbers, these turns, each with the reply to its call, come from what is held to what is held then.
-abbrev pub ComeTo : Held → List Turn → Held → Type 0
-ComeTo held [] after = after ≡ held
-ComeTo held (turn ∷ turns) after = (between : Held) × (IsTurn held turn.call turn.receipt.reply between × ComeTo between turns after)
-
--- However many coordinators followed one another, all their turns in order come from what was held before the first to what is held behind the
+-- However many coordinators followed one another, all their turns in order lead from what was held before the first to what is held after the
 -- last, as the turns of one would.
 abbrev pub AreOneRun : {D K : Type 0} → (D → Type 0) → (D → View) → (K → LinkState) → Type 0
 AreOneRun {D} keeps view client_told =
     (first : D) (last : Generation D) (earlier : List (Generation D)) → AreGenerations keeps view client_told first (last ∷ earlier)
-    → ComeTo (held_before last earlier) (turns_of (last ∷ earlier)) last.after.held
+    → AreTurns (held_before last earlier) (trace_of (turns_of (last ∷ earlier))) last.after.held
 
--- Over a desk clients were served, and its turns are not those of their passes, or memory was wanting to find that out. The disk is that of a desk
+-- Clients were served over a desk, and its turns are not those of their passes, or memory was missing to check that. The disk is that of a desk
 -- with all records.
 pub record IsBroken {D K : Type 0} (keeps : D → Type 0) (view : D → View) (client_told : K → LinkState) (desk : DeskState D) (disk : D) (stop : Stop) : Type 0 where
   pub passes : List PassState
@@ -97,15 +94,15 @@ pub record IsBroken {D K : Type 0} (keeps : D → Type 0) (view : D → View) (c
   pub guests : ArePassesOfGuests keeps view client_told passes
   pub remains : IsRemainder keeps view desk.opening passes fault turns front disk
 
--- Over a desk nobody was served, since memory was wanting; or clients were, and it is not told that they were served rightly.
+-- Nobody was served over a desk, because memory was missing; or clients were, and it is not said that they were served rightly.
 abbrev pub IsUnsettled : {D K : Type 0} → (D → Type 0) → (D → View) → (K → LinkState) → DeskState D → D → Stop → Type 0
 IsUnsettled keeps view client_told desk disk stop = ((disk ≡ desk.disk) × (stop ≡ stops.Memory)) ⊎ IsBroken keeps view client_told desk disk stop
 
--- the desk is the next one behind these generations
+-- the desk is the next one after some generations
 pub record IsNextDesk {D K : Type 0} (keeps : D → Type 0) (view : D → View) (client_told : K → LinkState) (first : D) (desk : DeskState D) : Type 0 where
   pub generations : List (Generation D)
   pub are : AreGenerations keeps view client_told first generations
-  pub begins : BeginsBehind keeps view first generations desk
+  pub begins : BeginsAfter keeps view first generations desk
 
 -- The service may stop for the device where its file failed, or a door did.
 abbrev pub MayStop : {T : Type 0} → (T → Type 0) → Bool → Stop → Type 0
@@ -113,55 +110,56 @@ MayStop {T} has_failed stopped stops.Device = (stopped ≡ true) ⊎ ∥ ((door 
 MayStop {T} has_failed stopped stops.Memory = ⊤
 MayStop {T} has_failed stopped stops.Foreign = ⊥
 
--- The service stopped behind these generations, the last of which came to its end.
-pub record IsStoppedAfter {T D K : Type 0} (has_failed : T → Type 0) (keeps : D → Type 0) (view : D → View) (client_told : K → LinkState) (first now : D) (stop : Stop) : Type 0 where
-  pub last : Generation D
+-- This is the last of some generations, and left this disk.
+pub record IsLast {D K : Type 0} (keeps : D → Type 0) (view : D → View) (client_told : K → LinkState) (first now : D) (last : Generation D) : Type 0 where
   pub earlier : List (Generation D)
   pub generations : AreGenerations keeps view client_told first (last ∷ earlier)
   pub disk_is : now ≡ last.after.disk
+
+-- The service stopped after its last generation, which was checked.
+pub record IsStoppedAfter {T D K : Type 0} (has_failed : T → Type 0) (keeps : D → Type 0) (view : D → View) (client_told : K → LinkState) (first now : D) (stop : Stop) : Type 0 where
+  pub last : Generation D
+  pub is_last : IsLast keeps view client_told first now last
   pub why : MayStop has_failed last.after.held.stopped stop
 
--- A service stopped behind generations; or behind them and over a desk more, which is unsettled.
-abbrev pub IsStoppedBehind : {T D K : Type 0} → (T → Type 0) → (D → Type 0) → (D → View) → (K → LinkState) → D → D → Stop → Type 0
-IsStoppedBehind {D = D} has_failed keeps view client_told first now stop =
+-- A service stopped after generations; or after them and one desk more, which is unsettled.
+abbrev pub IsStoppedService : {T D K : Type 0} → (T → Type 0) → (D → Type 0) → (D → View) → (K → LinkState) → D → D → Stop → Type 0
+IsStoppedService {D = D} has_failed keeps view client_told first now stop =
     IsStoppedAfter has_failed keeps view client_told first now stop ⊎ ((desk : DeskState D) × (IsNextDesk keeps view client_told first desk × IsUnsettled keeps view client_told desk now stop))
 
 -- ---- the command
 
--- the port and the front at the end were printed
+-- The port and the front at the end were printed, and the file had not failed.
 pub record LastsToEnd {T D K : Type 0} (is_over : T → Type 0) (keeps : D → Type 0) (view : D → View) (client_told : K → LinkState) (port : ℕ) (first now : D) (old new : LinkState) : Type 0 where
   pub last : Generation D
-  pub earlier : List (Generation D)
-  pub generations : AreGenerations keeps view client_told first (last ∷ earlier)
-  pub disk_is : now ≡ last.after.disk
+  pub is_last : IsLast keeps view client_told first now last
   pub over : ∥ ((door : T) × is_over door) ∥₁
+  pub running : last.after.held.stopped ≡ false
   pub written : WritesAll old new (port_line port ++ end_line last.after.held.front)
 
--- After generations the front at their end was not printed as a whole.
+-- After the last generation the front at its end was not printed as a whole.
 pub record IsEndCut {D K : Type 0} (keeps : D → Type 0) (view : D → View) (client_told : K → LinkState) (port : ℕ) (first now : D) (old new : LinkState) (stop : Stop) : Type 0 where
   pub last : Generation D
-  pub earlier : List (Generation D)
-  pub generations : AreGenerations keeps view client_told first (last ∷ earlier)
-  pub disk_is : now ≡ last.after.disk
+  pub is_last : IsLast keeps view client_told first now last
   pub device : stop ≡ stops.Device
   pub cut : WritesPart old new (port_line port ++ end_line last.after.held.front)
 
--- Over the first desk nobody was served.
+-- nobody was served over the first desk
 pub record IsUnserved {D : Type 0} (keeps : D → Type 0) (view : D → View) (first now : D) : Type 0 where
   pub desk : DeskState D
   pub opened : IsOpened keeps view first desk
   pub disk_is : now ≡ desk.disk
 
--- The service stopped: nobody was served, since memory was wanting, and nothing was printed; or since the device did not take the port; or the
--- port was printed, and it stopped behind generations; or it came to its end, and the device did not take the front.
+-- The service stopped: nobody was served, because memory was missing, and nothing was printed; or because the device did not take the port; or the
+-- port was printed, and it stopped after generations; or it came to its end, and the device did not take the front.
 abbrev pub LastsInPart : {T D K : Type 0} → (T → Type 0) → (D → Type 0) → (D → View) → (K → LinkState) → ℕ → D → D → LinkState → LinkState → Stop → Type 0
 LastsInPart has_failed keeps view client_told port first now old new stop =
     (IsUnserved keeps view first now × ((new ≡ old) × (stop ≡ stops.Memory)))
     ⊎ ((IsUnserved keeps view first now × (WritesPart old new (port_line port) × (stop ≡ stops.Device)))
-    ⊎ ((IsStoppedBehind has_failed keeps view client_told first now stop × WritesAll old new (port_line port))
+    ⊎ ((IsStoppedService has_failed keeps view client_told first now stop × WritesAll old new (port_line port))
     ⊎ IsEndCut keeps view client_told port first now old new stop))
 
--- A service that lasts went on to its end, which a door told; or it stopped, and why is told.
+-- A long-lived service went on to its end, which a door asked for; or it stopped, and prints why.
 pub record Lasts {T D K O F : Type 0} (is_over has_failed : T → Type 0) (keeps : D → Type 0) (view : D → View) (client_told : K → LinkState) (output_told : O → LinkState) (faults_told : F → LinkState) (port : ℕ) (disk disk_after : D) (output output_after : O) (faults faults_after : F) (status : ℕ) : Type 0 where
   pub ends : (LastsToEnd is_over keeps view client_told port disk disk_after (output_told output) (output_told output_after) × ((faults_after ≡ faults) × (status ≡ 0)))
       ⊎ ((stop : Stop) × (LastsInPart has_failed keeps view client_told port disk disk_after (output_told output) (output_told output_after) stop × (Tells (faults_told faults) (faults_told faults_after) (stop_line stop) × (status ≡ 3))))

@@ -1,4 +1,4 @@
-//! Where the clients of a service that lasts come in, and where they are waited for.
+//! Where the clients of a long-lived service come in, and where it waits for them.
 
 ghost use Rattle.std.specs.Prelude.{◌≡◌, [], IfOk, IsTrue};
 
@@ -27,7 +27,7 @@ const INPUT: Token = Token(MOST_CLIENTS + 2);
 /// How many events one look gives at most.
 const MOST_EVENTS: usize = 1_024;
 
-/// After so many milliseconds a client is asked for again, where the system had none to give.
+/// If the system had no client to give, the service asks again after so many milliseconds.
 const PAUSE: u64 = 100;
 
 /// How many bytes of the input are read at once. They are dropped.
@@ -44,7 +44,7 @@ pub struct Happened {
     pub writes: bool,
 }
 
-/// Where clients come in, and where they are waited for. A wrong word of it costs time, and never a reply.
+/// Where clients come in, and where the service waits for them. If it reports something wrong, that costs time, and never a reply.
 pub trait Door<K: ServiceLink> {
     /// Whether the service is to end.
     ghost is_over: { Self → Type 0 };
@@ -71,7 +71,7 @@ pub trait Door<K: ServiceLink> {
         ensures { IsTrue result → has_failed self.now };
 }
 
-/// Whether a client may be taken a little later, or at once, behind this error of `accept`.
+/// Whether a client may be taken a little later, or at once, after this error of `accept`.
 pub(crate) fn is_for_now(error: &io::Error) -> bool {
     is_passing(error) || is_of_one_client(error)
 }
@@ -96,7 +96,7 @@ pub struct PollerBell(Waker);
 
 impl Bell for PollerBell {
     fn ring(&self) {
-        // Where it fails, the wait ends a second later.
+        // If it fails, the wait ends a second later.
         let _woken = self.0.wake();
     }
 }
@@ -198,14 +198,14 @@ impl<L: OpenListener<Stream = TcpStream> + AsRawFd + Drop, I: Read + AsRawFd + D
         self.is_over |= !is_watched;
     }
 
-    /// Keeps a descriptor, where there is one.
+    /// Keeps a descriptor, if there is one.
     fn keep_reserve(&mut self) {
         if self.reserve.is_none() {
             self.reserve = self.poll.registry().try_clone().ok();
         }
     }
 
-    /// The link of a client, of which the poller tells from now on.
+    /// The link of a client, which the poller watches from now on.
     fn link_of(&self, stream: TcpStream, place: usize) -> io::Result<NonblockingClient>
         ensures { IfOk result (λ link. ((⟦<NonblockingClient as Link>⟧.told link).waiting ≡ []) × ((⟦<NonblockingClient as Link>⟧.told link).reads ≡ 0)) }
     {
@@ -235,8 +235,8 @@ impl<L: OpenListener<Stream = TcpStream> + AsRawFd + Drop, I: Read + AsRawFd + D
         taken
     }
 
-    /// Where this says that descriptors are used up, the client that waits is taken by the one that is kept for that, and closed at once, so
-    /// that it does not wait in vain. The system says so where none waits, too.
+    /// If this error says that descriptors are used up, the next client is taken with the one that is kept for that, and is closed at once, so
+    /// that it does not wait in vain. The system also says so when no client waits.
     fn turn_away_without_descriptors<D: Disk>(
         &mut self,
         error: io::Error,
@@ -264,7 +264,7 @@ impl<L: OpenListener<Stream = TcpStream> + AsRawFd + Drop, I: Read + AsRawFd + D
         }
     }
 
-    /// How long the next look waits: not at all where clients wait to be taken, and a little where one could not be taken.
+    /// How long the next look waits: not at all if clients wait to be taken, and a little if one could not be taken.
     fn patience(&self, most: Duration) -> Duration {
         if !self.clients {
             most

@@ -43,7 +43,7 @@ pub(crate) struct House<D: Disk, K: ServiceLink + Drop, W: Link + Drop> {
     pub(crate) seconds: u64,
     /// When that was counted last.
     pub(crate) counted: Option<Instant>,
-    /// Where its operator is told what has to be known, unless the thread for that was lost.
+    /// Where its operator gets notices, unless the thread for that was lost.
     pub(crate) watched: Option<Watched<W>>,
 }
 
@@ -82,7 +82,7 @@ pub(crate) struct Settled<D: Disk, K: ServiceLink + Drop, W: Link + Drop> {
     pub(crate) desk: Desk<D>,
 }
 
-/// What is left where they are not, or memory was wanting.
+/// What is left if they are not, or memory was missing.
 #[derive(Drop)]
 pub(crate) struct Unsettled<D: Disk> {
     pub(crate) stop: Stop,
@@ -92,7 +92,7 @@ pub(crate) struct Unsettled<D: Disk> {
 /// How many passes a coordinator hands out.
 const PASSES: usize = 8_192;
 
-/// Puts the passes to the rest. If memory is wanting, some are left out.
+/// Adds these passes to the others. If memory is missing, some are left out.
 fn add_passes<L: Ledger, D: Disk, K: ServiceLink + Drop>(
     passes: &mut Vec<Pass<L>>,
     answered: Vec<Answered<L, D, K>>,
@@ -107,7 +107,7 @@ fn add_passes<L: Ledger, D: Disk, K: ServiceLink + Drop>(
     Ok(())
 }
 
-/// What is left where no client was served over a desk.
+/// What is left if no client was served over a desk.
 pub(crate) fn unserved<D: Disk>(stop: Stop, desk: Desk<D>) -> Unsettled<D>
     ensures { (result.disk ≡ desk.disk) × (result.stop ≡ stop) }
 {
@@ -176,7 +176,7 @@ fn work_together<
     );
 }
 
-/// The same, while a thread tells what the operator has to know, from this second on.
+/// The same, while a thread prints notices for the operator, from this second on.
 fn work_watched<
     L: Ledger + Send + Sync,
     D: Disk + Send + Drop,
@@ -273,7 +273,7 @@ fn serve_in_room<
         seconds,
         counted,
     } = room.into_inner().close();
-    // Where some are left out, the coordinator says that they are missing.
+    // If some are left out, the coordinator says that they are missing.
     let _added = add_passes(&mut passes, answered);
     match coordinator.finish_with_desk(passes) {
         Ok(desk) => {

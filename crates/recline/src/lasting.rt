@@ -1,8 +1,8 @@
-//! The command `serve` that lasts.
+//! The long-lived command `serve`.
 
 ghost use Rattle.std.specs.Prelude.{◌≡◌, ◌<◌, ◌≤◌, [], IfOk, IfErr, IfSome, IfNone, IsTrue, MatchResult};
 ghost use Rattle.recline.specs.Outcome.{IsOpened};
-ghost use Rattle.recline.specs.Lasting.{AreLastingLimits, AreOneRun, IsLastingService, IsNextDesk, IsStoppedBehind, LastsInPart, LastsOn, LastsToEnd};
+ghost use Rattle.recline.specs.Lasting.{AreLastingLimits, AreOneRun, IsLastingService, IsNextDesk, IsStoppedService, LastsInPart, LastsOn, LastsToEnd};
 ghost use Rattle.recline.specs.working.Lasting.{IsLastFront, MayCome};
 
 use crate::door::{Bell, Door};
@@ -20,7 +20,7 @@ use std::sync::atomic::AtomicU64;
 use std::sync::{Mutex, Wait};
 use std::time::Clock;
 
-/// How many workers a service has that lasts, and how long a client may rest.
+/// How many workers a long-lived service has, and how long a client may rest.
 #[derive(Clone, Copy)]
 pub struct LastingService {
     /// The number of workers, 1 to 64.
@@ -61,7 +61,7 @@ fn has_failed<K: ServiceLink, T: Door<K>, R: Wait>(rt: &R, door: &Mutex<T>) -> b
     door.lock(rt).has_failed()
 }
 
-/// What comes behind a coordinator.
+/// What comes after a coordinator.
 #[derive(Clone, Copy)]
 pub(crate) enum Next {
     /// Another one.
@@ -72,29 +72,43 @@ pub(crate) enum Next {
     Stop(Stop),
 }
 
-/// What comes behind a coordinator whose workers ended for this, with this desk. What the workers say of the file and of the door is not relied on.
-fn next_behind<D: Disk, K: ServiceLink, T: Door<K>, R: Wait>(
+/// What comes after a coordinator that does not end the service: another one, if it made a turn. After one that made none, which happens only if
+/// memory is missing, the next one would make none either.
+fn another<D: Disk, K: ServiceLink, T: Door<K>>(desk: &Desk<D>) -> Next
+    ensures { MayCome T.is_over T.has_failed desk.now.held.stopped desk.now.turns result }
+{
+    if desk.turns().len() > 0 {
+        Next::Coordinator
+    } else {
+        Next::Stop(Stop::Memory)
+    }
+}
+
+/// What comes after a coordinator whose workers ended for this, with this desk. What the workers say of the file and of the door is not relied on.
+fn next_after<D: Disk, K: ServiceLink, T: Door<K>, R: Wait>(
     rt: &R,
     door: &Mutex<T>,
     halt: Halt,
     desk: &Desk<D>,
 ) -> Next
-    ensures { MayCome T.is_over T.has_failed desk.now.held.stopped result }
+    ensures { MayCome T.is_over T.has_failed desk.now.held.stopped desk.now.turns result }
 {
     match halt {
-        Halt::Renewal => Next::Coordinator,
+        Halt::Renewal => another::<D, K, T>(desk),
         Halt::Memory => Next::Stop(Stop::Memory),
-        Halt::Over => if is_over(rt, door) {
+        Halt::Over => if desk.stopped() {
+            Next::Stop(Stop::Device)
+        } else if is_over(rt, door) {
             Next::End
         } else {
-            Next::Coordinator
+            another::<D, K, T>(desk)
         },
         Halt::Device => if desk.stopped() {
             Next::Stop(Stop::Device)
         } else if has_failed(rt, door) {
             Next::Stop(Stop::Device)
         } else {
-            Next::Coordinator
+            another::<D, K, T>(desk)
         },
     }
 }
@@ -110,7 +124,7 @@ fn stop_for(fault: DeskFault) -> Stop
     }
 }
 
-/// Where a service goes on, by the next coordinator over this desk; or the front and the disk with which it ended.
+/// How a service goes on: by the next coordinator over this desk; or how it ended, with this front and disk.
 type Onward<D, K, W> = Result<(Desk<D>, House<D, K, W>), (u32, D)>;
 
 /// Takes leave of the clients of a house.
@@ -151,7 +165,7 @@ fn go_on<
     ensures fresh { IfOk result (λ onward. IfOk onward (λ next. next.0.turns ≡ [])) }
     ensures next { IfOk result (λ onward. IfOk onward (λ next. (first : D) → IsNextDesk D.keeps D.view K.told first desk → IsNextDesk D.keeps D.view K.told first next.0)) }
     ensures ended { IfOk result (λ onward. IfErr onward (λ end. (first : D) → IsNextDesk D.keeps D.view K.told first desk → IsLastFront T.is_over D.keeps D.view K.told first end.1 end.0)) }
-    ensures stopped { IfErr result (λ u. (first : D) → IsNextDesk D.keeps D.view K.told first desk → IsStoppedBehind T.has_failed D.keeps D.view K.told first u.disk u.stop) }
+    ensures stopped { IfErr result (λ u. (first : D) → IsNextDesk D.keeps D.view K.told first desk → IsStoppedService T.has_failed D.keeps D.view K.told first u.disk u.stop) }
 {
     let Settled {
         house,
@@ -161,7 +175,7 @@ fn go_on<
         Ok(settled) => settled,
         Err(unsettled) => return Err(unsettled),
     };
-    match next_behind(rt, door, halt, &ended) {
+    match next_after(rt, door, halt, &ended) {
         Next::Coordinator => match ended.renewed() {
             Ok(renewed) => Ok(Ok((renewed, house))),
             Err((fault, disk)) => {
@@ -206,7 +220,7 @@ fn go_on_to_end<
 ) -> Result<(u32, D), Unsettled<D>>
     requires fresh { desk.turns ≡ [] }
     requires workers { (0 < rules.workers) × (rules.workers ≤ 64) }
-    ensures { (first : D) → IsNextDesk D.keeps D.view K.told first desk → MatchResult result (λ end. IsLastFront T.is_over D.keeps D.view K.told first end.1 end.0) (λ u. IsStoppedBehind T.has_failed D.keeps D.view K.told first u.disk u.stop) }
+    ensures { (first : D) → IsNextDesk D.keeps D.view K.told first desk → MatchResult result (λ end. IsLastFront T.is_over D.keeps D.view K.told first end.1 end.0) (λ u. IsStoppedService T.has_failed D.keeps D.view K.told first u.disk u.stop) }
 {
     let mut desk = desk;
     let mut house = house;
@@ -223,7 +237,7 @@ fn go_on_to_end<
     Err(unserved(Stop::Memory, desk))
 }
 
-/// Tells the port, serves clients over a desk until the service is to end, and tells the front. Answers the disk.
+/// Prints the port, serves clients over a desk until the service is to end, and prints the front. Answers the disk.
 fn serve_from<
     D: Disk + Send + Drop,
     K: ServiceLink + Send + Drop,
@@ -267,10 +281,10 @@ fn serve_from<
     }
 }
 
-/// The command `serve` that lasts: opens the record file on a disk, tells the port, and serves the clients that come in at a door until that
-/// tells that the service is to end. Each client rests at the door while it has nothing to say. One coordinator follows the other, each of which
-/// holds what its clients were shown against its turns at its end. At last it tells how many reports were accepted. What has come while
-/// it goes on lines on a link of their own tell. Answers the status of the process, and the disk.
+/// The long-lived command `serve`: opens the record file on a disk, prints the port, and serves the clients that come in at a door until that
+/// says that the service is to end. Each client rests at the door while it has nothing to say. One coordinator follows the other. At its end each
+/// one compares what its clients were shown with its turns. At last the number of accepted reports is printed. Notices for the operator are
+/// printed on a link of their own while the service runs. Answers the status of the process, and the disk.
 pub fn serve_lasting<
     D: Disk + Send + Drop,
     K: ServiceLink + Send + Drop,

@@ -42,7 +42,7 @@ pub(crate) enum Halt {
     Over,
     /// The file failed, so that no later report is recorded, or the door did.
     Device,
-    /// Memory was wanting.
+    /// Memory was missing.
     Memory,
 }
 
@@ -100,7 +100,7 @@ impl Tally {
         }
     }
 
-    /// The turns of these entries of a pass, behind the first so many of them. The lines that were asked have so many bytes: what is kept of a
+    /// The turns of these entries of a pass, without the first so many of them. The lines that were asked have so many bytes: what is kept of a
     /// call stands in the list of turns and in the pass.
     pub(crate) fn of(earlier: usize, entries: &[Entry], asked: usize) -> Tally {
         let mut tally = Tally::new();
@@ -110,6 +110,11 @@ impl Tally {
             tally.count(entry.shown());
         }
         tally
+    }
+
+    /// Whether a turn was made.
+    pub(crate) fn has_turn(&self) -> bool {
+        self.turns > 0
     }
 
     /// Whether a line was shown.
@@ -127,7 +132,7 @@ impl Tally {
         Tally { computing, ..self }
     }
 
-    /// Another one behind it.
+    /// Adds another one.
     fn add(&mut self, more: Tally) {
         self.turns = self.turns.saturating_add(more.turns);
         self.passes = self.passes.saturating_add(more.passes);
@@ -198,6 +203,8 @@ struct Spot<L: Ledger, D: Disk, K: ServiceLink + Drop> {
 pub(crate) struct Visit<L: Ledger, D: Disk, K: ServiceLink + Drop> {
     pub(crate) place: usize,
     pub(crate) seat: Seat<L, D, K>,
+    /// How many others have to be served.
+    pub(crate) due: usize,
 }
 
 /// Lets a client go: nothing more is sent to it. What was sent before that is read away, since a poller need not tell of it again. Answers what is
@@ -214,7 +221,7 @@ pub(crate) fn let_go<D: Disk, K: ServiceLink + Drop>(
     }
 }
 
-/// Whether a session that rests at this can go on behind what happened.
+/// Whether a session that rests at this can go on after what happened.
 fn is_awaited(rest: Rest, happened: Happened) -> bool {
     match rest {
         Rest::Read | Rest::Receive => happened.reads,
@@ -252,7 +259,7 @@ pub(crate) struct Room<L: Ledger, D: Disk, K: ServiceLink + Drop> {
     lodgings: Vec<Lodging<D, K>>,
 }
 
-/// What is left of a room behind its last worker.
+/// What is left of a room after its last worker.
 #[derive(Drop)]
 pub(crate) struct Closed<L: Ledger, D: Disk, K: ServiceLink + Drop> {
     /// The clients, in the order of their places.
@@ -332,15 +339,22 @@ impl<L: Ledger, D: Disk, K: ServiceLink + Drop> Room<L, D, K> {
         Ok(())
     }
 
-    /// The client that has to be served next, if there is one. It is away from then on.
+    /// The client that has to be served next, if there is one and the workers do not end. It is away from then on.
     pub(crate) fn next_visit(&mut self) -> Option<Visit<L, D, K>> {
+        if self.halts() {
+            return None;
+        }
         for _ in 0..MOST_CLIENTS {
             let place = self.due.pop_front()?;
             if let Some(spot) = self.spots.get_mut(place) {
                 spot.is_due = false;
             }
             if let Some(seat) = self.take_seat(place) {
-                return Some(Visit { place, seat });
+                return Some(Visit {
+                    place,
+                    seat,
+                    due: self.due.len(),
+                });
             }
         }
         None
@@ -458,12 +472,12 @@ impl<L: Ledger, D: Disk, K: ServiceLink + Drop> Room<L, D, K> {
     /// The worker gives the client back, which goes on, unless it has rested for too long, or too much waits for it.
     pub(crate) fn put_back(
         &mut self,
-        visit: Visit<L, D, K>,
+        place: usize,
+        seat: Seat<L, D, K>,
         tally: Tally,
         idle: Option<u64>,
         buf: &mut [u8; 8192],
     ) {
-        let Visit { place, seat } = visit;
         let rest = seat.rest();
         let is_late = tally.turns == 0 && self.has_rested(place, idle);
         let must_go = match rest {
@@ -600,7 +614,7 @@ impl<L: Ledger, D: Disk, K: ServiceLink + Drop> Room<L, D, K> {
         }
     }
 
-    /// Behind the last worker: the clients, in the order of their places, what was answered by this coordinator, why the workers ended, and how
+    /// After the last worker: the clients, in the order of their places, what was answered by this coordinator, why the workers ended, and how
     /// many seconds have passed by now.
     pub(crate) fn close(self) -> Closed<L, D, K> {
         let Room {

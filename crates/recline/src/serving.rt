@@ -10,6 +10,7 @@ ghost use Rattle.coordinator.specs.Closing.{IsEnded, IsRemainder};
 ghost use Rattle.coordinator.specs.Passes.{ledger_parts};
 
 use crate::clients::{ClientSource, Listened};
+use crate::door::is_of_one_client;
 use crate::host::ServiceRuntime;
 use crate::telling::{tell, tell_all, tell_unopened, write_pieces};
 use crate::watching::{Door, watch, watch_end};
@@ -166,18 +167,15 @@ fn next_client<T: ClientSource, R: Wait + Clock>(
     for _ in rt.forever() {
         match source.next_client() {
             Ok(client) => return Ok(client),
-            Err(error) => match error.kind() {
-                ErrorKind::ConnectionAborted | ErrorKind::Interrupted => {}
-                _ => {
-                    if !is_passing(&error) {
-                        return Err(Stop::Device);
-                    }
-                    if !is_closed {
-                        door.closed.fetch_add(1, Ordering::SeqCst);
-                    }
-                    is_closed = true;
-                    sleep(rt, Duration::from_millis(PAUSE));
+            Err(error) => if !is_of_one_client(&error) {
+                if !is_passing(&error) {
+                    return Err(Stop::Device);
                 }
+                if !is_closed {
+                    door.closed.fetch_add(1, Ordering::SeqCst);
+                }
+                is_closed = true;
+                sleep(rt, Duration::from_millis(PAUSE));
             },
         }
     }

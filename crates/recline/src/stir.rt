@@ -2,7 +2,7 @@
 
 use coordinator::Gate;
 use knows_row::ChunkGate;
-use std::sync::atomic::{AtomicBool, AtomicU64, Ordering};
+use std::sync::atomic::{AtomicBool, AtomicU64, AtomicUsize, Ordering};
 use std::sync::{Condvar, Mutex, Wait};
 use std::time::{Clock, Instant};
 
@@ -34,6 +34,10 @@ pub(crate) enum Task {
 pub(crate) struct Stir {
     signals: Mutex<Signals>,
     stirred: Condvar,
+    /// How many workers serve a client.
+    serving: AtomicUsize,
+    /// Whether the last visit in which a turn was made took long, as one does that waits for a disk.
+    is_slow: AtomicBool,
 }
 
 impl Drop for Stir {
@@ -41,6 +45,8 @@ impl Drop for Stir {
         let Stir {
             signals: _,
             stirred: _,
+            serving: _,
+            is_slow: _,
         } = self;
     }
 }
@@ -51,7 +57,7 @@ impl Signals {
         self.is_led && self.due == 0 && !self.halts
     }
 
-    /// What a worker does next, where there is something to do. Who waits at the door comes first, since nobody is heard of without.
+    /// What a worker does next, if there is something to do. To wait at the door comes first, since nobody is heard otherwise.
     fn next_task(&mut self) -> Task {
         if self.halts {
             return Task::Done;
@@ -76,6 +82,8 @@ impl Stir {
                 waiting: 0,
             }),
             stirred: Condvar::new(),
+            serving: AtomicUsize::new(0),
+            is_slow: AtomicBool::new(false),
         }
     }
 
@@ -92,18 +100,47 @@ impl Stir {
         signals.next_task()
     }
 
-    /// Nobody waits at the door any more.
-    pub(crate) fn give_up_lead<R: Wait>(&self, rt: &R) {
+    /// The worker that waited at the door does so no more. The next one that is free takes its place; none is woken for that.
+    fn leave_door<R: Wait>(&self, rt: &R) {
         self.signals.lock(rt).is_led = false;
-        self.stirred.notify_one();
     }
 
-    /// So many clients have to be served now, and whether the workers end.
-    pub(crate) fn tell<R: Wait>(&self, rt: &R, due: usize, halts: bool) {
+    /// If no worker waits at the door, one that has nothing to do is woken for that.
+    fn wake_leader<R: Wait>(&self, rt: &R) {
+        let signals = self.signals.lock(rt);
+        let wakes = !signals.is_led && signals.waiting > 0;
+        drop(signals);
+        if wakes {
+            self.stirred.notify_one();
+        }
+    }
+
+    /// Whether no worker serves a client.
+    pub(crate) fn is_idle(&self) -> bool {
+        self.serving.load(Ordering::SeqCst) == 0
+    }
+
+    /// Whether the workers end.
+    pub(crate) fn halts<R: Wait>(&self, rt: &R) -> bool {
+        self.signals.lock(rt).halts
+    }
+
+    /// One more worker serves a client. Answers whether others do.
+    fn begin_visit(&self) -> bool {
+        self.serving.fetch_add(1, Ordering::SeqCst) > 0
+    }
+
+    /// One worker less serves a client.
+    pub(crate) fn end_visit(&self) {
+        self.serving.fetch_sub(1, Ordering::SeqCst);
+    }
+
+    /// So many clients have to be served now, of whom this worker will serve so many itself, and whether the workers end.
+    pub(crate) fn tell<R: Wait>(&self, rt: &R, due: usize, itself: usize, halts: bool) {
         let mut signals = self.signals.lock(rt);
         signals.due = due;
         signals.halts |= halts;
-        let wanted = due.min(signals.waiting);
+        let wanted = due.saturating_sub(itself).min(signals.waiting);
         drop(signals);
         if halts {
             self.stirred.notify_all();
@@ -116,7 +153,7 @@ impl Stir {
 }
 
 /// How many microseconds have passed since then.
-fn micros_since<R: Clock>(rt: &R, start: &Option<Instant>) -> u64 {
+pub(crate) fn micros_since<R: Clock>(rt: &R, start: &Option<Instant>) -> u64 {
     let Some(start) = start else {
         return 0;
     };
@@ -129,10 +166,14 @@ fn micros_since<R: Clock>(rt: &R, start: &Option<Instant>) -> u64 {
     }
 }
 
-/// A visit that answers more bytes than these leaves the place at the door to another worker.
+/// If a visit answers more bytes than these, another worker watches the door meanwhile.
 const FEW_BYTES: usize = 512;
 
-/// What a worker has on a visit: perhaps the place at the door, which it gives up before a line is computed, or many lines are answered, since
+/// A visit that takes more microseconds than these is slow.
+const SLOW: u64 = 100;
+
+/// What a worker has during a visit: perhaps the place at the door. If visits are slow and others are busy too, it leaves that place at once, so that
+/// the first one that is free looks who has come. Otherwise it keeps the place, but not while a line is computed or many lines are answered, since
 /// both take a while. It is the gate of the visit.
 #[derive(Drop)]
 pub(crate) struct Lead<'a, R> {
@@ -147,15 +188,20 @@ pub(crate) struct Lead<'a, R> {
 }
 
 impl<'a, R: Wait + Clock> Lead<'a, R> {
-    /// At the beginning of a visit.
-    pub(crate) fn new(rt: &'a R, stir: &'a Stir, leads: bool) -> Lead<'a, R> {
-        Lead {
+    /// At the beginning of a visit, while so many other clients have to be served.
+    pub(crate) fn new(rt: &'a R, stir: &'a Stir, leads: bool, due: usize) -> Lead<'a, R> {
+        let others = stir.begin_visit() || due > 0;
+        let lead = Lead {
             rt,
             stir,
             leads: AtomicBool::new(leads),
             start: Instant::now(rt).ok(),
             line_at: AtomicU64::new(0),
+        };
+        if others && stir.is_slow.load(Ordering::SeqCst) {
+            lead.leave_door();
         }
+        lead
     }
 
     /// Whether the worker has the place at the door.
@@ -175,11 +221,23 @@ impl<'a, R: Wait + Clock> Lead<'a, R> {
         micros_since(self.rt, &self.start).saturating_sub(self.line_at.load(Ordering::SeqCst))
     }
 
-    /// Gives the place at the door up, if the worker has it.
-    fn give_up(&self) {
+    /// A turn was made in the visit, which ends.
+    pub(crate) fn note_turn(&self) {
+        let took = micros_since(self.rt, &self.start);
+        self.stir.is_slow.store(took > SLOW, Ordering::SeqCst);
+    }
+
+    /// Leaves the place at the door, if the worker has it.
+    fn leave_door(&self) {
         if self.leads.swap(false, Ordering::SeqCst) {
-            self.stir.give_up_lead(self.rt);
+            self.stir.leave_door(self.rt);
         }
+    }
+
+    /// Before what takes a while: another worker has the place at the door from then on, if one is free.
+    fn give_up(&self) {
+        self.leave_door();
+        self.stir.wake_leader(self.rt);
     }
 }
 

@@ -10,7 +10,7 @@ pub returns-in-Ok-renewed-clause-next : goal.returns-in-Ok-renewed-clause-next
 returns-in-Ok-renewed-clause-next g c = λ first next.
     let is = c.in-Ok-renewed.ensures.renewed in
     next_desk g.D.Disk.keeps g.D.Disk.view g.K.Link.told first c.args.desk c.in-Ok.settled.desk c.in-Ok-renewed.renewed next c.in-Ok.ensures.ok
-    (record { running = c.in-Ok-renewed.ensures.running; held = is.0; opening = is.1; found = is.2; turns = is.3; disk = is.4 })
+    (record { running = c.in-Ok-renewed.ensures.running; turned = c.in-Coordinator.ensures; held = is.0; opening = is.1; found = is.2; turns = is.3; disk = is.4 })
 
 pub returns-in-Err-renewed-clause-stopped : goal.returns-in-Err-renewed-clause-stopped
 returns-in-Err-renewed-clause-stopped g c = λ first next.

@@ -162,8 +162,8 @@ impl<
         let lead = Lead::new(self.rt, self.stir, leads, due);
         let asked = serve_seat(self.rt, self.coordinator, &mut seat, buf, &lead);
         let mut tally = Tally::of(earlier, seat.entries(), asked);
-        if tally.has_turn() {
-            lead.note_turn();
+        if tally.turns() > 0 {
+            lead.note_turns(tally.turns());
         }
         if tally.has_line() {
             let computing = lead.computing().saturating_mul(self.threads_of_a_line());

@@ -112,9 +112,9 @@ impl Tally {
         tally
     }
 
-    /// Whether a turn was made.
-    pub(crate) fn has_turn(&self) -> bool {
-        self.turns > 0
+    /// How many turns were made.
+    pub(crate) fn turns(&self) -> u64 {
+        self.turns
     }
 
     /// Whether a line was shown.

@@ -36,7 +36,7 @@ pub(crate) struct Stir {
     stirred: Condvar,
     /// How many workers serve a client.
     serving: AtomicUsize,
-    /// Whether the last visit in which a turn was made took long, as one does that waits for a disk.
+    /// Whether the turns of the last visit took long, as they do that wait for a disk.
     is_slow: AtomicBool,
 }
 
@@ -169,10 +169,10 @@ pub(crate) fn micros_since<R: Clock>(rt: &R, start: &Option<Instant>) -> u64 {
 /// If a visit answers more bytes than these, another worker watches the door meanwhile.
 const FEW_BYTES: usize = 512;
 
-/// A visit that takes more microseconds than these is slow.
+/// A turn that takes more microseconds than these is slow.
 const SLOW: u64 = 100;
 
-/// What a worker has during a visit: perhaps the place at the door. If visits are slow and others are busy too, it leaves that place at once, so that
+/// What a worker has during a visit: perhaps the place at the door. If turns are slow and others are busy too, it leaves that place at once, so that
 /// the first one that is free looks who has come. Otherwise it keeps the place, but not while a line is computed or many lines are answered, since
 /// both take a while. It is the gate of the visit.
 #[derive(Drop)]
@@ -221,10 +221,12 @@ impl<'a, R: Wait + Clock> Lead<'a, R> {
         micros_since(self.rt, &self.start).saturating_sub(self.line_at.load(Ordering::SeqCst))
     }
 
-    /// A turn was made in the visit, which ends.
-    pub(crate) fn note_turn(&self) {
+    /// So many turns were made in the visit, which ends.
+    pub(crate) fn note_turns(&self, turns: u64) {
         let took = micros_since(self.rt, &self.start);
-        self.stir.is_slow.store(took > SLOW, Ordering::SeqCst);
+        self.stir
+            .is_slow
+            .store(took > SLOW.saturating_mul(turns), Ordering::SeqCst);
     }
 
     /// Leaves the place at the door, if the worker has it.

@@ -7,7 +7,6 @@ use Rattle.coordinator.specs.Passes.{PassState, IsNewPass}
 use Rattle.client_link.specs.Links.{LinkState}
 use Rattle.session.specs.Exchanges.{Exchange}
 use Rattle.session.specs.Lasting.{LastingState, Rests, ComesTo, IsAnswered}
-use Rattle.session.specs.Gained.{Gains}
 use Rattle.session.specs.Guests.{IsServedBy, IsGuest, IsSeated, IsPassOfGuest, IsOpen, IsGiven, HasGained, with_pass}
 use Rattle.session.specs.declared.rest.Rest.{Rest}
 use Rattle.session.specs.declared.rest.Rest.TheVariants as rests

@@ -1,9 +1,9 @@
 -- Why a session rests.
-use Rattle.std.proofs.Common.{◌≡◌, ◌⊎◌, ℕ, ◌+◌, ◌<◌, List, [], ◌∷◌, ◌++◌, length, drop, Option, Some, None, refl, sym, subst, ◌∙◌, ap, arith, inl, inr}
+use Rattle.std.proofs.Common.{◌≡◌, ℕ, List, [], ◌∷◌, ◌++◌, length, Option, Some, None, sym, subst, ◌∙◌, ap, arith, inl, inr}
 use Rattle.std.specs.Prelude.{IfSome}
 use Rattle.std.specs.List.{flat_map}
 use Rattle.std.proofs.lemmas.List.{append-nil, length-append}
-use Rattle.report_line.specs.Cutting.{Stand, IsLine, ended, cut_of}
+use Rattle.report_line.specs.Cutting.{Stand, ended, cut_of}
 use Rattle.client_link.specs.Links.{LinkState}
 use Rattle.session.specs.declared.kind.SessionEndKind.{SessionEndKind}
 use Rattle.session.specs.declared.rest.Rest.{Rest}

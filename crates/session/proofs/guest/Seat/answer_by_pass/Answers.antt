@@ -1,4 +1,3 @@
-use Rattle.std.proofs.Common.{refl}
 use Rattle.session.proofs.Clients.{seat_answered, seat_gained}
 use Rattle.session.proofs.guest.Seat.answer_by_pass.Goals as goal
 

@@ -20,7 +20,7 @@
 //   POLL_NONE                each wait whose number this divides answers at once, with nothing of what happened
 //   POLL_SIGNAL              each wait whose number this divides fails at once, as if a signal came
 //   POLL_ENDLESS             no wait is limited in time
-//   POLL_END                 from the wait of this number on, from 1, each one fails
+//   POLL_END                 from the wait of this number on, from 1, each one fails; looks without waiting that find nothing do not count
 //   WATCH                    the call of this number, from 1, that has a poller tell of something fails, as if the system took no more
 //   NO_BELL                  no thread ends the wait of another one
 //   FOLDERS                  the file to which the path of each folder that is synced is written, a line each
@@ -79,7 +79,7 @@ static int (*given_accept)(int, void *, void *), (*given_accept4)(int, void *, v
 static int (*given_epoll_wait)(int, struct event *, int, int), (*given_epoll_ctl)(int, int, int, struct event *);
 static long read_most, write_most, read_end, write_end, send_end, read_lines, call, was_read, was_written, was_sent, calls;
 static long other, gone, sync_number, page, syncs, accept_error, accept_waits, accept_call, accepts;
-static long poll_most, strange, none, signal, poll_end, watch, waits, watches, next_strange;
+static long poll_most, strange, none, signal, poll_end, watch, waits, vain, watches, next_strange;
 static int is_all, is_twice, is_endless, is_bell_silent;
 // The events of the last answer.
 static struct event last[EVENTS];
@@ -439,7 +439,7 @@ static int tell_more(struct event *events, int count)
 int epoll_wait(int poller, struct event *events, int most, int milliseconds)
 {
     waits++;
-    if (poll_end != NO_LIMIT && waits >= poll_end)
+    if (poll_end != NO_LIMIT && waits - vain >= poll_end)
         return fail_with(NO_FILE);
     if (divides(signal, waits))
         return fail_with(SIGNALLED);
@@ -449,6 +449,8 @@ int epoll_wait(int poller, struct event *events, int most, int milliseconds)
         return given_epoll_wait(poller, events, most, milliseconds);
     int asked = within(EVENTS, poll_most, NO_LIMIT, 0);
     int count = divides(none, waits) ? 0 : given_epoll_wait(poller, events, asked, milliseconds);
+    if (count == 0 && milliseconds == 0)
+        vain++;
     return count < 0 ? count : tell_more(events, count);
 }
 
